@@ -1,0 +1,5 @@
+pub mod Numerals
+pub mod Loops
+pub mod Stops
+pub mod Values
+pub mod LineLoop

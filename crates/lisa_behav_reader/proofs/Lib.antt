@@ -1,0 +1,11 @@
+pub mod PastLaws
+pub mod ExprSound
+pub mod ExprEquation
+pub mod ExprComplete
+pub mod ExprLoop
+pub mod BinaryLaws
+pub mod StmtSound
+pub mod StmtEquation
+pub mod StmtComplete
+pub mod StmtLoop
+pub mod PlaceLaws

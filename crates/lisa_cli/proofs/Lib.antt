@@ -1,0 +1,9 @@
+mod OtherWords
+mod FieldTexts
+mod Told
+mod Fitting
+mod Endings
+mod PinCounts
+mod ThinTokens
+mod ThinReplies
+mod Ran

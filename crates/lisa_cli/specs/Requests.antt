@@ -1,0 +1,24 @@
+-- What the words of a command line ask for.
+use Rattle.std.specs.Prelude.{ℕ, ◌≡◌, ◌≢◌, ◌≤◌, List, [], ◌∷◌, codes, decimal}
+
+-- a command with its files and numbers
+pub data Request : Type 0 where
+  -- description, edges
+  Run : List ℕ → ℕ → Request
+
+abbrev pub request_words : Request → List (List ℕ)
+request_words (Run description edges) = codes "run" ∷ description ∷ codes "-" ∷ codes "-" ∷ decimal edges ∷ []
+
+-- a word that names a file
+pub record IsFileName (name : List ℕ) : Type 0 where
+  pub some : name ≢ []
+  pub no_dash : name ≢ codes "-"
+
+-- the files have names, and the number of edges is within its limit
+abbrev pub IsAllowed : Request → Type 0
+IsAllowed (Run description edges) = IsFileName description × (edges ≤ 1000000)
+
+-- the words ask for this
+pub record Asks (words : List (List ℕ)) (request : Request) : Type 0 where
+  pub spelled : words ≡ request_words request
+  pub allowed : IsAllowed request

@@ -1,0 +1,97 @@
+// The program over files and streams in memory.
+use super::*;
+use lisa_io::{MemFile, MemFiles, MemSink, MemSource};
+use std::alloc::Global;
+use std::test::Fail;
+
+const COUNTER: &[u8] =
+    b"// counts\nRESOURCE { REGISTER uint8 n; }\nOPERATION reset { BEHAVIOR { n = 5; } }\nOPERATION main { BEHAVIOR { n = n + 1; } }\n";
+
+fn words(alloc: Global, texts: &[&str]) -> Result<Vec<String>, Fail> {
+    let mut all = Vec::new(alloc);
+    for text in texts {
+        all.push(String::from_str(alloc, text)?)?;
+    }
+    Ok(all)
+}
+
+fn files(alloc: Global, bytes: &[u8]) -> Result<MemFiles, Fail> {
+    let mut all = Vec::new(alloc);
+    all.push(MemFile::new(String::from_str(alloc, "A")?, bytes.to_vec(alloc)?))?;
+    Ok(MemFiles::new(all, Vec::new(alloc)))
+}
+
+fn sink(alloc: Global, failing: &[u64]) -> Result<MemSink, Fail> {
+    Ok(MemSink::new(vec![in alloc; 0; 200]?, 3, failing.to_vec(alloc)?))
+}
+
+#[test]
+fn a_counter_runs_and_the_rest_is_told(rt: HostRuntime) -> Result<(), Fail> {
+    let alloc = rt.alloc();
+    let cases = [
+        (
+            "A",
+            "3",
+            COUNTER,
+            b"edge 3\nn 0x8\n".as_slice(),
+            b"".as_slice(),
+        ),
+        (
+            "A",
+            "257",
+            COUNTER,
+            b"edge 257\nn 0x6\n".as_slice(),
+            b"".as_slice(),
+        ),
+        (
+            "A",
+            "3",
+            b"n = n * 2;".as_slice(),
+            b"".as_slice(),
+            b"lisa: later 1 NotBuilt\n".as_slice(),
+        ),
+        (
+            "G",
+            "3",
+            COUNTER,
+            b"".as_slice(),
+            b"lisa: read fault\n".as_slice(),
+        ),
+    ];
+    for (name, edges, bytes, printed, said) in cases {
+        let mut out = sink(alloc, &[])?;
+        let mut err = sink(alloc, &[])?;
+        let mut input = MemSource::new(Vec::new(alloc), Vec::new(alloc));
+        let _ = lisa(
+            alloc,
+            &words(alloc, &["run", name, "-", "-", edges])?,
+            &mut files(alloc, bytes)?,
+            &mut input,
+            &mut out,
+            &mut err,
+        );
+        assert_eq!(rt; out.bytes(), printed);
+        assert_eq!(rt; err.bytes(), said);
+    }
+    Ok(())
+}
+
+#[test]
+fn a_failed_write_is_told_by_the_status(rt: HostRuntime) -> Result<(), Fail> {
+    let alloc = rt.alloc();
+    let mut out = sink(alloc, &[1])?;
+    let mut err = sink(alloc, &[])?;
+    let mut input = MemSource::new(Vec::new(alloc), Vec::new(alloc));
+    let status = lisa(
+        alloc,
+        &words(alloc, &["run", "A", "-", "-", "3"])?,
+        &mut files(alloc, COUNTER)?,
+        &mut input,
+        &mut out,
+        &mut err,
+    );
+    assert_eq!(rt; status, Status::WriteFault);
+    assert_eq!(rt; out.bytes(), b"".as_slice());
+    assert_eq!(rt; err.bytes(), b"".as_slice());
+    Ok(())
+}

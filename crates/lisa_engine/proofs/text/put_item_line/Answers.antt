@@ -1,0 +1,5 @@
+use Rattle.lisa_io.proofs.Known.{puts_then}
+use Rattle.lisa_engine.proofs.text.put_item_line.Goals as goal
+
+pub returns : goal.returns
+returns g c = puts_then c.in_ok-put_all.ensures c.put_hex_line.ensures

@@ -1,0 +1,11 @@
+pub mod Fronts
+pub mod ReservedLaws
+pub mod SignLaws
+pub mod TokenLaws
+pub mod Longest
+pub mod ItemLaws
+pub mod NumberLaws
+pub mod Lexed
+pub mod Loop
+pub mod Depths
+pub mod WrittenLaws

@@ -1,0 +1,10 @@
+use Rattle.std.proofs.Common.{◌≡◌, ◌+◌, length}
+use Rattle.lisa_lexer.specs.Lexing.{lex}
+use Rattle.lisa_lexer.specs.Answers.{with_front}
+use Rattle.lisa_lexer.proofs.reading.all_tokens.Given as goal
+
+abbrev pub invariant-each : goal.invariant-each
+invariant-each l = (with_front l.tokens.items (lex (l.at, l.rest)) ≡ lex (0, l.bytes)) × (l.at + length l.rest ≡ length l.bytes)
+
+abbrev pub decreases-each : goal.decreases-each
+decreases-each l = length l.rest

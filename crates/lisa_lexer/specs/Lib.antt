@@ -1,0 +1,5 @@
+pub mod Reserved
+pub mod Signs
+pub mod Lexing
+pub mod Answers
+pub mod Written

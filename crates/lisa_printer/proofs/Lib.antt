@@ -1,0 +1,11 @@
+pub mod SheetLaws
+pub mod LoopLaws
+pub mod Heights
+pub mod SoundTokens
+pub mod Replaced
+pub mod ExpressionsAgain
+pub mod StatementsAgain
+pub mod DescriptionsAgain
+pub mod TokensApart
+pub mod TextLexes
+pub mod TextLaws

@@ -1,0 +1,4 @@
+pub mod CanonicalTokens
+pub mod CanonicalText
+pub mod Sheets
+pub mod EvenSemantics

@@ -1,0 +1,4 @@
+pub mod Lists
+pub mod Resources
+pub mod Declares
+pub mod Codings

@@ -1,0 +1,12 @@
+pub mod Expressions
+pub mod Statements
+pub mod Activations
+pub mod Descriptions
+pub mod Operators
+pub mod Levels
+pub mod Grammar
+pub mod DescriptionGrammar
+pub mod Spellings
+pub mod Tokens
+pub mod Brackets
+pub mod Texts

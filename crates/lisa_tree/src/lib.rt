@@ -1,0 +1,23 @@
+//! Processor descriptions as trees: the tokens of a description, its resources and operations, and the faults that it
+//! may have.
+#![tactic(auto)]
+
+mod depths;
+mod descriptions;
+mod expressions;
+mod faults;
+mod statements;
+mod tokens;
+
+pub use depths::depth;
+pub use descriptions::{
+    Act, CodingItem, CodingPart, Declare, Description, Format, MemoryWord, Operation, Pattern,
+    RegisterWord, Resource, Section, SyntaxItem, SyntaxPart,
+};
+pub use expressions::{BoundaryField, Expr, Operator};
+pub use faults::DescFault;
+pub use statements::{ForHead, Stmt};
+pub use tokens::{Base, Keyword, Shape, Sign, Token, TokenPart};
+
+#[cfg(test)]
+mod tests;

@@ -1,0 +1,5 @@
+pub mod DigitSteps
+pub mod HexDigits
+pub mod Readings
+pub mod Reduced
+pub mod WordLaws

@@ -1,0 +1,22 @@
+//! Words of 1 to 64 bits and their arithmetic, names, and the digits of numbers.
+//!
+//! `specs/Words.antt` says what the operations on words answer: each is its arithmetic on whole numbers without bound,
+//! reduced modulo 2 to the power of the width.
+#![tactic(auto)]
+
+mod arithmetic;
+mod bitwise;
+mod digits;
+mod names;
+mod numerals;
+mod words;
+
+pub use arithmetic::{add, cut, less, mul, sub, widen};
+pub use bitwise::{and, not, or, shl, shr, xor};
+pub use digits::{decimal, hex};
+pub use names::{Name, NoMemory};
+pub use numerals::{canonical_decimal, canonical_hex, decimal_value, hex_value};
+pub use words::{Kind, Word};
+
+#[cfg(test)]
+mod tests;
