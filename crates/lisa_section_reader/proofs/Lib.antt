@@ -1,2 +1,4 @@
 pub mod ListLaws
+pub mod EachLaws
 pub mod ResourceLaws
+pub mod DeclareLaws

@@ -1,8 +1,5 @@
 -- Resources are read as they are spelled.
-use Rattle.std.proofs.Common.{◌≡◌, ◌≢◌, ℕ, zero, suc, ◌+◌, ◌<◌, ◌≤◌, Bool, true, false, cond, eqb, not, List, [], ◌∷◌, ◌++◌, length, Option, Some, None, refl, sym, ap, subst, ◌∙◌, append_assoc, arith, inl, inr}
-use Rattle.std.proofs.lemmas.List.{length-append, append-nil}
-use Rattle.lisa_tree.specs.declared.tokens.Base.{Base}
-use Rattle.lisa_tree.specs.declared.tokens.Keyword.{Keyword}
+use Rattle.std.proofs.Common.{◌≡◌, ℕ, true, false, List, [], ◌∷◌, ◌++◌, Option, Some, None, refl, sym, ap, subst, ◌∙◌, append_assoc, arith, inl, inr}
 use Rattle.lisa_tree.specs.declared.tokens.Keyword.TheVariants as keywords
 use Rattle.lisa_tree.specs.declared.tokens.Shape.{Shape}
 use Rattle.lisa_tree.specs.declared.tokens.Sign.TheVariants as signs
@@ -24,7 +21,7 @@ use Rattle.lisa_behav_reader.specs.Reading.{name_of}
 use Rattle.lisa_behav_reader.proofs.PastLaws.{past_is}
 use Rattle.lisa_behav_reader.proofs.ExprSound.{name_front}
 use Rattle.lisa_section_reader.specs.Lists.{follows, names_of, without, typed_of, fields_of}
-use Rattle.lisa_section_reader.specs.Resources.{Answer, depth_of, sized_of, register_of, register_word_of, word_of, clocked_of, memory_of, pin_of, pipeline_of, in_of, boundary_of, resource_of, ends, resources_of}
+use Rattle.lisa_section_reader.specs.Resources.{depth_of, sized_of, register_of, word_of, clocked_of, memory_of, pin_of, pipeline_of, in_of, boundary_of, resource_of, ends, resources_of}
 use Rattle.lisa_section_reader.proofs.ListLaws.{typed_front, names_sound, names_there, is_front, without_is, without_there, fields_sound, fields_there, with_none}
 
 abbrev Taken : Toks → ResourceTree × Toks → Type 0

@@ -1,5 +1,5 @@
 -- Reading codings and syntaxes.
-use Rattle.std.specs.Prelude.{ℕ, Bool, true, false, List, [], ◌∷◌, length, Option, Some, None, ◌==◌, ◌&&◌, nat_le, if◌then◌else◌}
+use Rattle.std.specs.Prelude.{ℕ, Bool, true, false, List, ◌∷◌, length, Option, Some, None, ◌==◌, ◌&&◌, nat_le, if◌then◌else◌}
 use Rattle.lisa_tree.specs.declared.tokens.Keyword.TheVariants as keywords
 use Rattle.lisa_tree.specs.declared.tokens.Sign.{Sign}
 use Rattle.lisa_tree.specs.declared.tokens.Sign.TheVariants as signs
@@ -17,7 +17,6 @@ use Rattle.lisa_tree.specs.Expressions as expressions
 use Rattle.lisa_tree.specs.Expressions.{ExprTree}
 use Rattle.lisa_tree.specs.Descriptions as descriptions
 use Rattle.lisa_tree.specs.Descriptions.{CodingTree}
-use Rattle.lisa_tree.specs.Grammar.{Toks}
 use Rattle.text_scan.specs.Many.{Item, many}
 use Rattle.text_scan.specs.Steps.{◌>>=◌}
 use Rattle.lisa_behav_reader.specs.Past.{past_of}

@@ -1,5 +1,5 @@
 -- Reading declarations.
-use Rattle.std.specs.Prelude.{ℕ, Bool, true, false, not, List, [], ◌∷◌, Option, Some, None}
+use Rattle.std.specs.Prelude.{ℕ, Bool, true, false, not, List, ◌∷◌, Option, Some, None}
 use Rattle.lisa_tree.specs.declared.tokens.Keyword.TheVariants as keywords
 use Rattle.lisa_tree.specs.declared.tokens.Sign.TheVariants as signs
 use Rattle.lisa_tree.specs.declared.tokens.TokenPart.{TokenPart}
@@ -43,8 +43,12 @@ group_of ts =
     names_of signs.Comma ts >>= λ names. past_of signs.Equal names.1 >>= λ a. past_of signs.OpenBrace a >>= λ b. names_of signs.OrOr b >>= λ alternatives. past_of signs.CloseBrace alternatives.1 >>= λ c.
     past_of signs.Semicolon c >>= λ rest. Some (descriptions.Group names.0 alternatives.0, rest)
 
+-- one or more instances with commas between them
+unfoldable pub instance_list_of : Item TokenPart (List (List ℕ × List ℕ))
+instance_list_of ts = instance_of ts >>= λ first. more_instances_of first.1 >>= λ more. Some (first.0 ∷ more.0, more.1)
+
 unfoldable pub instances_of : Toks → Answer
-instances_of ts = instance_of ts >>= λ first. more_instances_of first.1 >>= λ more. past_of signs.Semicolon more.1 >>= λ rest. Some (descriptions.Instance (first.0 ∷ more.0), rest)
+instances_of ts = instance_list_of ts >>= λ all. past_of signs.Semicolon all.1 >>= λ rest. Some (descriptions.Instance all.0, rest)
 
 unfoldable pub labels_of : Toks → Answer
 labels_of ts = names_of signs.Comma ts >>= λ names. past_of signs.Semicolon names.1 >>= λ rest. Some (descriptions.Label names.0, rest)

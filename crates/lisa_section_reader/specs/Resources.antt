@@ -1,5 +1,5 @@
 -- Reading resources.
-use Rattle.std.specs.Prelude.{ℕ, Bool, true, false, List, [], ◌∷◌, Option, Some, None}
+use Rattle.std.specs.Prelude.{ℕ, Bool, true, false, List, ◌∷◌, Option, Some, None}
 use Rattle.lisa_tree.specs.declared.tokens.Keyword.{Keyword}
 use Rattle.lisa_tree.specs.declared.tokens.Keyword.TheVariants as keywords
 use Rattle.lisa_tree.specs.declared.tokens.Shape.{Shape}

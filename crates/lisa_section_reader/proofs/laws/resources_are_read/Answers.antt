@@ -1,8 +1,9 @@
+use Rattle.lisa_section_reader.proofs.EachLaws.{to_items, from_items}
 use Rattle.lisa_section_reader.proofs.ResourceLaws.{resources_sound, resources_there}
 use Rattle.lisa_section_reader.proofs.laws.resources_are_read.Goals as goal
 
 pub returns-clause-found : goal.returns-clause-found
-returns-clause-found c = λ ts x e. let t = resources_sound ts x e in (t.front, t.parts, t.spells, t.stopped)
+returns-clause-found c = λ ts x e. let t = resources_sound ts x e in (t.front, t.parts, from_items t.spells, t.stopped)
 
 pub returns-clause-only : goal.returns-clause-only
-returns-clause-only c = λ ts rest all d stops. resources_there d rest stops
+returns-clause-only c = λ ts rest all d stops. resources_there (to_items d) rest stops
