@@ -1,0 +1,13 @@
+pub mod Numbers
+pub mod Lists
+pub mod Bounds
+pub mod Trees
+pub mod Places
+pub mod Declared
+pub mod Meanings
+pub mod Acting
+pub mod Cells
+pub mod Edging
+pub mod Clocking
+pub mod Zeros
+pub mod Small

@@ -1,0 +1,10 @@
+use Rattle.std.proofs.Common.{◌∙◌, ap, ap₂, List, ℕ}
+use Rattle.std.specs.Prelude.{nat_eq, slice_index}
+use Rattle.std.specs.List.{position_or_len}
+use Rattle.std.specs.Cmp.Lexicographic.{pointwise}
+use Rattle.verilog_clock.proofs.Places.{items_place}
+use Rattle.verilog_clock.proofs.scope.Scope.width.Goals as goal
+
+pub returns-clause-value : goal.returns-clause-value
+returns-clause-value c = c.width.ensures ∙ ap₂ (λ (ws : List ℕ) (n : ℕ). slice_index ws n) c.args.self.now.word_widths
+    (ap (λ (ks : List (List ℕ)). position_or_len (pointwise nat_eq c.args.name.now) ks) c.args.self.now.word_names ∙ items_place _ c.args.name.now)
