@@ -2,3 +2,5 @@ pub mod ListLaws
 pub mod EachLaws
 pub mod ResourceLaws
 pub mod DeclareLaws
+pub mod CodingLaws
+pub mod SyntaxLaws

@@ -1,5 +1,11 @@
-use crate::{all_declares, all_resources, declares_are_read, resources_are_read};
-use lisa_tree::{Declare, Keyword, RegisterWord, Resource, Shape, Sign, Token, TokenPart};
+use crate::{
+    all_declares, all_resources, coding, codings_are_read, declares_are_read, resources_are_read,
+    syntax, syntaxes_are_read,
+};
+use lisa_tree::{
+    Base, CodingItem, CodingPart, Declare, Expr, Format, Keyword, RegisterWord, Resource, Shape,
+    Sign, SyntaxPart, Token, TokenPart,
+};
 use lisa_words::{Kind, Name};
 use std::alloc::Global;
 use std::test::Fail;
@@ -9,10 +15,17 @@ fn sign(text: &[u8]) -> Option<Sign> {
     match text {
         b"{" => Some(Sign::OpenBrace),
         b"}" => Some(Sign::CloseBrace),
+        b"[" => Some(Sign::OpenSquare),
+        b"]" => Some(Sign::CloseSquare),
         b";" => Some(Sign::Semicolon),
         b"," => Some(Sign::Comma),
+        b"." => Some(Sign::Dot),
         b"=" => Some(Sign::Equal),
+        b"==" => Some(Sign::EqualEqual),
         b"||" => Some(Sign::OrOr),
+        b"~" => Some(Sign::Tilde),
+        b"#X" => Some(Sign::HexadecimalFormat),
+        b"#S" => Some(Sign::SignedFormat),
         _ => None,
     }
 }
@@ -27,6 +40,7 @@ fn keyword(text: &[u8]) -> Option<Keyword> {
         b"INSTANCE" => Some(Keyword::Instance),
         b"LABEL" => Some(Keyword::Label),
         b"REFERENCE" => Some(Keyword::Reference),
+        b"IN" => Some(Keyword::In),
         _ => None,
     }
 }
@@ -38,6 +52,11 @@ fn other(alloc: Global, text: &[u8]) -> Result<TokenPart, Fail> {
             kind: Kind::Unsigned,
             width: 8,
         }),
+        b"0" => TokenPart::Number(0, Base::Decimal),
+        b"65535" => TokenPart::Number(65_535, Base::Decimal),
+        b"65536" => TokenPart::Number(65_536, Base::Decimal),
+        [b'0', b'b', digits @ ..] => TokenPart::Pattern(Name::from_bytes(alloc, digits)?),
+        [b'"', inner @ .., b'"'] => TokenPart::Text(Name::from_bytes(alloc, inner)?),
         _ => TokenPart::Named(Name::from_bytes(alloc, text)?),
     })
 }
@@ -128,5 +147,90 @@ fn each_sort_of_declaration_is_read(rt: HostRuntime) -> Result<(), Fail> {
         (b"b".as_slice(), b"c".as_slice())
     );
     declares_are_read();
+    Ok(())
+}
+
+// Whether the tokens of a text are no coding.
+fn is_no_coding(alloc: Global, text: &[u8]) -> Result<bool, Fail> {
+    let tokens = tokens(alloc, text)?;
+    Ok(coding(alloc, &tokens).is_err())
+}
+
+#[test]
+fn a_digit_stands_from_1_to_65535_times(rt: HostRuntime) -> Result<(), Fail> {
+    let alloc = rt.alloc();
+    let tokens = tokens(alloc, b"0b0001 i = 0bxx reg 0bx [ 65535 ] }")?;
+    let Ok((CodingPart::Items(items), _)) = coding(alloc, &tokens) else {
+        return Err(Fail::from("no elements"));
+    };
+    let [
+        CodingItem::Bits(first),
+        CodingItem::Field(_, _),
+        CodingItem::Child(_),
+        CodingItem::Bits(last),
+    ] = items.as_slice()
+    else {
+        return Err(Fail::from("other elements"));
+    };
+    assert_eq!(rt;
+        (first.digits.as_bytes(), first.times),
+        (b"0001".as_slice(), None)
+    );
+    assert_eq!(rt;
+        (last.digits.as_bytes(), last.times),
+        (b"x".as_slice(), Some(65_535))
+    );
+    assert!(rt; is_no_coding(alloc, b"0bx [ 0 ] }")?);
+    assert!(rt; is_no_coding(alloc, b"0bx [ 65536 ] }")?);
+    assert!(rt; is_no_coding(alloc, b"0b00 [ 65535 ] }")?);
+    assert!(rt; is_no_coding(alloc, b"}")?);
+    codings_are_read();
+    Ok(())
+}
+
+// The group of a root whose place is a field of the boundary before, or a register.
+fn root(alloc: Global, text: &[u8]) -> Result<(bool, Name), Fail> {
+    let tokens = tokens(alloc, text)?;
+    match coding(alloc, &tokens) {
+        Ok((CodingPart::Root(Expr::Input(_), group), _)) => Ok((true, group)),
+        Ok((CodingPart::Root(Expr::Named(_), group), _)) => Ok((false, group)),
+        _ => Err(Fail::from("no root")),
+    }
+}
+
+#[test]
+fn a_root_is_at_a_field_or_a_register(rt: HostRuntime) -> Result<(), Fail> {
+    let alloc = rt.alloc();
+    let (is_field, group) = root(alloc, b"IN . code == instruction }")?;
+    assert_eq!(rt;
+        (is_field, group.as_bytes()),
+        (true, b"instruction".as_slice())
+    );
+    let (is_field, group) = root(alloc, b"code == instruction }")?;
+    assert_eq!(rt;
+        (is_field, group.as_bytes()),
+        (false, b"instruction".as_slice())
+    );
+    assert!(rt; is_no_coding(alloc, b"IN . code }")?);
+    Ok(())
+}
+
+#[test]
+fn the_first_element_of_a_syntax_is_not_joined(rt: HostRuntime) -> Result<(), Fail> {
+    let alloc = rt.alloc();
+    let text = tokens(alloc, b"\"ADD\" reg ~ \",\" n = #S }")?;
+    let Ok((items, _)) = syntax(alloc, &text) else {
+        return Err(Fail::from("no syntax"));
+    };
+    let [first, second, third, last] = items.as_slice() else {
+        return Err(Fail::from("other elements"));
+    };
+    assert_eq!(rt; (first.joined, second.joined), (false, false));
+    assert_eq!(rt; (third.joined, last.joined), (true, false));
+    assert!(rt; matches!(&second.part, SyntaxPart::Child(_)));
+    assert!(rt; matches!(&last.part, SyntaxPart::Number(_, Format::SignedDecimal)));
+    let joined = tokens(alloc, b"~ \"ADD\" }")?;
+    assert!(rt; syntax(alloc, &joined).is_err());
+    syntaxes_are_read();
     Ok(())
 }
