@@ -6,26 +6,28 @@ use Rattle.verilog_text.specs.WidePlaces.{where_wide, ◌or_else◌}
 use Rattle.verilog_places.specs.declared.modules.PlacedInput.{PlacedInput}
 use Rattle.verilog_places.specs.Trees.{PlacedTree, Number, Named, Bits, Cell, One, Two, Choose, Join, Repeat, PlacedTrees, End, Then, place, bare, PlacedActions, Done, Set, Put, If, PlacedMemberTree, Reg, Array, Wire, Initial, Always, PlacedModuleTree, bare_module}
 
-infixr 20 ◌or_else◌
+-- at an expression's own place
+abbrev pub wide_at : Widths → PlacedTree → Option ℕ
+wide_at w e = where_wide (v_width w (bare e)) (place e)
 
 abbrev mutual
-  -- in an expression
-  pub wide_expr : Widths → PlacedTree → Option ℕ
-  wide_expr w e = where_wide (v_width w (bare e)) (place e) or_else wide_inside w e
-
   -- inside an expression
   pub wide_inside : Widths → PlacedTree → Option ℕ
-  wide_inside w (Cell at name index) = wide_expr w index
-  wide_inside w (One at one a) = wide_expr w a
-  wide_inside w (Two at operator a b) = wide_expr w a or_else wide_expr w b
-  wide_inside w (Choose at test this other) = wide_expr w test or_else wide_expr w this or_else wide_expr w other
+  wide_inside w (Cell at name index) = wide_at w index or_else wide_inside w index
+  wide_inside w (One at one a) = wide_at w a or_else wide_inside w a
+  wide_inside w (Two at operator a b) = (wide_at w a or_else wide_inside w a) or_else (wide_at w b or_else wide_inside w b)
+  wide_inside w (Choose at test this other) = (wide_at w test or_else wide_inside w test) or_else (wide_at w this or_else wide_inside w this) or_else (wide_at w other or_else wide_inside w other)
   wide_inside w (Join at parts) = wide_parts w parts
-  wide_inside w (Repeat at times a) = wide_expr w a
+  wide_inside w (Repeat at times a) = wide_at w a or_else wide_inside w a
   wide_inside w _ = None
 
   pub wide_parts : Widths → PlacedTrees → Option ℕ
   wide_parts w End = None
-  wide_parts w (Then e rest) = wide_expr w e or_else wide_parts w rest
+  wide_parts w (Then e rest) = (wide_at w e or_else wide_inside w e) or_else wide_parts w rest
+
+-- in an expression
+abbrev pub wide_expr : Widths → PlacedTree → Option ℕ
+wide_expr w e = wide_at w e or_else wide_inside w e
 
 abbrev pub wide_actions : Widths → PlacedActions → Option ℕ
 wide_actions w Done = None
