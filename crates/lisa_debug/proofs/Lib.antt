@@ -1,0 +1,9 @@
+pub mod WordLists
+pub mod Rows
+pub mod Steps
+pub mod Untils
+pub mod Fronts
+pub mod Inputs
+pub mod Takings
+pub mod Readings
+pub mod Telling

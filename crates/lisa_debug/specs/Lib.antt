@@ -1,0 +1,8 @@
+pub mod Courses
+pub mod Kept
+pub mod Commands
+pub mod Answers
+pub mod Sessions
+pub mod Taking
+pub mod Ends
+pub mod Runs
