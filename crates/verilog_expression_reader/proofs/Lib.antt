@@ -1,0 +1,9 @@
+pub mod PastLaws
+pub mod Waiting
+pub mod ExprSound
+pub mod ExprEquation
+pub mod PartLaws
+pub mod Views
+pub mod ExprComplete
+pub mod ExprLoop
+pub mod FrontLaws
