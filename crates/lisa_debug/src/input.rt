@@ -241,7 +241,7 @@ pub fn answer_input<E: Engine + Drop, I: Source, O: Flush>(
         (I.left input.old) (I.left input.new) (O.written out.old) (O.written out.new) result }
     ensures gives { (bytes : List ℕ) → I.left input.old ≡ Some bytes
         → Gives (course_of (E.pin_list engine) (E.item_list engine) (E.array_list engine) (E.defined engine) schedule) bytes (O.written out.old) (O.written out.new) result }
-    ensures sent { OnOk result (O.sent out.new ≡ O.written out.new) }
+    ensures sent { IsSent (O.sent out.new) (O.written out.new) result }
     ensures causes { HasCauses (I.faults input.old) (I.faults input.new) (O.faults out.old) (O.faults out.new) result }
 {
     match Session::make(alloc, engine, schedule) {
