@@ -1,0 +1,4 @@
+pub mod ActSound
+pub mod ActEquation
+pub mod ActComplete
+pub mod ActLoop
