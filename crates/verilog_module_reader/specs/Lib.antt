@@ -1,0 +1,5 @@
+pub mod Parts
+pub mod Members
+pub mod Modules
+pub mod Gives
+pub mod Answers
