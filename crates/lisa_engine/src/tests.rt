@@ -80,3 +80,36 @@ fn an_image_loads_its_memories(rt: HostRuntime) -> Result<(), Fail> {
     assert_eq!(rt; cells[0].as_slice(), [0, 0, 0, 0].as_slice());
     Ok(())
 }
+
+#[test]
+fn an_image_s_cells_stand_in_front_of_zeros(rt: HostRuntime) -> Result<(), Fail> {
+    let alloc = rt.alloc();
+    let engine = MemEngine::make(alloc)?;
+    let mut memories = Vec::new(alloc);
+    memories.push(ImageMemory {
+        name: Name::from_bytes(alloc, b"M")?,
+        width: 8,
+        depth: 4,
+        cells: vec![in alloc; 7, 200]?,
+    })?;
+    let cells = first_cells(alloc, engine.arrays(), &Image { memories })?;
+    assert_eq!(rt; cells.len(), 1);
+    assert_eq!(rt; cells[0].as_slice(), [7, 200, 0, 0].as_slice());
+    Ok(())
+}
+
+#[test]
+fn a_memory_of_another_width_is_no_array(rt: HostRuntime) -> Result<(), Fail> {
+    let alloc = rt.alloc();
+    let engine = MemEngine::make(alloc)?;
+    let mut memories = Vec::new(alloc);
+    memories.push(ImageMemory {
+        name: Name::from_bytes(alloc, b"M")?,
+        width: 4,
+        depth: 4,
+        cells: vec![in alloc; 1]?,
+    })?;
+    let missing = first_cells(alloc, engine.arrays(), &Image { memories });
+    assert!(rt; matches!(missing, Err(MakeFault::NoSuchMemory { .. })));
+    Ok(())
+}
