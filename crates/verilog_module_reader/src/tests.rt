@@ -90,8 +90,8 @@ fn each_kind_of_member_is_read(rt: HostRuntime) -> Result<(), Fail> {
     assert_eq!(rt; module.inputs.len(), 2);
     assert!(rt; module.inputs.iter().all(|i| i.range == 8 || i.range == 0));
     let [
-        PlacedMember::Reg(20, reg),
-        PlacedMember::Array(28, array),
+        PlacedMember::Reg(21, reg),
+        PlacedMember::Array(29, array),
         PlacedMember::Wire(_, wire, _),
         PlacedMember::Initial(first),
         PlacedMember::Initial(others),
