@@ -33,12 +33,12 @@ def lines(*all):
     return "".join(line + "\n" for line in all)
 
 
-def step(words, out="", err="", status=None, save=None, input=""):
-    """`out` and `err` are texts, or compiled patterns for the whole. The status is 1 where `err` is given and nothing
-    else is said."""
+def step(words, out="", err="", status=None, save=None, same=None, input=""):
+    """`out` and `err` are texts, or compiled patterns for the whole, or None where anything may stand. The status is 1
+    where `err` is given and nothing else is said. `same` names a file that must be what is printed."""
     words = words.split() if isinstance(words, str) else words
     status = (1 if err != "" else 0) if status is None else status
-    return dict(words=words, out=out, err=err, status=status, save=save, input=input)
+    return dict(words=words, out=out, err=err, status=status, save=save, same=same, input=input)
 
 
 ROWS = []
@@ -48,7 +48,8 @@ def row(name, files, *steps):
     ROWS.append((name, files, steps))
 
 
-A, V = example("a.lisa"), example("v.v")
+A = example("a.lisa")
+SAMPLES = {name: example(name) for name in ("a.lisa", "b.lisa", "c.lisa", "d.lisa", "e.lisa", "f.lisa")}
 USAGE = "usage: lisa check|fmt|verilog|run|trace|clock|clocktrace|asm|link|dis|debug|vdebug|gen|soak ..\n"
 
 # ---------------------------------------------------------------- the words
@@ -73,6 +74,33 @@ row("run of a file over its limit", {"A": A + " " * (1048577 - len(A))},
 row("run of a file at its limit", {"A": A + " " * (1048576 - len(A))},
     step("run A - - 3", lines("edge 3", "n 0x8")))
 
+# ---------------------------------------------------------------- fmt
+
+SQUEEZED = "RESOURCE{REGISTER uint8 n;}OPERATION main{BEHAVIOR{n=(n+1)*2;}}\n"
+SPREAD = lines("RESOURCE {", "  REGISTER uint8 n;", "}", "OPERATION main {", "  BEHAVIOR {", "    n = (n + 1) * 2;", "  }", "}")
+
+
+def up_to(head, limit):
+    """A pattern for a line that ends in a number from 0 to `limit`."""
+    return re.compile(re.escape(head) + "(" + "|".join(str(k) for k in range(limit + 1)) + ")\n")
+
+
+row("canonical text", {"X": SQUEEZED}, step("fmt X", SPREAD, save="Y"), step("fmt Y", SPREAD))
+for name, text in SAMPLES.items():
+    row(f"canonical text of {name} and of that again", {"X": text}, step("fmt X", None, save="Y"), step("fmt Y", same="Y"))
+for name, text, fault in [("a bad byte", "RESOURCE { REGISTER uint8 n; } @", "1 BadByte at=31"),
+                          ("no description", "", "5 NotADescription at=0"),
+                          ("65 brackets", "(" * 65, "4 TooDeep at=64"),
+                          ("a number of 65 bits", "18446744073709551616", "2 NumberTooWide at=0"),
+                          ("a name of 65 bytes", "a" * 65, "3 NameTooLong at=0")]:
+    row(f"fmt of {name}", {"X": text}, step("fmt X", err=f"lisa: description {fault}\n"))
+row("fmt of 64 brackets", {"X": "(" * 64}, step("fmt X", err=up_to("lisa: description 5 NotADescription at=", 64)))
+for word in ("ALIAS", "CLOCKED"):
+    row(f"{word} is no name", {"X": swap(A, ("uint8 n;", f"uint8 {word};"))},
+        step("fmt X", err=up_to("lisa: description 5 NotADescription at=", len(A) + 10)))
+row("fmt of a missing file", {}, step("fmt G", err="lisa: read fault\n", status=3))
+row("fmt of two files", {"A": A}, step("fmt A A", err=USAGE, status=2))
+
 # ---------------------------------------------------------------- running
 
 
@@ -88,13 +116,15 @@ def run_row(program, files, steps):
         if one["save"]:
             held[one["save"]] = done.stdout
         got = [done.returncode, done.stdout.decode("latin-1"), done.stderr.decode("latin-1")]
-        want = [one["status"], one["out"], one["err"]]
+        want = [one["status"], held[one["same"]].decode("latin-1") if one["same"] else one["out"], one["err"]]
         if not all(matches(w, g) for w, g in zip(want, got)):
             return f"step {number + 1}, {' '.join(one['words'])}\n  got    {got!r:.2000}\n  wanted {want!r:.2000}"
     return None
 
 
 def matches(want, got):
+    if want is None:
+        return True
     return bool(want.fullmatch(got)) if isinstance(want, re.Pattern) else want == got
 
 

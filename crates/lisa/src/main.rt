@@ -2,9 +2,12 @@
 #![tactic(auto)]
 
 use lisa_cli::{Status, lisa};
-use lisa_io::{HostFiles, HostSink, HostSource};
+use lisa_io::{Buffered, HostFiles, HostSink, HostSource};
 use std::env;
 use std::process::ExitCode;
+
+// How many bytes of output are gathered before they are sent on.
+const ROOM: usize = 65_536;
 
 // The exit status of a way to end.
 fn exit_status(status: Status) -> u8 {
@@ -31,7 +34,8 @@ fn main(rt: HostRuntime) -> ExitCode {
     let words = command_words(&rt);
     let mut files = HostFiles::new(rt.alloc(), &rt);
     let mut input = HostSource::new(rt.stdin());
-    let mut out = HostSink::new(rt.stdout());
+    let room = vec![in rt.alloc(); 0; ROOM].unwrap_or(Vec::new(rt.alloc()));
+    let mut out = Buffered::new(HostSink::new(rt.stdout()), room);
     let mut err = HostSink::new(rt.stderr());
     let status = lisa(
         rt.alloc(),

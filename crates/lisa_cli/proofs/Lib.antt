@@ -1,9 +1,13 @@
 mod OtherWords
 mod FieldTexts
 mod Told
+mod SingleStatements
 mod Fitting
 mod Endings
-mod PinCounts
-mod ThinTokens
-mod ThinReplies
+mod Finding
+mod Stages
+mod Writing
 mod Ran
+mod Flushed
+mod Faulty
+mod PinCounts

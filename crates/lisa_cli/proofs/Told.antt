@@ -1,8 +1,10 @@
 -- What a read of a whole file tells.
-use Rattle.std.proofs.Common.{◌≡◌, ◌<◌, ◌∙◌, sym, ap, refl, List, ℕ, length, Option, Some, None, Result, Ok, Err, true, false}
+use Rattle.std.proofs.Common.{◌≡◌, ◌≢◌, ◌<◌, ◌≤◌, ◌∙◌, sym, ap, refl, List, ℕ, length, Option, Some, None, Result, Ok, Err, true, false}
 use Rattle.lisa_io.specs.Contents.{Held, Tells, TellsNone}
 use Rattle.lisa_io.specs.declared.whole.ReadEnd.{ReadEnd}
 use Rattle.lisa_io.specs.declared.whole.ReadEnd.TheVariants as read_ends
+use Rattle.lisa_cli.specs.declared.status.End.{End}
+use Rattle.lisa_cli.specs.declared.status.End.TheVariants as ends
 use Rattle.lisa_cli.specs.Outcomes.{FileMap}
 
 -- a file that was read has its bytes in each map of the files
@@ -40,3 +42,6 @@ none_is_no_some x e = cc
 
 pub not_ok : false ≡ true → ⊥
 not_ok e = cc
+
+pub some_is : {T : Type 0} {x y : T} → Some x ≡ Some y → x ≡ y
+some_is e = cc

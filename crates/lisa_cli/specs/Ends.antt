@@ -18,6 +18,7 @@ pub record Ends {T : Type 0} (Gives : FileMap → Outcome → Type 0) (held : He
   pub refused : (refusal : Refusal) → result ≡ Err (ends.Refused refusal) → (files : FileMap) → held ≡ Some files
       → (text : List ℕ) × Gives files (Refusing refusal text) × Appends before after text
   pub read : result ≡ Err ends.ReadFault → Blamed
+  pub later : old ≤ new
   pub write : result ≡ Err ends.WriteFault → Rose old new
   -- whatever the end, no more was written than what the outcome has
   pub front : (files : FileMap) (outcome : Outcome) → held ≡ Some files → Gives files outcome → AppendsFront before after (written_of outcome)

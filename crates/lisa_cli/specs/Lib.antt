@@ -1,8 +1,11 @@
 pub mod Requests
+pub mod Asked
 pub mod Lines
 pub mod LineViews
 pub mod DescriptionLines
+pub mod ModuleLines
 pub mod Outcomes
+pub mod Stages
 pub mod Ends
 pub mod ThinForm
 pub mod ThinView
@@ -13,6 +16,7 @@ pub mod Writes
 pub mod Gives
 pub mod Runs
 pub mod Told
+pub mod Sent
+pub mod Unread
 pub mod OwnLines
 pub mod Statuses
-pub mod Candidates

@@ -4,13 +4,14 @@ use Rattle.lisa_cli.specs.declared.lines.Value.TheVariants as values
 use Rattle.lisa_cli.specs.declared.lines.Value.{Value as LineValue}
 use Rattle.lisa_cli.specs.declared.lines.Field.{Field as LineField}
 use Rattle.lisa_cli.specs.declared.lines.Line.{Line as LineLine}
-use Rattle.lisa_cli.specs.Lines.{Value, Bare, Quoted, Decimal, Hexadecimal, Field, Line}
+use Rattle.lisa_cli.specs.Lines.{Value, Bare, Quoted, Decimal, Hexadecimal, Digest, Field, Line}
 
 abbrev pub value_of : LineValue → Value
 value_of (values.Bare text) = Bare text.now
 value_of (values.Quoted text) = Quoted text.now
 value_of (values.Decimal value) = Decimal value
 value_of (values.Hexadecimal value) = Hexadecimal value
+value_of (values.Digest bytes) = Digest bytes.now
 
 abbrev pub field_of : LineField → Field
 field_of field = record { label = field.label.now; value = value_of field.value }

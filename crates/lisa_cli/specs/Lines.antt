@@ -1,7 +1,8 @@
 -- The line that a refusal has on the second stream.
-use Rattle.std.specs.Prelude.{ℕ, false, List, ◌++◌, codes, decimal}
+use Rattle.std.specs.Prelude.{ℕ, false, List, [], ◌∷◌, ◌++◌, codes, decimal}
 use Rattle.std.specs.Fmt.{digits}
 use Rattle.std.specs.List.{flat_map}
+use Rattle.lisa_object.specs.Texts.{digest_digits}
 
 pub data Value : Type 0 where
   -- a name
@@ -12,6 +13,8 @@ pub data Value : Type 0 where
   Decimal : ℕ → Value
   -- a word, with 0x
   Hexadecimal : ℕ → Value
+  -- a digest, two digits for each byte
+  Digest : List ℕ → Value
 
 pub record Field : Type 0 where
   pub label : List ℕ
@@ -27,6 +30,7 @@ value_text (Bare text) = text
 value_text (Quoted text) = codes "\"" ++ (text ++ codes "\"")
 value_text (Decimal value) = decimal value
 value_text (Hexadecimal value) = codes "0x" ++ digits 16 false value
+value_text (Digest bytes) = digest_digits bytes
 
 abbrev pub field_text : Field → List ℕ
 field_text field = codes " " ++ (field.label ++ (codes "=" ++ value_text field.value))
@@ -51,3 +55,6 @@ number label value = record { label = label; value = Decimal value }
 
 abbrev pub word : List ℕ → ℕ → Field
 word label value = record { label = label; value = Hexadecimal value }
+
+abbrev pub digest : List ℕ → List ℕ → Field
+digest label bytes = record { label = label; value = Digest bytes }

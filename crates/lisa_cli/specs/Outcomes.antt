@@ -13,13 +13,23 @@ abbrev pub written_of : Outcome → List ℕ
 written_of (Finished text) = text
 written_of (Refusing refusal text) = text
 
+-- the outcome of a command that first looks for something: where it is found, the rest of the command says the outcome, and where
+-- something is wrong, that is the refusal
+pub data After {A : Type 0} (Found : A → Type 0) (Wrong : Refusal → Type 0) (Then : A → Outcome → Type 0) : Outcome → Type 0 where
+  passed : {a : A} {outcome : Outcome} → Found a → Then a outcome → After Found Wrong Then outcome
+  stopped : {refusal : Refusal} → Wrong refusal → After Found Wrong Then (Refusing refusal [])
+
 -- files by their names
 abbrev pub FileMap : Type 0
 FileMap = List ℕ → Option (List ℕ)
 
--- the outcome of a command that first reads a file whole: a file of more bytes than the limit is refused
-pub data AfterReading (files : FileMap) (name : List ℕ) (limit : ℕ) (Then : List ℕ → Outcome → Type 0) : Outcome → Type 0 where
-  too_long : {bytes : List ℕ} → files name ≡ Some bytes → limit < length bytes
-      → AfterReading files name limit Then (Refusing (refusals.File (file_faults.TooLong name)) [])
-  read : {bytes : List ℕ} {outcome : Outcome} → files name ≡ Some bytes → length bytes ≤ limit → Then bytes outcome
-      → AfterReading files name limit Then outcome
+-- a file's bytes, of which there are no more than the limit
+abbrev pub IsFile : FileMap → (name : List ℕ) → (limit : ℕ) → List ℕ → Type 0
+IsFile files name limit bytes = (files name ≡ Some bytes) × (length bytes ≤ limit)
+
+abbrev pub IsTooLong : FileMap → (name : List ℕ) → (limit : ℕ) → Refusal → Type 0
+IsTooLong files name limit refusal = (bytes : List ℕ) × (files name ≡ Some bytes) × (limit < length bytes) × (refusal ≡ refusals.File (file_faults.TooLong name))
+
+-- the outcome of a command that first reads a file whole
+abbrev pub AfterReading : FileMap → (name : List ℕ) → (limit : ℕ) → (List ℕ → Outcome → Type 0) → Outcome → Type 0
+AfterReading files name limit Then = After (IsFile files name limit) (IsTooLong files name limit) Then

@@ -1,5 +1,5 @@
 -- How a command may end that has what it reads: by the outcomes that it gives.
-use Rattle.std.specs.Prelude.{ℕ, ◌≡◌, ◌≢◌, List, Option, Result, Err, IsOk}
+use Rattle.std.specs.Prelude.{ℕ, ◌≡◌, ◌≢◌, ◌≤◌, List, Option, Result, Err, IsOk}
 use Rattle.std.specs.Io.KnownBytes.{Appends}
 use Rattle.lisa_io.specs.Causes.{Rose}
 use Rattle.lisa_io.specs.Contents.{AppendsFront}
@@ -13,6 +13,7 @@ pub record Replies {T : Type 0} (Gives : Outcome → Type 0) (before after : Opt
   pub done : IsOk result → (text : List ℕ) × Gives (Finished text) × Appends before after text
   pub refused : (refusal : Refusal) → result ≡ Err (ends.Refused refusal) → (text : List ℕ) × Gives (Refusing refusal text) × Appends before after text
   pub read : result ≢ Err ends.ReadFault
+  pub later : old ≤ new
   pub write : result ≡ Err ends.WriteFault → Rose old new
   -- whatever the end, no more was written than what the outcome has
   pub front : (outcome : Outcome) → Gives outcome → AppendsFront before after (written_of outcome)

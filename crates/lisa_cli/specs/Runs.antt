@@ -7,21 +7,26 @@ use Rattle.lisa_cli.specs.declared.status.Refusal.{Refusal}
 use Rattle.lisa_cli.specs.declared.status.Refusal.TheVariants as refusals
 use Rattle.lisa_cli.specs.declared.status.Status.{Status}
 use Rattle.lisa_cli.specs.declared.status.Status.TheVariants as statuses
-use Rattle.lisa_cli.specs.Requests.{Request, Run, Asks}
+use Rattle.lisa_cli.specs.Requests.{Request, Format, Run, Asks}
 use Rattle.lisa_cli.specs.Lines.{Line, line_text}
 use Rattle.lisa_cli.specs.DescriptionLines.{description_line}
 use Rattle.lisa_cli.specs.OwnLines.{file_line, later_line}
+use Rattle.lisa_cli.specs.ModuleLines.{verilog_line, image_line, schedule_line}
 use Rattle.lisa_cli.specs.Outcomes.{Outcome, Finished, Refusing, written_of, FileMap}
 use Rattle.lisa_cli.specs.Gives.{Gives}
 
--- one of the files that the request names failed
+-- the file that the request names failed
 abbrev pub Blames : Request → (List ℕ → ℕ) → (List ℕ → ℕ) → Type 0
+Blames (Format description) before now = Rose (before description) (now description)
 Blames (Run description edges) before now = Rose (before description) (now description)
 
 abbrev pub refusal_line : Refusal → Line
 refusal_line (refusals.File fault) = file_line fault
 refusal_line (refusals.Description fault) = description_line fault
 refusal_line (refusals.Later fault) = later_line fault
+refusal_line (refusals.Verilog fault) = verilog_line fault
+refusal_line (refusals.Image fault) = image_line fault
+refusal_line (refusals.Schedule fault) = schedule_line fault
 
 abbrev pub usage_text : List ℕ
 usage_text = codes "usage: lisa check|fmt|verilog|run|trace|clock|clocktrace|asm|link|dis|debug|vdebug|gen|soak ..\n"

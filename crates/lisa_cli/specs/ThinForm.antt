@@ -1,14 +1,15 @@
 -- Thin descriptions: one register, what it is at first, and what each edge adds to it.
-use Rattle.std.specs.Prelude.{ℕ, zero, suc, ◌<◌, ◌≤◌, ◌≡◌, ◌≢◌, ◌^◌, List, [], ◌∷◌, ◌++◌, codes}
+use Rattle.std.specs.Prelude.{ℕ, zero, suc, ◌+◌, ◌<◌, ◌≤◌, ◌≡◌, ◌≢◌, ◌^◌, false, List, [], ◌∷◌, None, codes}
 use Rattle.lisa_words.specs.declared.words.Kind.TheVariants.{Unsigned}
 use Rattle.lisa_words.specs.Words.{word_add}
 use Rattle.lisa_tree.specs.declared.tokens.Base.TheVariants as bases
-use Rattle.lisa_tree.specs.declared.tokens.Keyword.TheVariants as keywords
-use Rattle.lisa_tree.specs.declared.tokens.Sign.TheVariants as signs
-use Rattle.lisa_tree.specs.declared.tokens.Token.{Token}
-use Rattle.lisa_tree.specs.declared.tokens.TokenPart.TheVariants as parts
-use Rattle.lisa_tree.specs.Grammar.{Toks, mark}
-use Rattle.lisa_tree.specs.Tokens.{Lexes, toks}
+use Rattle.lisa_tree.specs.declared.expressions.Operator.TheVariants as operators
+use Rattle.lisa_tree.specs.declared.descriptions.RegisterWord.TheVariants as registers
+use Rattle.lisa_tree.specs.Expressions as expressions
+use Rattle.lisa_tree.specs.Statements as statements
+use Rattle.lisa_tree.specs.Statements.{StmtTree}
+use Rattle.lisa_tree.specs.Descriptions as descriptions
+use Rattle.lisa_tree.specs.Descriptions.{ResourceTree, SectionTree, OperationTree, DescriptionTree}
 use Rattle.lisa_engine.specs.State.{State}
 use Rattle.lisa_engine.specs.declared.parts.Item.{Item}
 
@@ -21,33 +22,31 @@ pub record Thin : Type 0 where
 abbrev pub thin_with : List ℕ → ℕ → ℕ → ℕ → Thin
 thin_with name width first step = record { name = name; width = width; first = first; step = step }
 
--- `RESOURCE { REGISTER uintN name; }`
-abbrev pub resource_tokens : Thin → Toks
-resource_tokens t = parts.Reserved keywords.Resource ∷ mark signs.OpenBrace ∷ parts.Reserved keywords.Register ∷ parts.TypeWord (record { kind = Unsigned; width = t.width })
-    ∷ parts.Named t.name ∷ mark signs.Semicolon ∷ mark signs.CloseBrace ∷ []
+-- `REGISTER uintN name;`
+abbrev pub register_tree : List ℕ → ℕ → ResourceTree
+register_tree name width = descriptions.Register registers.Register (record { kind = Unsigned; width = width }) name None
 
--- `OPERATION name { BEHAVIOR {`
-abbrev pub opening_tokens : List ℕ → Toks
-opening_tokens name = parts.Reserved keywords.Operation ∷ parts.Named name ∷ mark signs.OpenBrace ∷ parts.Reserved keywords.Behavior ∷ mark signs.OpenBrace ∷ []
+-- `name = value;`
+abbrev pub assigns : List ℕ → ℕ → StmtTree
+assigns name value = statements.Assign (expressions.Named name) (expressions.Number value bases.Decimal)
 
--- `name = name +`
-abbrev pub sum_tokens : List ℕ → Toks
-sum_tokens name = parts.Named name ∷ mark signs.Equal ∷ parts.Named name ∷ mark signs.Plus ∷ []
+-- `name = name + value;`
+abbrev pub adds : List ℕ → ℕ → StmtTree
+adds name value = statements.Assign (expressions.Named name) (expressions.Two operators.Add (expressions.Named name) (expressions.Number value bases.Decimal))
 
--- `number; } }`
-abbrev pub number_tokens : ℕ → Toks
-number_tokens value = parts.Number value bases.Decimal ∷ mark signs.Semicolon ∷ mark signs.CloseBrace ∷ mark signs.CloseBrace ∷ []
+-- `{ statement }`, behind BEHAVIOR
+abbrev pub behaves : StmtTree → List SectionTree
+behaves statement = descriptions.Behavior (statements.Then statement statements.End) ∷ []
 
--- `OPERATION reset { BEHAVIOR { name = first; } }`
-abbrev pub reset_tokens : Thin → Toks
-reset_tokens t = opening_tokens (codes "reset") ++ (parts.Named t.name ∷ mark signs.Equal ∷ number_tokens t.first)
+-- `OPERATION name { BEHAVIOR { statement } }`
+abbrev pub operation_with : List ℕ → StmtTree → OperationTree
+operation_with name statement = record { name = name; alias = false; stage = None; sections = behaves statement }
 
--- `OPERATION main { BEHAVIOR { name = name + step; } }`
-abbrev pub main_tokens : Thin → Toks
-main_tokens t = opening_tokens (codes "main") ++ (sum_tokens t.name ++ number_tokens t.step)
+abbrev pub thin_operations : List ℕ → ℕ → ℕ → List OperationTree
+thin_operations name first step = operation_with (codes "reset") (assigns name first) ∷ operation_with (codes "main") (adds name step) ∷ []
 
-abbrev pub thin_tokens : Thin → Toks
-thin_tokens t = resource_tokens t ++ (reset_tokens t ++ main_tokens t)
+abbrev pub thin_tree : Thin → DescriptionTree
+thin_tree t = record { resources = register_tree t.name t.width ∷ []; operations = thin_operations t.name t.first t.step }
 
 -- the numbers fit the register, which has no operation's name
 pub record IsFit (t : Thin) : Type 0 where
@@ -58,16 +57,10 @@ pub record IsFit (t : Thin) : Type 0 where
   pub no_reset : t.name ≢ codes "reset"
   pub no_main : t.name ≢ codes "main"
 
--- the tokens are those of this thin description
-pub record IsThin (ts : Toks) (t : Thin) : Type 0 where
-  pub form : ts ≡ thin_tokens t
+-- the description is this thin one
+pub record IsThin (d : DescriptionTree) (t : Thin) : Type 0 where
+  pub form : d ≡ thin_tree t
   pub fit : IsFit t
-
--- the bytes are blanks, comments and the tokens of this thin description
-pub record SpellsThin (bytes : List ℕ) (t : Thin) : Type 0 where
-  pub tokens : List Token
-  pub lexes : Lexes 0 bytes tokens
-  pub thin : IsThin (toks tokens) t
 
 -- the register after n edges
 abbrev pub thin_value : Thin → ℕ → ℕ

@@ -1,5 +1,5 @@
 -- A command that only writes a text.
-use Rattle.std.specs.Prelude.{ℕ, ◌≡◌, ◌≢◌, List, Option, Result, Err, OnOk}
+use Rattle.std.specs.Prelude.{ℕ, ◌≡◌, ◌≢◌, ◌≤◌, List, Option, Result, Err, OnOk}
 use Rattle.std.specs.Io.KnownBytes.{Appends}
 use Rattle.lisa_io.specs.Causes.{Rose}
 use Rattle.lisa_io.specs.Contents.{AppendsFront}
@@ -10,6 +10,7 @@ use Rattle.lisa_cli.specs.declared.status.Refusal.{Refusal}
 pub record Writes {T : Type 0} (before after : Option (List ℕ)) (old new : ℕ) (result : Result T End) (text : List ℕ) : Type 0 where
   pub all : OnOk result (Appends before after text)
   pub front : AppendsFront before after text
+  pub later : old ≤ new
   pub write : result ≡ Err ends.WriteFault → Rose old new
   pub read : result ≢ Err ends.ReadFault
   pub refused : (refusal : Refusal) → result ≢ Err (ends.Refused refusal)

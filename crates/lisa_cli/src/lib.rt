@@ -2,11 +2,15 @@
 #![tactic(auto)]
 
 mod commands;
+mod fault_lines;
 mod lines;
 mod loading;
+mod module_lines;
 mod parts;
+mod reading;
 mod requests;
 mod running;
+mod sending;
 mod simulator;
 mod status;
 mod telling;

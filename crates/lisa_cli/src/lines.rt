@@ -1,16 +1,14 @@
 //! The line that a refusal has on the second stream.
 ghost use Rattle.std.specs.Prelude.{◌≡◌, ◌++◌, ◌∷◌, [], codes};
 ghost use Rattle.lisa_io.specs.Contents.{Puts};
-ghost use Rattle.lisa_cli.specs.Lines.{line_text, fields_text, field_text, value_text, line, name, text, number, word};
+ghost use Rattle.lisa_cli.specs.Lines.{line_text, fields_text, field_text, value_text, line, name, text, number, word, digest};
 ghost use Rattle.lisa_cli.specs.LineViews.{line_of, fields_of, field_of, value_of};
 ghost use Rattle.std.specs.Prelude.{false, decimal as decimal_digits};
-ghost use Rattle.std.specs.Fmt.{digits as hex_digits};
-ghost use Rattle.lisa_cli.specs.DescriptionLines.{description_line};
-ghost use Rattle.lisa_cli.specs.OwnLines.{file_line, later_line};
+ghost use Rattle.std.specs.Prelude.{◌<◌};
+ghost use Rattle.std.specs.Fmt.{digits as hex_digits, digit_glyph};
+ghost use Rattle.lisa_object.specs.Texts.{byte_digits, digest_digits};
 
-use crate::status::{FileFault, LaterFault};
 use lisa_io::{Failed, Sink, put_all};
-use lisa_tree::DescFault;
 use lisa_words::{decimal, hex};
 
 /// How a field of a fault is written.
@@ -20,6 +18,7 @@ pub enum Value<'a> {
     Quoted(&'a [u8]),
     Decimal(u64),
     Hexadecimal(u64),
+    Digest(&'a [u8]),
 }
 
 /// A field of a fault with its label.
@@ -38,7 +37,8 @@ pub struct Line<'a> {
     pub third: Option<Field<'a>>,
 }
 
-fn name_field<'a>(label: &'a [u8], value: &'a [u8]) -> Field<'a>
+/// A field with a name.
+pub fn name_field<'a>(label: &'a [u8], value: &'a [u8]) -> Field<'a>
     ensures { field_of result ≡ name label.now value.now }
 {
     Field {
@@ -47,7 +47,8 @@ fn name_field<'a>(label: &'a [u8], value: &'a [u8]) -> Field<'a>
     }
 }
 
-fn text_field<'a>(label: &'a [u8], value: &'a [u8]) -> Field<'a>
+/// A field with a text in double quotes.
+pub fn text_field<'a>(label: &'a [u8], value: &'a [u8]) -> Field<'a>
     ensures { field_of result ≡ text label.now value.now }
 {
     Field {
@@ -56,7 +57,8 @@ fn text_field<'a>(label: &'a [u8], value: &'a [u8]) -> Field<'a>
     }
 }
 
-fn number_field(label: &[u8], value: u64) -> Field<'_>
+/// A field with a decimal number.
+pub fn number_field(label: &[u8], value: u64) -> Field<'_>
     ensures { field_of result ≡ number label.now value }
 {
     Field {
@@ -65,7 +67,8 @@ fn number_field(label: &[u8], value: u64) -> Field<'_>
     }
 }
 
-fn word_field(label: &[u8], value: u64) -> Field<'_>
+/// A field with a word in hexadecimal.
+pub fn word_field(label: &[u8], value: u64) -> Field<'_>
     ensures { field_of result ≡ word label.now value }
 {
     Field {
@@ -74,7 +77,18 @@ fn word_field(label: &[u8], value: u64) -> Field<'_>
     }
 }
 
-fn line0(head: &[u8]) -> Line<'_>
+/// A field with a digest.
+pub fn digest_field<'a>(label: &'a [u8], bytes: &'a [u8]) -> Field<'a>
+    ensures { field_of result ≡ digest label.now bytes.now }
+{
+    Field {
+        label,
+        value: Value::Digest(bytes),
+    }
+}
+
+/// A line without fields.
+pub fn line0(head: &[u8]) -> Line<'_>
     ensures { line_of result ≡ line head.now [] }
 {
     Line {
@@ -85,7 +99,8 @@ fn line0(head: &[u8]) -> Line<'_>
     }
 }
 
-fn line1<'a>(head: &'a [u8], first: Field<'a>) -> Line<'a>
+/// A line of one field.
+pub fn line1<'a>(head: &'a [u8], first: Field<'a>) -> Line<'a>
     ensures { line_of result ≡ line head.now (field_of first.entry ∷ []) }
 {
     Line {
@@ -96,7 +111,8 @@ fn line1<'a>(head: &'a [u8], first: Field<'a>) -> Line<'a>
     }
 }
 
-fn line2<'a>(head: &'a [u8], first: Field<'a>, second: Field<'a>) -> Line<'a>
+/// A line of two fields.
+pub fn line2<'a>(head: &'a [u8], first: Field<'a>, second: Field<'a>) -> Line<'a>
     ensures { line_of result ≡ line head.now (field_of first.entry ∷ field_of second.entry ∷ []) }
 {
     Line {
@@ -107,7 +123,8 @@ fn line2<'a>(head: &'a [u8], first: Field<'a>, second: Field<'a>) -> Line<'a>
     }
 }
 
-fn line3<'a>(head: &'a [u8], first: Field<'a>, second: Field<'a>, third: Field<'a>) -> Line<'a>
+/// A line of three fields.
+pub fn line3<'a>(head: &'a [u8], first: Field<'a>, second: Field<'a>, third: Field<'a>) -> Line<'a>
     ensures { line_of result ≡ line head.now (field_of first.entry ∷ field_of second.entry ∷ field_of third.entry ∷ []) }
 {
     Line {
@@ -115,167 +132,6 @@ fn line3<'a>(head: &'a [u8], first: Field<'a>, second: Field<'a>, third: Field<'
         first: Some(first),
         second: Some(second),
         third: Some(third),
-    }
-}
-
-/// The line of a description's fault.
-pub fn description_line(fault: &DescFault) -> Line<'_>
-    ensures { line_of result ≡ description_line fault.now }
-{
-    match fault {
-        DescFault::BadByte { at } => line1(
-            b"description 1 BadByte",
-            number_field(b"at", *at as u64),
-        ),
-        DescFault::NumberTooWide { at } => line1(
-            b"description 2 NumberTooWide",
-            number_field(b"at", *at as u64),
-        ),
-        DescFault::NameTooLong { at } => line1(
-            b"description 3 NameTooLong",
-            number_field(b"at", *at as u64),
-        ),
-        DescFault::TooDeep { at } => line1(
-            b"description 4 TooDeep",
-            number_field(b"at", *at as u64),
-        ),
-        DescFault::NotADescription { at } => line1(
-            b"description 5 NotADescription",
-            number_field(b"at", *at as u64),
-        ),
-        DescFault::Duplicate { name } => line1(
-            b"description 6 Duplicate",
-            name_field(b"name", name.as_bytes()),
-        ),
-        DescFault::Unknown { operation, name } => line2(
-            b"description 7 Unknown",
-            name_field(b"operation", operation.as_bytes()),
-            name_field(b"name", name.as_bytes()),
-        ),
-        DescFault::WrongKind { operation, name } => line2(
-            b"description 8 WrongKind",
-            name_field(b"operation", operation.as_bytes()),
-            name_field(b"name", name.as_bytes()),
-        ),
-        DescFault::BadWidth { name, width } => line2(
-            b"description 9 BadWidth",
-            name_field(b"name", name.as_bytes()),
-            number_field(b"width", *width as u64),
-        ),
-        DescFault::BadDepth { name, depth } => line2(
-            b"description 10 BadDepth",
-            name_field(b"name", name.as_bytes()),
-            number_field(b"depth", *depth),
-        ),
-        DescFault::Narrowing {
-            operation,
-            from,
-            to,
-        } => line3(
-            b"description 11 Narrowing",
-            name_field(b"operation", operation.as_bytes()),
-            number_field(b"from", *from as u64),
-            number_field(b"to", *to as u64),
-        ),
-        DescFault::LoopWithoutBound { operation } => line1(
-            b"description 12 LoopWithoutBound",
-            name_field(b"operation", operation.as_bytes()),
-        ),
-        DescFault::LoopTooLong { operation, turns } => line2(
-            b"description 13 LoopTooLong",
-            name_field(b"operation", operation.as_bytes()),
-            number_field(b"turns", *turns),
-        ),
-        DescFault::Circular { operation } => line1(
-            b"description 14 Circular",
-            name_field(b"operation", operation.as_bytes()),
-        ),
-        DescFault::Backward {
-            activator,
-            activated,
-        } => line2(
-            b"description 15 Backward",
-            name_field(b"activator", activator.as_bytes()),
-            name_field(b"activated", activated.as_bytes()),
-        ),
-        DescFault::Control { operation, stage } => line2(
-            b"description 16 Control",
-            name_field(b"operation", operation.as_bytes()),
-            name_field(b"stage", stage.as_bytes()),
-        ),
-        DescFault::BadMain {} => line0(b"description 17 BadMain"),
-        DescFault::BadReset {} => line0(b"description 18 BadReset"),
-        DescFault::GroupWidth { operation, name } => line2(
-            b"description 19 GroupWidth",
-            name_field(b"operation", operation.as_bytes()),
-            name_field(b"name", name.as_bytes()),
-        ),
-        DescFault::NotWritten { operation, name } => line2(
-            b"description 20 NotWritten",
-            name_field(b"operation", operation.as_bytes()),
-            name_field(b"name", name.as_bytes()),
-        ),
-        DescFault::RootTwice { operation } => line1(
-            b"description 21 RootTwice",
-            name_field(b"operation", operation.as_bytes()),
-        ),
-        DescFault::TooMany { what, count, limit } => line3(
-            b"description 22 TooMany",
-            name_field(b"what", what.as_bytes()),
-            number_field(b"count", *count),
-            number_field(b"limit", *limit),
-        ),
-        DescFault::BadText { form } => line1(
-            b"description 23 BadText",
-            name_field(b"form", form.as_bytes()),
-        ),
-        DescFault::Overlap {
-            first,
-            second,
-            word,
-        } => line3(
-            b"description 24 Overlap",
-            name_field(b"first", first.as_bytes()),
-            name_field(b"second", second.as_bytes()),
-            word_field(b"word", *word),
-        ),
-        DescFault::Ambiguous {
-            first,
-            second,
-            text,
-        } => line3(
-            b"description 25 Ambiguous",
-            name_field(b"first", first.as_bytes()),
-            name_field(b"second", second.as_bytes()),
-            text_field(b"text", text.as_bytes()),
-        ),
-        DescFault::NotAnAlias { form } => line1(
-            b"description 26 NotAnAlias",
-            name_field(b"form", form.as_bytes()),
-        ),
-        DescFault::NoMemory => line0(b""),
-    }
-}
-
-/// The line of a fault of a file.
-pub fn file_line(fault: &FileFault) -> Line<'_>
-    ensures { line_of result ≡ file_line fault.now }
-{
-    match fault {
-        FileFault::TooLong { name } => {
-            line1(b"file 1 TooLong", name_field(b"name", name.as_bytes()))
-        }
-        FileFault::NoMemory => line0(b""),
-    }
-}
-
-/// The line of what isn't built yet.
-pub fn later_line(fault: &LaterFault) -> Line<'_>
-    ensures { line_of result ≡ later_line fault.now }
-{
-    match fault {
-        LaterFault::NotBuilt {} => line0(b"later 1 NotBuilt"),
-        LaterFault::NoMemory => line0(b""),
     }
 }
 
@@ -288,6 +144,7 @@ fn put_value<E: Sink>(err: &mut E, value: &Value<'_>) -> Result<(), Failed>
         Value::Quoted(text) => put_quoted(err, text),
         Value::Decimal(value) => put_decimal(err, *value),
         Value::Hexadecimal(value) => put_word(err, *value),
+        Value::Digest(bytes) => put_digest(err, bytes),
     }
 }
 
@@ -314,6 +171,31 @@ fn put_word<E: Sink>(err: &mut E, value: u64) -> Result<(), Failed>
     let count = hex(value, &mut digits);
     put_all(err, b"0x")?;
     put_all(err, &digits[..count])
+}
+
+// The character of a digit below 16.
+fn glyph(digit: u8) -> u8
+    requires { digit < 16 }
+    ensures { result ≡ digit_glyph false digit }
+{
+    if digit < 10 { 48 + digit } else { 87 + digit }
+}
+
+// Two digits of a byte.
+fn put_byte<E: Sink>(err: &mut E, byte: u8) -> Result<(), Failed>
+    ensures { Puts (E.written err.old) (E.written err.new) (E.faults err.old) (E.faults err.new) result (byte_digits byte) }
+{
+    put_all(err, &[glyph(byte / 16), glyph(byte % 16)])
+}
+
+// The digits of a digest.
+fn put_digest<E: Sink>(err: &mut E, bytes: &[u8]) -> Result<(), Failed>
+    ensures { Puts (E.written err.old) (E.written err.new) (E.faults err.old) (E.faults err.new) result (digest_digits bytes.now) }
+{
+    for place in 0..bytes.len() {
+        put_byte(err, bytes[place])?;
+    }
+    Ok(())
 }
 
 // A field, where there is one.

@@ -1,9 +1,19 @@
 //! The words of the command line.
-ghost use Rattle.std.specs.Prelude.{◌≡◌, ◌≤◌, ◌↔◌, ◌∷◌, [], Some, IsTrue, IfSome, codes, map, string_bytes, decimal};
+ghost use Rattle.std.specs.Prelude.{◌≡◌, ◌≤◌, ◌<◌, ◌^◌, ◌↔◌, ◌∷◌, [], Some, IsTrue, IfSome, codes, map, string_bytes, decimal};
 ghost use Rattle.std.specs.Option.{option_map};
-ghost use Rattle.lisa_cli.specs.Requests.{Request, Run, Asks, IsFileName};
+ghost use Rattle.lisa_cli.specs.Requests.{Request, Asks, IsFileName};
+ghost use Rattle.lisa_cli.specs.Asked.{request_of};
 
 use lisa_words::canonical_decimal;
+
+/// What the words ask for: a command with its file and numbers.
+#[derive(Clone, Copy, Debug)]
+pub enum Command<'a> {
+    /// `fmt DESC`
+    Format { description: &'a str },
+    /// `run DESC - - N`
+    Run { description: &'a str, edges: u32 },
+}
 
 // A word that names a file.
 fn file_name(word: &str) -> Option<&str>
@@ -38,15 +48,27 @@ fn edge_count(word: &str, limit: u32) -> Option<u32>
     Some(count as u32)
 }
 
-// The description and the edges of the four operands of `run`.
+// The operands of `fmt`.
+fn format_command(operands: &[String]) -> Option<Command<'_>>
+    ensures found { IfSome result (λ c. Asks (codes "fmt" ∷ map string_bytes operands.now) (request_of c)) }
+    ensures only { (r : Request) → Asks (codes "fmt" ∷ map string_bytes operands.now) r → option_map request_of result ≡ Some r }
+{
+    let [description] = operands else {
+        return None;
+    };
+    let description = file_name(description.as_str())?;
+    Some(Command::Format { description })
+}
+
+// The four operands of `run`.
 fn run_of<'a>(
     description: &'a str,
-    image: &str,
-    schedule: &str,
+    image: &'a str,
+    schedule: &'a str,
     edges: &str,
-) -> Option<(&'a str, u32)>
-    ensures found { IfSome result (λ r. Asks (codes "run" ∷ description.now ∷ image.now ∷ schedule.now ∷ edges.now ∷ []) (Run r.0.now r.1)) }
-    ensures only { (q : Request) → Asks (codes "run" ∷ description.now ∷ image.now ∷ schedule.now ∷ edges.now ∷ []) q → option_map (λ r. Run r.0.now r.1) result ≡ Some q }
+) -> Option<Command<'a>>
+    ensures found { IfSome result (λ c. Asks (codes "run" ∷ description.now ∷ image.now ∷ schedule.now ∷ edges.now ∷ []) (request_of c)) }
+    ensures only { (r : Request) → Asks (codes "run" ∷ description.now ∷ image.now ∷ schedule.now ∷ edges.now ∷ []) r → option_map request_of result ≡ Some r }
 {
     let description = file_name(description)?;
     if !is_absent(image) {
@@ -56,35 +78,36 @@ fn run_of<'a>(
         return None;
     }
     let edges = edge_count(edges, 1_000_000)?;
-    Some((description, edges))
+    Some(Command::Run { description, edges })
 }
 
-// The description and the edges of the operands of `run`.
-fn run_operands(operands: &[String]) -> Option<(&str, u32)>
-    ensures found { IfSome result (λ r. Asks (codes "run" ∷ map string_bytes operands.now) (Run r.0.now r.1)) }
-    ensures only { (q : Request) → Asks (codes "run" ∷ map string_bytes operands.now) q → option_map (λ r. Run r.0.now r.1) result ≡ Some q }
+// The operands of `run`.
+fn run_command(operands: &[String]) -> Option<Command<'_>>
+    ensures found { IfSome result (λ c. Asks (codes "run" ∷ map string_bytes operands.now) (request_of c)) }
+    ensures only { (r : Request) → Asks (codes "run" ∷ map string_bytes operands.now) r → option_map request_of result ≡ Some r }
 {
-    let [description, image, schedule, edges] = operands else {
+    let [first, image, schedule, edges] = operands else {
         return None;
     };
     run_of(
-        description.as_str(),
+        first.as_str(),
         image.as_str(),
         schedule.as_str(),
         edges.as_str(),
     )
 }
 
-/// The description and the edges of `run DESC - - N`, where the words are these.
-pub fn run_request(words: &[String]) -> Option<(&str, u32)>
-    ensures found { IfSome result (λ r. Asks (map string_bytes words.now) (Run r.0.now r.1)) }
-    ensures only { (q : Request) → Asks (map string_bytes words.now) q → option_map (λ r. Run r.0.now r.1) result ≡ Some q }
+/// What the words ask for, where they ask for something.
+pub fn request(words: &[String]) -> Option<Command<'_>>
+    ensures found { IfSome result (λ c. Asks (map string_bytes words.now) (request_of c)) }
+    ensures only { (r : Request) → Asks (map string_bytes words.now) r → option_map request_of result ≡ Some r }
 {
     let [command, operands @ ..] = words else {
         return None;
     };
     match command.as_str() {
-        "run" => run_operands(operands),
+        "fmt" => format_command(operands),
+        "run" => run_command(operands),
         _ => None,
     }
 }

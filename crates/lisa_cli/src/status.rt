@@ -1,7 +1,10 @@
 //! How a run ends.
 
+use lisa_engine::ScheduleFault;
+use lisa_object::ImageFault;
 use lisa_tree::DescFault;
 use lisa_words::{Name, NoMemory};
+use verilog_text::VerilogFault;
 
 /// What may be wrong with a file as a whole.
 #[derive(Debug, PartialEq, Eq, Drop)]
@@ -22,15 +25,18 @@ pub enum LaterFault {
 }
 
 /// Why a run is refused, by area. A refusal never holds a fault's variant for want of memory.
-#[derive(Debug, PartialEq, Eq, Drop)]
+#[derive(Debug, Drop)]
 pub enum Refusal {
     File(FileFault),
     Description(DescFault),
+    Verilog(VerilogFault),
+    Image(ImageFault),
+    Schedule(ScheduleFault),
     Later(LaterFault),
 }
 
 /// How a run ended. The program exits with 0 to 5, in this order.
-#[derive(Debug, PartialEq, Eq, Drop)]
+#[derive(Debug, Drop)]
 pub enum Status {
     Done,
     Refused(Refusal),
@@ -42,7 +48,7 @@ pub enum Status {
 }
 
 /// How a command ended that isn't done.
-#[derive(Debug, PartialEq, Eq, Drop)]
+#[derive(Debug, Drop)]
 pub enum End {
     Refused(Refusal),
     ReadFault,

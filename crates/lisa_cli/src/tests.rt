@@ -7,6 +7,11 @@ use std::test::Fail;
 const COUNTER: &[u8] =
     b"// counts\nRESOURCE { REGISTER uint8 n; }\nOPERATION reset { BEHAVIOR { n = 5; } }\nOPERATION main { BEHAVIOR { n = n + 1; } }\n";
 
+const DOUBLER: &[u8] = b"RESOURCE{REGISTER uint8 n;}OPERATION main{BEHAVIOR{n=(n+1)*2;}}";
+
+const DOUBLER_TEXT: &[u8] =
+    b"RESOURCE {\n  REGISTER uint8 n;\n}\nOPERATION main {\n  BEHAVIOR {\n    n = (n + 1) * 2;\n  }\n}\n";
+
 fn words(alloc: Global, texts: &[&str]) -> Result<Vec<String>, Fail> {
     let mut all = Vec::new(alloc);
     for text in texts {
@@ -22,49 +27,35 @@ fn files(alloc: Global, bytes: &[u8]) -> Result<MemFiles, Fail> {
 }
 
 fn sink(alloc: Global, failing: &[u64]) -> Result<MemSink, Fail> {
-    Ok(MemSink::new(vec![in alloc; 0; 200]?, 3, failing.to_vec(alloc)?))
+    Ok(MemSink::new(vec![in alloc; 0; 400]?, 3, failing.to_vec(alloc)?))
 }
 
 #[test]
-fn a_counter_runs_and_the_rest_is_told(rt: HostRuntime) -> Result<(), Fail> {
+fn commands_print_or_tell(rt: HostRuntime) -> Result<(), Fail> {
     let alloc = rt.alloc();
+    let run: &[&str] = &["run", "A", "-", "-", "257"];
+    let missing: &[&str] = &["run", "G", "-", "-", "3"];
+    let format: &[&str] = &["fmt", "A"];
+    let none = b"".as_slice();
     let cases = [
+        (run, COUNTER, b"edge 257\nn 0x6\n".as_slice(), none),
+        (run, DOUBLER, none, b"lisa: later 1 NotBuilt\n".as_slice()),
+        (missing, COUNTER, none, b"lisa: read fault\n".as_slice()),
+        (format, DOUBLER, DOUBLER_TEXT, none),
         (
-            "A",
-            "3",
-            COUNTER,
-            b"edge 3\nn 0x8\n".as_slice(),
-            b"".as_slice(),
-        ),
-        (
-            "A",
-            "257",
-            COUNTER,
-            b"edge 257\nn 0x6\n".as_slice(),
-            b"".as_slice(),
-        ),
-        (
-            "A",
-            "3",
-            b"n = n * 2;".as_slice(),
-            b"".as_slice(),
-            b"lisa: later 1 NotBuilt\n".as_slice(),
-        ),
-        (
-            "G",
-            "3",
-            COUNTER,
-            b"".as_slice(),
-            b"lisa: read fault\n".as_slice(),
+            format,
+            b"@".as_slice(),
+            none,
+            b"lisa: description 1 BadByte at=0\n".as_slice(),
         ),
     ];
-    for (name, edges, bytes, printed, said) in cases {
+    for (asked, bytes, printed, said) in cases {
         let mut out = sink(alloc, &[])?;
         let mut err = sink(alloc, &[])?;
         let mut input = MemSource::new(Vec::new(alloc), Vec::new(alloc));
         let _ = lisa(
             alloc,
-            &words(alloc, &["run", name, "-", "-", edges])?,
+            &words(alloc, asked)?,
             &mut files(alloc, bytes)?,
             &mut input,
             &mut out,
@@ -90,7 +81,7 @@ fn a_failed_write_is_told_by_the_status(rt: HostRuntime) -> Result<(), Fail> {
         &mut out,
         &mut err,
     );
-    assert_eq!(rt; status, Status::WriteFault);
+    assert!(rt; matches!(status, Status::WriteFault));
     assert_eq!(rt; out.bytes(), b"".as_slice());
     assert_eq!(rt; err.bytes(), b"".as_slice());
     Ok(())

@@ -1,16 +1,158 @@
 //! Thin descriptions: one register, its first value, and what each edge adds to it.
-ghost use Rattle.std.specs.Prelude.{◌≡◌, ◌≤◌, ◌<◌, ◌^◌, ◌++◌, ◌↔◌, ◌≢◌, ℕ, List, Some, IsTrue, IfSome, IfOk, OnOk, codes, map, option_map, slice_get, length, drop};
-ghost use Rattle.lisa_words.specs.declared.words.Kind.TheVariants.{Unsigned};
-ghost use Rattle.lisa_tree.specs.declared.tokens.TokenPart.TheVariants as parts;
-ghost use Rattle.lisa_tree.specs.Tokens.{toks};
+ghost use Rattle.std.specs.Prelude.{◌≡◌, ◌≤◌, ◌<◌, ◌^◌, ◌∷◌, [], ℕ, List, ◌↔◌, ◌≢◌, Some, IsTrue, IfSome, codes, map, option_map};
+ghost use Rattle.lisa_tree.specs.Expressions.{expr_tree};
+ghost use Rattle.lisa_tree.specs.Expressions as expressions;
+ghost use Rattle.lisa_tree.specs.declared.tokens.Base.TheVariants as bases;
+ghost use Rattle.lisa_tree.specs.Statements as trees;
+ghost use Rattle.lisa_tree.specs.Statements.{StmtTree, stmt_tree, stmt_trees};
+ghost use Rattle.lisa_tree.specs.Descriptions.{resource_tree, section_tree, operation_tree, description_tree};
 ghost use Rattle.lisa_cli.specs.ThinView.{thin_of};
-ghost use Rattle.lisa_cli.specs.ThinForm.{Thin, IsThin, IsFit, thin_with, resource_tokens, reset_tokens, main_tokens, opening_tokens, sum_tokens, number_tokens, thin_tokens};
-ghost use Rattle.lisa_cli.specs.Candidates.{name_of, width_of, number_of, candidate_of};
+ghost use Rattle.lisa_cli.specs.ThinForm.{register_tree, Thin, IsThin, IsFit, thin_with, register_tree, behaves, operation_with, thin_operations, assigns, adds};
 
 use crate::parts::ThinParts;
-use lisa_tree::{Base, Keyword, Shape, Sign, Token, TokenPart};
-use lisa_words::{Kind, Name, NoMemory, Word, cut};
-use std::alloc::Global;
+use lisa_tree::{
+    Base, Description, Expr, Operation, Operator, RegisterWord, Resource, Section, Stmt,
+};
+use lisa_words::{Kind, Name, Word, cut};
+
+// The one register of a thin description's resources, with its width.
+fn register(resources: &[Resource]) -> Option<(&Name, u32)>
+    ensures found { IfSome result (λ r. map resource_tree resources.now ≡ register_tree r.0.now r.1 ∷ []) }
+    ensures only { (name : List ℕ) (width : ℕ) → map resource_tree resources.now ≡ register_tree name width ∷ [] → option_map {U = List ℕ × ℕ} (λ r. (r.0.now, r.1)) result ≡ Some (name, width) }
+{
+    let [Resource::Register(RegisterWord::Register, shape, name, None)] = resources else {
+        return None;
+    };
+    if shape.kind != Kind::Unsigned {
+        return None;
+    }
+    Some((name, shape.width))
+}
+
+// The one statement there is.
+#[tactic(auto, using(crate::proofs::SingleStatements::one_long))]
+fn single(all: &[Stmt]) -> Option<&Stmt>
+    ensures found { IfSome result (λ s. stmt_trees all.now ≡ trees.Then (stmt_tree s.now) trees.End) }
+    ensures only { (s : StmtTree) → stmt_trees all.now ≡ trees.Then s trees.End → option_map (λ s. stmt_tree s.now) result ≡ Some s }
+{
+    if all.len() != 1 {
+        return None;
+    }
+    all.first()
+}
+
+// The one statement of a behaviour that is all there is.
+fn only_statement(sections: &[Section]) -> Option<&Stmt>
+    ensures found { IfSome result (λ s. map section_tree sections.now ≡ behaves (stmt_tree s.now)) }
+    ensures only { (s : StmtTree) → map section_tree sections.now ≡ behaves s → option_map (λ s. stmt_tree s.now) result ≡ Some s }
+{
+    let [Section::Behavior(statements)] = sections else {
+        return None;
+    };
+    single(statements.as_slice())
+}
+
+// The one statement of an operation of this name that has a behaviour alone.
+fn statement<'a>(operation: &'a Operation, name: &[u8]) -> Option<&'a Stmt>
+    ensures found { IfSome result (λ s. operation_tree operation.now ≡ operation_with name.now (stmt_tree s.now)) }
+    ensures only { (s : StmtTree) → operation_tree operation.now ≡ operation_with name.now s → option_map (λ s. stmt_tree s.now) result ≡ Some s }
+{
+    if operation.alias {
+        return None;
+    }
+    if operation.stage.is_some() {
+        return None;
+    }
+    if operation.name.as_bytes() != name {
+        return None;
+    }
+    only_statement(operation.sections.as_slice())
+}
+
+// The number of `name = number;`.
+fn assigned(statement: &Stmt, name: &[u8]) -> Option<u64>
+    ensures found { IfSome result (λ n. stmt_tree statement.now ≡ assigns name.now n) }
+    ensures only { (n : ℕ) → stmt_tree statement.now ≡ assigns name.now n → result ≡ Some n }
+{
+    let Stmt::Assign(Expr::Named(place), Expr::Number(value, Base::Decimal)) = statement else {
+        return None;
+    };
+    if place.as_bytes() != name {
+        return None;
+    }
+    Some(*value)
+}
+
+// The number of `name = name + number;`.
+fn added(statement: &Stmt, name: &[u8]) -> Option<u64>
+    ensures found { IfSome result (λ n. stmt_tree statement.now ≡ adds name.now n) }
+    ensures only { (n : ℕ) → stmt_tree statement.now ≡ adds name.now n → result ≡ Some n }
+{
+    let Stmt::Assign(Expr::Named(place), Expr::Two(Operator::Add, left, right)) = statement else {
+        return None;
+    };
+    if place.as_bytes() != name {
+        return None;
+    }
+    sum_with(left, right, name)
+}
+
+// The number that stands beside the name.
+fn sum_with(left: &Expr, right: &Expr, name: &[u8]) -> Option<u64>
+    ensures found { IfSome result (λ n. (expr_tree left.now ≡ expressions.Named name.now) × (expr_tree right.now ≡ expressions.Number n bases.Decimal)) }
+    ensures only { (n : ℕ) → expr_tree left.now ≡ expressions.Named name.now → expr_tree right.now ≡ expressions.Number n bases.Decimal → result ≡ Some n }
+{
+    let Expr::Named(own) = left else {
+        return None;
+    };
+    let Expr::Number(value, Base::Decimal) = right else {
+        return None;
+    };
+    if own.as_bytes() != name {
+        return None;
+    }
+    Some(*value)
+}
+
+// What `reset` gives the register.
+fn first_value(operation: &Operation, name: &[u8]) -> Option<u64>
+    ensures found { IfSome result (λ n. operation_tree operation.now ≡ operation_with (codes "reset") (assigns name.now n)) }
+    ensures only { (n : ℕ) → operation_tree operation.now ≡ operation_with (codes "reset") (assigns name.now n) → result ≡ Some n }
+{
+    let statement = statement(operation, b"reset")?;
+    assigned(statement, name)
+}
+
+// What `main` adds to the register.
+fn step_value(operation: &Operation, name: &[u8]) -> Option<u64>
+    ensures found { IfSome result (λ n. operation_tree operation.now ≡ operation_with (codes "main") (adds name.now n)) }
+    ensures only { (n : ℕ) → operation_tree operation.now ≡ operation_with (codes "main") (adds name.now n) → result ≡ Some n }
+{
+    let statement = statement(operation, b"main")?;
+    added(statement, name)
+}
+
+// The first value and the step of `reset` and `main`.
+fn pair_numbers(reset: &Operation, main: &Operation, name: &[u8]) -> Option<(u64, u64)>
+    ensures found { IfSome result (λ n. (operation_tree reset.now ≡ operation_with (codes "reset") (assigns name.now n.0)) × (operation_tree main.now ≡ operation_with (codes "main") (adds name.now n.1))) }
+    ensures only { (first step : ℕ) → operation_tree reset.now ≡ operation_with (codes "reset") (assigns name.now first)
+        → operation_tree main.now ≡ operation_with (codes "main") (adds name.now step) → result ≡ Some (first, step) }
+{
+    let first = first_value(reset, name)?;
+    let step = step_value(main, name)?;
+    Some((first, step))
+}
+
+// The first value and the step of the two operations.
+fn numbers(operations: &[Operation], name: &[u8]) -> Option<(u64, u64)>
+    ensures found { IfSome result (λ n. map operation_tree operations.now ≡ thin_operations name.now n.0 n.1) }
+    ensures only { (first step : ℕ) → map operation_tree operations.now ≡ thin_operations name.now first step → result ≡ Some (first, step) }
+{
+    match operations {
+        [reset, main] => pair_numbers(reset, main, name),
+        _ => None,
+    }
+}
 
 // Whether a value fits a width.
 #[tactic(auto, using(crate::proofs::Fitting::kept_fits, crate::proofs::Fitting::fit_is_kept))]
@@ -35,7 +177,7 @@ fn is_register(name: &[u8], width: u32) -> bool
 
 // The parts, where the register and its numbers are as they must be.
 fn fitting(name: &Name, width: u32, first: u64, step: u64) -> Option<ThinParts<'_>>
-    ensures found { (t : Thin) → option_map thin_of result ≡ Some t → (t ≡ thin_with name.now width first step) × IsFit t }
+    ensures found { IfSome result (λ t. (thin_of t ≡ thin_with name.now width first step) × IsFit (thin_of t)) }
     ensures only { IsFit (thin_with name.now width first step) → option_map thin_of result ≡ Some (thin_with name.now width first step) }
 {
     if !is_register(name.as_bytes(), width) {
@@ -55,229 +197,12 @@ fn fitting(name: &Name, width: u32, first: u64, step: u64) -> Option<ThinParts<'
     })
 }
 
-fn named(alloc: Global, bytes: &[u8]) -> Result<TokenPart, NoMemory>
-    ensures { IfOk result (λ p. p ≡ parts.Named bytes.now) }
+/// The thin description that a description is, if it is one.
+pub fn thin(d: &Description) -> Option<ThinParts<'_>>
+    ensures found { IfSome result (λ t. IsThin (description_tree d.now) (thin_of t)) }
+    ensures only { (t : Thin) → IsThin (description_tree d.now) t → option_map thin_of result ≡ Some t }
 {
-    let name = Name::from_bytes(alloc, bytes)?;
-    Ok(TokenPart::Named(name))
-}
-
-// Behind the tokens, those of the resources.
-fn push_resource(alloc: Global, all: &mut Vec<TokenPart>, t: &ThinParts<'_>) -> Result<(), NoMemory>
-    ensures { OnOk result (all.new.items ≡ all.old.items ++ resource_tokens (thin_of t.now)) }
-{
-    let shape = Shape {
-        kind: Kind::Unsigned,
-        width: t.width,
-    };
-    all.push(TokenPart::Reserved(Keyword::Resource))?;
-    all.push(TokenPart::Sign(Sign::OpenBrace))?;
-    all.push(TokenPart::Reserved(Keyword::Register))?;
-    all.push(TokenPart::TypeWord(shape))?;
-    all.push(named(alloc, t.name.as_bytes())?)?;
-    all.push(TokenPart::Sign(Sign::Semicolon))?;
-    all.push(TokenPart::Sign(Sign::CloseBrace))?;
-    Ok(())
-}
-
-// Behind the tokens, `OPERATION name { BEHAVIOR {`.
-fn push_opening(alloc: Global, all: &mut Vec<TokenPart>, name: &[u8]) -> Result<(), NoMemory>
-    ensures { OnOk result (all.new.items ≡ all.old.items ++ opening_tokens name.now) }
-{
-    all.push(TokenPart::Reserved(Keyword::Operation))?;
-    all.push(named(alloc, name)?)?;
-    all.push(TokenPart::Sign(Sign::OpenBrace))?;
-    all.push(TokenPart::Reserved(Keyword::Behavior))?;
-    all.push(TokenPart::Sign(Sign::OpenBrace))?;
-    Ok(())
-}
-
-// Behind the tokens, `number; } }`.
-fn push_number(all: &mut Vec<TokenPart>, value: u64) -> Result<(), NoMemory>
-    ensures { OnOk result (all.new.items ≡ all.old.items ++ number_tokens value) }
-{
-    all.push(TokenPart::Number(value, Base::Decimal))?;
-    all.push(TokenPart::Sign(Sign::Semicolon))?;
-    all.push(TokenPart::Sign(Sign::CloseBrace))?;
-    all.push(TokenPart::Sign(Sign::CloseBrace))?;
-    Ok(())
-}
-
-// Behind the tokens, those of `reset`.
-fn push_reset(alloc: Global, all: &mut Vec<TokenPart>, t: &ThinParts<'_>) -> Result<(), NoMemory>
-    ensures { OnOk result (all.new.items ≡ all.old.items ++ reset_tokens (thin_of t.now)) }
-{
-    push_opening(alloc, all, b"reset")?;
-    all.push(named(alloc, t.name.as_bytes())?)?;
-    all.push(TokenPart::Sign(Sign::Equal))?;
-    push_number(all, t.first)
-}
-
-// Behind the tokens, `name = name +`.
-fn push_sum(alloc: Global, all: &mut Vec<TokenPart>, name: &[u8]) -> Result<(), NoMemory>
-    ensures { OnOk result (all.new.items ≡ all.old.items ++ sum_tokens name.now) }
-{
-    all.push(named(alloc, name)?)?;
-    all.push(TokenPart::Sign(Sign::Equal))?;
-    all.push(named(alloc, name)?)?;
-    all.push(TokenPart::Sign(Sign::Plus))?;
-    Ok(())
-}
-
-// Behind the tokens, `name = name + step; } }`.
-fn push_addition(alloc: Global, all: &mut Vec<TokenPart>, t: &ThinParts<'_>) -> Result<(), NoMemory>
-    ensures { OnOk result (all.new.items ≡ all.old.items ++ (sum_tokens t.now.name.now ++ number_tokens t.now.step)) }
-{
-    push_sum(alloc, all, t.name.as_bytes())?;
-    push_number(all, t.step)
-}
-
-// Behind the tokens, those of `main`.
-fn push_main(alloc: Global, all: &mut Vec<TokenPart>, t: &ThinParts<'_>) -> Result<(), NoMemory>
-    ensures { OnOk result (all.new.items ≡ all.old.items ++ main_tokens (thin_of t.now)) }
-{
-    push_opening(alloc, all, b"main")?;
-    push_addition(alloc, all, t)?;
-    Ok(())
-}
-
-// The tokens of a thin description.
-fn expected(alloc: Global, t: &ThinParts<'_>) -> Result<Vec<TokenPart>, NoMemory>
-    ensures { IfOk result (λ v. v.items ≡ thin_tokens (thin_of t.now)) }
-{
-    let mut all = Vec::new(alloc);
-    push_resource(alloc, &mut all, t)?;
-    push_reset(alloc, &mut all, t)?;
-    push_main(alloc, &mut all, t)?;
-    Ok(all)
-}
-
-// The tokens behind the first one.
-fn later_tokens(tokens: &[Token]) -> &[Token]
-    requires { 1 ≤ length tokens.now }
-    ensures { result.now ≡ drop 1 tokens.now }
-{
-    &tokens[1..]
-}
-
-// The parts behind the first one.
-fn later_parts(parts: &[TokenPart]) -> &[TokenPart]
-    requires { 1 ≤ length parts.now }
-    ensures { result.now ≡ drop 1 parts.now }
-{
-    &parts[1..]
-}
-
-// Whether a token is this one, whatever its place.
-fn is_part(token: &Token, part: &TokenPart) -> bool
-    ensures { IsTrue result ↔ (token.now.part ≡ part.now) }
-{
-    token.part == *part
-}
-
-// Whether these are the tokens, whatever their places.
-fn are(tokens: &[Token], parts: &[TokenPart]) -> bool
-    ensures { IsTrue result ↔ (toks tokens.now ≡ parts.now) }
-{
-    if tokens.is_empty() {
-        return parts.is_empty();
-    }
-    if parts.is_empty() {
-        return false;
-    }
-    if !is_part(&tokens[0], &parts[0]) {
-        return false;
-    }
-    are(later_tokens(tokens), later_parts(parts))
-}
-
-// The name at a place.
-fn name_at(tokens: &[Token], place: usize) -> Option<&Name>
-    ensures { option_map (λ n. n.now) result ≡ name_of (option_map (λ t. t.part) (slice_get tokens.now place)) }
-{
-    match tokens.get(place) {
-        Some(
-            Token {
-                part: TokenPart::Named(name),
-                ..
-            },
-        ) => Some(name),
-        _ => None,
-    }
-}
-
-// The width of the type at a place.
-fn width_at(tokens: &[Token], place: usize) -> Option<u32>
-    ensures { result ≡ width_of (option_map (λ t. t.part) (slice_get tokens.now place)) }
-{
-    match tokens.get(place) {
-        Some(
-            Token {
-                part: TokenPart::TypeWord(shape),
-                ..
-            },
-        ) => Some(shape.width),
-        _ => None,
-    }
-}
-
-// The number at a place.
-fn number_at(tokens: &[Token], place: usize) -> Option<u64>
-    ensures { result ≡ number_of (option_map (λ t. t.part) (slice_get tokens.now place)) }
-{
-    match tokens.get(place) {
-        Some(
-            Token {
-                part: TokenPart::Number(value, _),
-                ..
-            },
-        ) => Some(*value),
-        _ => None,
-    }
-}
-
-// The name, width and numbers that stand where a thin description has them.
-fn candidate(tokens: &[Token]) -> Option<(&Name, u32, u64, u64)>
-    ensures { option_map (λ c. thin_with c.0.now c.1 c.2 c.3) result ≡ candidate_of tokens.now }
-{
-    let name = name_at(tokens, 4)?;
-    let width = width_at(tokens, 3)?;
-    let first = number_at(tokens, 14)?;
-    let step = number_at(tokens, 27)?;
-    Some((name, width, first, step))
-}
-
-// The parts, where the tokens are theirs.
-fn checked<'a>(
-    alloc: Global,
-    tokens: &[Token],
-    parts: Option<ThinParts<'a>>,
-) -> Result<Option<ThinParts<'a>>, NoMemory>
-    ensures found { IfOk result (λ o. IfSome o (λ t. (toks tokens.now ≡ thin_tokens (thin_of t)) × (option_map thin_of parts.entry ≡ Some (thin_of t)))) }
-    ensures only { (t : Thin) → option_map thin_of parts.entry ≡ Some t → toks tokens.now ≡ thin_tokens t → IfOk result (λ o. option_map thin_of o ≡ Some t) }
-{
-    match parts {
-        None => Ok(None),
-        Some(parts) => {
-            let wanted = expected(alloc, &parts)?;
-            if are(tokens, &wanted) {
-                Ok(Some(parts))
-            } else {
-                Ok(None)
-            }
-        }
-    }
-}
-
-/// The thin description that the tokens spell, if they spell one.
-pub fn thin(alloc: Global, tokens: &[Token]) -> Result<Option<ThinParts<'_>>, NoMemory>
-    ensures found { IfOk result (λ o. IfSome o (λ t. IsThin (toks tokens.now) (thin_of t))) }
-    ensures only { (t : Thin) → IsThin (toks tokens.now) t → IfOk result (λ o. option_map thin_of o ≡ Some t) }
-{
-    match candidate(tokens) {
-        None => Ok(None),
-        Some((name, width, first, step)) => {
-            checked(alloc, tokens, fitting(name, width, first, step))
-        }
-    }
+    let (name, width) = register(d.resources.as_slice())?;
+    let (first, step) = numbers(d.operations.as_slice(), name.as_bytes())?;
+    fitting(name, width, first, step)
 }

@@ -9,11 +9,12 @@ ghost use Rattle.lisa_cli.specs.declared.status.Status.TheVariants as statuses;
 ghost use Rattle.lisa_cli.specs.declared.status.Refusal.{Refusal as TheRefusal};
 ghost use Rattle.lisa_cli.specs.Statuses.{status_of};
 
-use crate::commands::run_file;
-use crate::requests::run_request;
+use crate::commands::perform;
+use crate::requests::request;
+use crate::sending::sent_on;
 use crate::status::{End, Status};
 use crate::telling::tell;
-use lisa_io::{Files, Sink, Source};
+use lisa_io::{Files, Flush, Sink, Source};
 use std::alloc::Global;
 
 // The status of a command's end.
@@ -33,7 +34,7 @@ fn status_of(end: Result<(), End>) -> Status
 /// went.
 ///
 /// The words are those after the program's name. No command that is built today uses `input`.
-pub fn lisa<F: Files, I: Source, O: Sink, E: Sink>(
+pub fn lisa<F: Files, I: Source, O: Flush, E: Sink>(
     alloc: Global,
     words: &[String],
     files: &mut F,
@@ -56,14 +57,16 @@ pub fn lisa<F: Files, I: Source, O: Sink, E: Sink>(
         → Gives files_there request (Refusing refusal text) → NoneFailed (world (F.held files.old) (F.faults files.old) (F.faults files.new) (O.written out.old) (O.written out.new) (O.faults out.old) (O.faults out.new) (E.written err.old) (E.written err.new) (E.faults err.old) (E.faults err.new)) request → IsSomeRefusal result ⊎ (result ≡ statuses.NoMemory) }
     ensures usage_always { ((request : Request) → Asks (map string_bytes words.now) request → ⊥) → (Rose (E.faults err.old) (E.faults err.new) → ⊥) → result ≡ statuses.Usage }
 
+    // Nothing is held back.
+    ensures sent { (result ≡ statuses.Done) ⊎ IsSomeRefusal result → O.sent out.new ≡ O.written out.new }
     ensures input { (I.left input.new ≡ I.left input.old) × (I.faults input.new ≡ I.faults input.old) }
 {
     let _ = input;
-    match run_request(words) {
+    match request(words) {
         None => tell(Status::Usage, err),
-        Some((description, edges)) => {
-            let end = run_file(alloc, description, edges, files, out);
-            tell(status_of(end), err)
+        Some(command) => {
+            let end = perform(alloc, &command, files, out);
+            tell(status_of(sent_on(end, out)), err)
         }
     }
 }

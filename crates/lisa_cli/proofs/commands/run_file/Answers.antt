@@ -1,14 +1,15 @@
 use Rattle.lisa_io.proofs.Known.{appends_none}
-use Rattle.lisa_cli.specs.ThinRuns.{RunGives}
-use Rattle.lisa_cli.proofs.Endings.{after_loading, unloaded}
+use Rattle.lisa_cli.specs.Gives.{AfterSpelling}
+use Rattle.lisa_cli.specs.ThinRuns.{TreeRuns}
+use Rattle.lisa_cli.proofs.Endings.{after_loading, unloaded, replies_end}
 use Rattle.lisa_cli.proofs.commands.run_file.Goals as goal
 
 pub returns-in-Ok : goal.returns-in-Ok
 returns-in-Ok g c =
-    after_loading {T = Unit {0}} _ _ _ _ _ (RunGives c.args.edges) _ _ _ _ _ c.in-Ok.ensures.loads.bytes.0 c.in-Ok.ensures.loads.bytes.1
-    (rw c.deref.ensures.value at c.run_bytes.ensures)
+    after_loading {T = Unit {0}} _ _ _ _ _ _ (λ files bytes. AfterSpelling bytes (TreeRuns c.args.edges)) _ _ _ _ _ c.in-Ok.ensures.loads.bytes.0 c.in-Ok.ensures.loads.bytes.1 (λ x. x)
+    (replies_end _ _ _ _ _ _ _ _ (rw c.deref.ensures.value at c.run_bytes.ensures))
 
 pub returns-in-Err : goal.returns-in-Err
 returns-in-Err g c =
-    unloaded {T = Unit {0}} _ _ _ _ (RunGives c.args.edges) (g.O.Sink.written c.args.out.now) (g.O.Sink.faults c.args.out.now) _ _ _
+    unloaded {T = Unit {0}} _ _ _ _ (λ files bytes. AfterSpelling bytes (TreeRuns c.args.edges)) (g.O.Sink.written c.args.out.now) (g.O.Sink.faults c.args.out.now) _ _ _
     c.in-Err.ensures.loads (λ r. (r, appends_none (g.O.Sink.written c.args.out.now)))

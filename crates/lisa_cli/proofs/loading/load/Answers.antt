@@ -1,4 +1,4 @@
-use Rattle.std.proofs.Common.{ap, Err}
+use Rattle.std.proofs.Common.{◌≡◌, sym, ap, Err}
 use Rattle.lisa_cli.proofs.Told.{told_bytes, told_more, long_is_no_fault, err_is, ok_is_no_err}
 use Rattle.lisa_cli.proofs.loading.load.Goals as goal
 

@@ -1,10 +1,10 @@
-use Rattle.std.proofs.Common.{◌+◌, ◌∙◌, sym, ap, arith, []}
+use Rattle.std.proofs.Common.{◌≡◌, ◌+◌, ◌∙◌, sym, ap, arith, length, []}
 use Rattle.lisa_engine.specs.PinValues.{pin_values}
 use Rattle.lisa_engine.specs.Text.{state_text}
 use Rattle.lisa_cli.specs.ThinForm.{thin_state}
 use Rattle.lisa_cli.specs.ThinView.{thin_of}
 use Rattle.lisa_cli.proofs.PinCounts.{length-pin_values}
-use Rattle.lisa_cli.proofs.ThinReplies.{no_memory_writes, ok_put, failed_put}
+use Rattle.lisa_cli.proofs.Writing.{no_memory_writes, ok_put, failed_put}
 use Rattle.lisa_cli.proofs.running.simulate.Goals as goal
 
 pub returns-in-Err : goal.returns-in-Err

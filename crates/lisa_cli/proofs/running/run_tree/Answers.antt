@@ -1,0 +1,11 @@
+use Rattle.lisa_tree.specs.Descriptions.{description_tree}
+use Rattle.lisa_cli.specs.ThinView.{thin_of}
+use Rattle.lisa_cli.proofs.Stages.{passed_replies, stopped_replies}
+use Rattle.lisa_cli.proofs.Writing.{written_replies}
+use Rattle.lisa_cli.proofs.running.run_tree.Goals as goal
+
+pub returns-in-Ok : goal.returns-in-Ok
+returns-in-Ok g c = passed_replies {T = Unit {0}} thin_of _ _ _ c.in-Ok.thin _ _ _ _ _ c.in-Ok.ensures (written_replies _ _ _ _ _ _ c.simulate.ensures)
+
+pub returns-in-Err : goal.returns-in-Err
+returns-in-Err g c = stopped_replies {T = Unit {0}} thin_of _ _ _ c.in-Err.end _ _ c.in-Err.ensures

@@ -1,0 +1,120 @@
+-- Bytes, tokens and the description that they spell.
+use Rattle.std.proofs.Common.{◌≡◌, ℕ, ◌+◌, ◌<◌, ◌≤◌, List, [], ◌∷◌, ◌++◌, length, get_or, Option, Some, None, refl, sym, ap, subst, ◌∙◌, arith, ◌⊎◌, inl, inr}
+use Rattle.std.proofs.lemmas.Bool.{cases_lt}
+use Rattle.std.proofs.lemmas.List.{length-append, length-map}
+use Rattle.std.proofs.lemmas.Option.{slice_get_read}
+use Rattle.std.specs.List.{slice_get}
+use Rattle.lisa_tree.specs.declared.faults.DescFault.{DescFault}
+use Rattle.lisa_tree.specs.declared.faults.DescFault.TheVariants as faults
+use Rattle.lisa_tree.specs.declared.tokens.Token.{Token}
+use Rattle.lisa_tree.specs.Brackets.{IsTooDeep, IsFlat}
+use Rattle.lisa_tree.specs.Descriptions.{DescriptionTree}
+use Rattle.lisa_tree.specs.Texts.{SpellsText}
+use Rattle.lisa_tree.specs.Tokens as tokens
+use Rattle.lisa_tree.specs.Tokens.{Lexes, Breaks, toks}
+use Rattle.text_scan.proofs.StepLaws.{some_is}
+use Rattle.lisa_lexer.specs.Answers.{IsFirst}
+use Rattle.lisa_lexer.proofs.Lexed.{lexes_same, lexes_whole, breaks_same}
+use Rattle.lisa_behav_reader.specs.declared.misses.Missed.{Missed}
+use Rattle.lisa_behav_reader.specs.declared.misses.Missed.TheVariants as misses
+use Rattle.lisa_behav_reader.specs.Gives.{Fails}
+use Rattle.lisa_behav_reader.specs.Places.{IsPlace}
+use Rattle.lisa_reader.specs.Answers.{AreFlat, IsBroken, broken_token, too_deep, spells_none, IsSameFault}
+use Rattle.lisa_reader.specs.Reading.{description_of}
+use Rattle.lisa_reader.proofs.DescriptionLaws.{description_sound, description_there}
+
+-- ---- places
+
+-- tokens lie within the bytes
+pub place_within : {at : ℕ} {bytes : List ℕ} {ts : List Token} → Lexes at bytes ts → (place : ℕ) → IsPlace place ts → place ≤ at + length bytes
+place_within tokens.end place p = absurd p
+place_within (tokens.gap {text = text} {rest = rest} g is l) place p = omega (arith, place_within l place p, ap length is, length-append text rest)
+place_within (tokens.token plain b glued fits l) place (inl e) = omega arith
+place_within (tokens.token {text = text} {rest = rest} plain b glued fits l) place (inr p) = omega (arith, place_within l place p, ap length b.parts, length-append text rest)
+
+-- ---- the tokens of the bytes
+
+module _ (bytes : List ℕ) (ts : List Token) (lexes : Lexes 0 bytes ts) where
+  same_tokens : (us : List Token) → Lexes 0 bytes us → us ≡ ts
+  same_tokens us l = lexes_same l lexes
+
+  pub found : (d : DescriptionTree) → IsFlat (toks ts) → description_of (toks ts) ≡ Some d → SpellsText bytes d
+  found d flat e =
+      let s = description_sound (toks ts) d e in
+      record { tokens = ts; lexes = lexes; flat = flat; spells = s.spells; shallow = s.deep }
+
+  pub read_of : (d : DescriptionTree) → SpellsText bytes d → description_of (toks ts) ≡ Some d
+  read_of d s = ap (λ (l : List Token). description_of (toks l)) (sym (same_tokens s.tokens s.lexes)) ∙ description_there (toks s.tokens) d s.spells s.shallow
+
+  pub same_tree : (d e : DescriptionTree) → description_of (toks ts) ≡ Some d → SpellsText bytes e → d ≡ e
+  same_tree d e is s = some_is d e (sym is ∙ read_of e s)
+
+  pub not_none : description_of (toks ts) ≡ None → (d : DescriptionTree) → ¬ SpellsText bytes d
+  not_none is d = λ s. let there = read_of d s in cc
+
+  pub not_flat : (i : ℕ) → IsTooDeep (toks ts) i → IsFlat (toks ts) → ⊥
+  not_flat i deep flat = omega (arith, flat i deep.within, deep.deep)
+
+  flat_tokens : (us : List Token) → Lexes 0 bytes us → IsFlat (toks us) → IsFlat (toks ts)
+  flat_tokens us l flat = subst (λ (v : List Token). IsFlat (toks v)) (same_tokens us l) flat
+
+  pub deep_spells_none : (i : ℕ) → IsTooDeep (toks ts) i → (d : DescriptionTree) → ¬ SpellsText bytes d
+  deep_spells_none i deep d = λ s. not_flat i deep (flat_tokens s.tokens s.lexes s.flat)
+
+-- ---- what bytes spell
+
+pub one_description : (bytes : List ℕ) (d e : DescriptionTree) → SpellsText bytes d → SpellsText bytes e → d ≡ e
+one_description bytes d e s t = same_tree bytes s.tokens s.lexes d e (read_of bytes s.tokens s.lexes d s) t
+
+pub spelled_unbroken : (bytes : List ℕ) (d : DescriptionTree) (fault : DescFault) → SpellsText bytes d → IsBroken bytes fault → ⊥
+spelled_unbroken bytes d fault s (broken_token b) = lexes_whole s.lexes b
+spelled_unbroken bytes d _ s (too_deep {ts = ts} {i = i} l deep there) = deep_spells_none bytes ts l i deep d s
+spelled_unbroken bytes d _ s (spells_none f none le) = none d s
+
+same_index : (ts : List Token) (i j : ℕ) → IsTooDeep (toks ts) i → IsTooDeep (toks ts) j → i ≡ j
+same_index ts i j deep other =
+    elim (cases_lt i j) [
+      | inl lt ↦ absurd (omega (arith, other.first i lt, deep.deep))
+      | inr le ↦ elim (cases_lt j i) [
+        | inl lt ↦ absurd (omega (arith, deep.first j lt, other.deep))
+        | inr ge ↦ omega (arith, le, ge)
+      ]
+    ]
+
+same_deep : (ts : List Token) (i j : ℕ) (t u : Token) → IsTooDeep (toks ts) i → IsTooDeep (toks ts) j → slice_get ts i ≡ Some t → slice_get ts j ≡ Some u → faults.TooDeep t.at ≡ faults.TooDeep u.at
+same_deep ts i j t u deep other e f = ap (λ (x : Token). faults.TooDeep x.at) (some_is t u (sym e ∙ ap (slice_get ts) (same_index ts i j deep other) ∙ f))
+
+same_fault : (f : DescFault) → IsSameFault f f
+same_fault (faults.NotADescription at) = tt
+same_fault _ = refl
+
+pub one_fault : (bytes : List ℕ) (f g : DescFault) → IsBroken bytes f → IsBroken bytes g → IsSameFault f g
+one_fault bytes f g (broken_token b) (broken_token c) = subst (λ (h : DescFault). IsSameFault f h) (breaks_same b c) (same_fault f)
+one_fault bytes f _ (broken_token b) (too_deep l deep there) = absurd (lexes_whole l b)
+one_fault bytes f _ (broken_token b) (spells_none flat none le) = absurd (lexes_whole flat.lexes b)
+one_fault bytes _ g (too_deep l deep there) (broken_token b) = absurd (lexes_whole l b)
+one_fault bytes _ _ (too_deep {ts = ts} {i = i} {token = t} l deep there) (too_deep {ts = us} {i = j} {token = u} k other here) =
+    let same = lexes_same k l in
+    same_deep ts i j t u deep (subst (λ (v : List Token). IsTooDeep (toks v) j) same other) there (subst (λ (v : List Token). slice_get v j ≡ Some u) same here)
+one_fault bytes _ _ (too_deep {ts = ts} {i = i} l deep there) (spells_none flat none le) = absurd (not_flat bytes ts l i deep (flat_tokens bytes ts l flat.tokens flat.lexes flat.flat))
+one_fault bytes _ g (spells_none flat none le) (broken_token b) = absurd (lexes_whole flat.lexes b)
+one_fault bytes _ _ (spells_none flat none le) (too_deep {ts = ts} {i = i} l deep there) = absurd (not_flat bytes ts l i deep (flat_tokens bytes ts l flat.tokens flat.lexes flat.flat))
+one_fault bytes _ _ (spells_none flat none le) (spells_none other nothing ge) = tt
+
+-- ---- what is answered
+
+-- something was missed, so nothing is read
+pub missed_none : {Y : Type 0} (e : Missed) (left : ℕ) (read : Option Y) → e ≡ misses.At left → Fails e read → read ≡ None
+missed_none e left read is h = subst (λ (x : Missed). Fails x read) is h
+
+pub token_there : (ts : List Token) (i : ℕ) (t : Token) → IsTooDeep (toks ts) i → t ≡ get_or ts i t → slice_get ts i ≡ Some t
+token_there ts i t deep is = slice_get_read ts (length ts) i t refl (omega (arith, deep.within, length-map ts (λ (x : Token). x.part))) is
+
+pub token_fault : (bytes : List ℕ) (f : DescFault) → IsFirst bytes f → (f ≡ faults.NoMemory) ⊎ IsBroken bytes f
+token_fault bytes faults.NoMemory h = inl refl
+token_fault bytes (faults.BadByte at) h = inr (broken_token h)
+token_fault bytes f h = inr (broken_token h)
+
+pub no_description : (bytes : List ℕ) (ts : List Token) (at : ℕ) → Lexes 0 bytes ts → IsFlat (toks ts) → description_of (toks ts) ≡ None → (IsPlace at ts ⊎ (at ≡ length bytes)) → IsBroken bytes (faults.NotADescription at)
+no_description bytes ts at l flat none (inl p) = spells_none (record { tokens = ts; lexes = l; flat = flat }) (not_none bytes ts l none) (omega (arith, place_within l at p))
+no_description bytes ts at l flat none (inr e) = spells_none (record { tokens = ts; lexes = l; flat = flat }) (not_none bytes ts l none) (omega arith)

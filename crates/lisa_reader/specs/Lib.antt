@@ -1,0 +1,4 @@
+pub mod Answers
+pub mod Skipping
+pub mod Reading
+pub mod Gives
