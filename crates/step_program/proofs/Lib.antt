@@ -1,0 +1,4 @@
+pub mod Powers
+pub mod Deciding
+pub mod Fits
+pub mod Sample

@@ -1,0 +1,4 @@
+pub mod Programs
+pub mod Effects
+pub mod WellFormed
+pub mod Decided

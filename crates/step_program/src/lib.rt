@@ -1,0 +1,16 @@
+//! Step programs: guarded assignments that are done in order at each edge, on items, temps and the cells of arrays.
+#![tactic(auto)]
+
+mod expressions;
+mod fitting;
+mod forming;
+pub mod laws;
+mod naming;
+mod programs;
+
+pub use expressions::{OneOp, StepExpr, TwoOp};
+pub use forming::well_formed;
+pub use programs::{Step, StepProgram, Target};
+
+#[cfg(test)]
+mod tests;
