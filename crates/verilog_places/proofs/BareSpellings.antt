@@ -1,16 +1,14 @@
 -- What tokens with places spell, they spell without places.
-use Rattle.std.proofs.Common.{◌≡◌, ℕ, suc, Bool, List, [], ◌∷◌, ◌++◌, refl, sym, ap, subst, ◌∙◌, map}
+use Rattle.std.proofs.Common.{◌≡◌, ℕ, suc, Bool, List, [], ◌∷◌, ◌++◌, sym, ap, subst, ◌∙◌}
 use Rattle.std.specs.Prelude.{flat_map}
-use Rattle.lisa_engine.specs.declared.parts.Item.{Item}
-use Rattle.lisa_engine.specs.declared.parts.ArrayItem.{ArrayItem}
 use Rattle.verilog_text.specs.declared.tokens.VKeyword.TheVariants as words
 use Rattle.verilog_text.specs.declared.tokens.VSign.TheVariants as signs
-use Rattle.verilog_text.specs.Tokens.{VTok, VToks, Named, Reserved, Sized, Plain, Mark}
+use Rattle.verilog_text.specs.Tokens.{VToks, Named, Reserved, Sized, Plain, Mark}
 use Rattle.verilog_text.specs.Trees as plain
 use Rattle.verilog_text.specs.Trees.{VTree, ActionTrees, SettingTree, MemberTree}
 use Rattle.verilog_text.specs.Grammar as grammar
 use Rattle.verilog_text.specs.Grammar.{vsign_of, vone_sign, IsOptionalWire, setting_tokens, SpellsVExpr, SpellsVParts, SpellsAction, SpellsActions, SpellsRange, SpellsInputs, SpellsMember, SpellsMembers, SpellsModule}
-use Rattle.verilog_places.specs.Trees.{bare, bare_parts, bare_actions, bare_inputs, bare_member, bare_members, bare_module, moved, PlacedTree, PlacedTrees, PlacedActions, PlacedMemberTree, PlacedModuleTree}
+use Rattle.verilog_places.specs.Trees.{bare, bare_parts, bare_actions, bare_inputs, bare_member, bare_members, bare_module, PlacedTree, PlacedTrees, PlacedActions, PlacedMemberTree, PlacedModuleTree}
 use Rattle.verilog_places.specs.declared.modules.PlacedInput.{PlacedInput}
 use Rattle.verilog_places.specs.Spelling as placed
 use Rattle.verilog_places.specs.Spelling.{PlacedToks, parts_of, SpellsPlaced, SpellsPlacedParts, SpellsPlacedAction, SpellsPlacedActions, SpellsPlacedRange, SpellsPlacedInputs, SpellsPlacedSettings, SpellsPlacedMember, SpellsPlacedMembers, SpellsPlacedModule}

@@ -1,3 +1,6 @@
 pub mod PlaceLaws
 pub mod BareSpellings
 pub mod PlacedSpellings
+pub mod RowViews
+pub mod ListSteps
+pub mod StripLaws

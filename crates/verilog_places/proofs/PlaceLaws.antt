@@ -1,11 +1,11 @@
 -- Expressions that are moved, and lists of actions that are joined.
-use Rattle.std.proofs.Common.{◌≡◌, ℕ, List, [], ◌∷◌, ◌++◌, Option, Some, None, refl, sym, ap, ◌∙◌, map}
-use Rattle.verilog_text.specs.Tokens.{VTok, VToks}
+use Rattle.std.proofs.Common.{◌≡◌, ℕ, [], ◌∷◌, ◌++◌, Option, Some, None, refl, sym, ap, ◌∙◌}
+use Rattle.verilog_text.specs.Tokens.{VToks}
 use Rattle.verilog_text.specs.Trees as plain
-use Rattle.verilog_text.specs.Values.{Widths, v_width}
-use Rattle.verilog_text.specs.WidePlaces.{where_wide, ◌or_else◌}
+use Rattle.verilog_text.specs.Values.{Widths}
+use Rattle.verilog_text.specs.WidePlaces.{◌or_else◌}
 use Rattle.verilog_places.specs.Trees.{PlacedTree, Number, Named, Bits, Cell, One, Two, Choose, Join, Repeat, place, moved, bare, PlacedActions, Done, Set, Put, If, joined, bare_actions}
-use Rattle.verilog_places.specs.WidePlaces.{wide_at, wide_inside, wide_expr, wide_actions}
+use Rattle.verilog_places.specs.WidePlaces.{wide_inside, wide_expr, wide_actions}
 use Rattle.verilog_places.specs.Spelling.{PlacedToks, parts_of}
 
 pub moved_bare : (at : ℕ) (e : PlacedTree) → bare (moved at e) ≡ bare e

@@ -1,11 +1,10 @@
 -- What tokens spell without places, they spell with places, and what is too wide first has the place of the token that is told.
-use Rattle.std.proofs.Common.{◌≡◌, ℕ, zero, suc, ◌+◌, Bool, true, false, List, [], ◌∷◌, ◌++◌, length, Option, Some, None, refl, sym, ap, subst, ◌∙◌, map, arith, inl, inr, append_assoc}
+use Rattle.std.proofs.Common.{◌≡◌, ℕ, zero, suc, ◌+◌, Bool, true, false, List, [], ◌∷◌, ◌++◌, length, Option, Some, None, refl, sym, ap, subst, ◌∙◌, map, arith}
 use Rattle.std.specs.Prelude.{flat_map, option_map, nat_lt, if◌then◌else◌, slice_get, slice_index_or}
 use Rattle.lisa_engine.specs.declared.parts.Item.{Item}
-use Rattle.lisa_engine.specs.declared.parts.ArrayItem.{ArrayItem}
 use Rattle.verilog_text.specs.declared.tokens.VKeyword.TheVariants as words
 use Rattle.verilog_text.specs.declared.tokens.VSign.TheVariants as signs
-use Rattle.verilog_text.specs.Tokens.{VTok, VToks, Named, Reserved, Sized, Plain, Mark}
+use Rattle.verilog_text.specs.Tokens.{VTok, VToks, Named, Reserved, Plain, Mark}
 use Rattle.verilog_text.specs.Trees as plain
 use Rattle.verilog_text.specs.Trees.{VTree, VTrees, ActionTrees, SettingTree, MemberTree, ModuleTree}
 use Rattle.verilog_text.specs.Values.{Widths, v_width}
@@ -20,7 +19,7 @@ use Rattle.verilog_places.specs.WidePlaces.{wide_at, wide_inside, wide_parts, wi
 use Rattle.verilog_places.specs.declared.modules.PlacedInput.{PlacedInput}
 use Rattle.verilog_places.specs.Spelling as placed
 use Rattle.verilog_places.specs.Spelling.{PlacedToks, parts_of, SpellsPlaced, SpellsPlacedParts, SpellsPlacedAction, SpellsPlacedActions, SpellsPlacedRange, SpellsPlacedInputs, SpellsPlacedSettings, SpellsPlacedMember, SpellsPlacedMembers, SpellsPlacedModule}
-use Rattle.verilog_places.proofs.PlaceLaws.{moved_bare, moved_place, moved_wide, joined_bare, joined_wide, or_assoc, or_none, parts-append}
+use Rattle.verilog_places.proofs.PlaceLaws.{moved_bare, moved_place, moved_wide, joined_bare, joined_wide, or_assoc, or_none}
 
 -- ---- tokens from a number on
 

@@ -1,3 +1,4 @@
 pub mod Trees
 pub mod Spelling
 pub mod WidePlaces
+pub mod Clocks

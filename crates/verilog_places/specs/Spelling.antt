@@ -1,12 +1,11 @@
 -- Which tokens with their places spell which module with places: the grammar of the subset, rule by rule.
-use Rattle.std.specs.Prelude.{◌≡◌, ℕ, suc, ◌≤◌, Bool, true, false, List, [], ◌∷◌, ◌++◌, map, ◌⊎◌}
+use Rattle.std.specs.Prelude.{◌≡◌, ℕ, suc, ◌≤◌, Bool, true, false, List, [], ◌∷◌, ◌++◌, map}
 use Rattle.lisa_engine.specs.declared.parts.Item.{Item}
 use Rattle.lisa_engine.specs.declared.parts.ArrayItem.{ArrayItem}
 use Rattle.lisa_tree.specs.declared.expressions.Operator.{Operator}
 use Rattle.lisa_tree.specs.Operators.{level_of}
 use Rattle.verilog_text.specs.declared.expressions.VOne.{VOne}
 use Rattle.verilog_text.specs.declared.tokens.VKeyword.TheVariants as words
-use Rattle.verilog_text.specs.declared.tokens.VSign.{VSign}
 use Rattle.verilog_text.specs.declared.tokens.VSign.TheVariants as signs
 use Rattle.verilog_text.specs.Tokens.{VTok, VToks, Named, Reserved, Sized, Plain, Mark}
 use Rattle.verilog_text.specs.Grammar.{vsign_of, vone_sign, IsOptionalWire}

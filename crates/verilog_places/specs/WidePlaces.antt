@@ -1,10 +1,10 @@
 -- Where a module is wider than 64 bits: the first byte of the first range or expression that is, in the order of the text.
-use Rattle.std.specs.Prelude.{ℕ, List, [], ◌∷◌, Option, Some, None}
+use Rattle.std.specs.Prelude.{ℕ, List, [], ◌∷◌, Option, None}
 use Rattle.verilog_text.specs.Values.{Widths, v_width}
 use Rattle.verilog_text.specs.Clocked.{widths_of}
 use Rattle.verilog_text.specs.WidePlaces.{where_wide, ◌or_else◌}
 use Rattle.verilog_places.specs.declared.modules.PlacedInput.{PlacedInput}
-use Rattle.verilog_places.specs.Trees.{PlacedTree, Number, Named, Bits, Cell, One, Two, Choose, Join, Repeat, PlacedTrees, End, Then, place, bare, PlacedActions, Done, Set, Put, If, PlacedMemberTree, Reg, Array, Wire, Initial, Always, PlacedModuleTree, bare_module}
+use Rattle.verilog_places.specs.Trees.{PlacedTree, Cell, One, Two, Choose, Join, Repeat, PlacedTrees, End, Then, place, bare, PlacedActions, Done, Set, Put, If, PlacedMemberTree, Reg, Array, Wire, Initial, Always, PlacedModuleTree, bare_module}
 
 -- at an expression's own place
 abbrev pub wide_at : Widths → PlacedTree → Option ℕ

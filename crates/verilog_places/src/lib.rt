@@ -4,6 +4,11 @@
 
 mod expressions;
 mod modules;
+mod stripping;
 
 pub use expressions::PlacedExpr;
 pub use modules::{PlacedAction, PlacedInput, PlacedMember, PlacedModule};
+pub use stripping::strip;
+
+#[cfg(test)]
+mod tests;
