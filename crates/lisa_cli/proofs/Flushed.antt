@@ -1,16 +1,16 @@
 -- The end of a command whose output was sent on.
-use Rattle.std.proofs.Common.{◌≡◌, ◌≤◌, ◌∙◌, sym, subst, arith, List, ℕ, Option, Some, Result, Ok, Err, IsOk, ⊎_elim}
+use Rattle.std.proofs.Common.{◌≡◌, ◌≤◌, ◌∙◌, sym, subst, arith, List, ℕ, Option, Result, Ok, Err, IsOk, ⊎_elim}
 use Rattle.std.specs.Io.KnownBytes.{Keeps}
 use Rattle.lisa_io.specs.Causes.{Rose}
-use Rattle.lisa_io.specs.Contents.{Held, AppendsFront}
+use Rattle.lisa_io.specs.Contents.{AppendsFront}
 use Rattle.lisa_io.proofs.Known.{appends_kept}
-use Rattle.lisa_cli.specs.declared.status.End.{End}
-use Rattle.lisa_cli.specs.declared.status.End.TheVariants as ends
-use Rattle.lisa_cli.specs.declared.status.Refusal.{Refusal}
-use Rattle.lisa_cli.specs.Outcomes.{Outcome, FileMap}
-use Rattle.lisa_cli.specs.Ends.{Ends}
+use Rattle.lisa_outcomes.specs.declared.status.End.{End}
+use Rattle.lisa_outcomes.specs.declared.status.End.TheVariants as ends
+use Rattle.lisa_outcomes.specs.declared.status.Refusal.{Refusal}
+use Rattle.lisa_outcomes.specs.Outcomes.{Outcome}
+use Rattle.lisa_outcomes.specs.Ends.{Ends}
 use Rattle.lisa_cli.specs.Sent.{IsSentOn}
-use Rattle.lisa_cli.proofs.Told.{err_is, not_ok}
+use Rattle.lisa_outcomes.proofs.Told.{err_is, not_ok}
 
 rose_before : (a b c : ℕ) → Rose a b → b ≤ c → Rose a c
 rose_before a b c risen after = omega arith
@@ -32,39 +32,39 @@ err_no_ok e (Ok x) is ok = absurd (cc)
 err_no_ok e (Err f) is ok = not_ok ok
 
 -- it ended as before
-kept : {T : Type 0} (Gives : FileMap → Outcome → Type 0) (held : Held) (Blamed Blamed' : Type 0) (before middle after sent : Option (List ℕ)) (old between new : ℕ) (end result : Result T End)
-    → (Blamed → Blamed') → Ends Gives held Blamed before middle old between end → IsSentOn middle after sent between new end result → result ≡ end
-    → Ends Gives held Blamed' before after old new result
-kept Gives held Blamed Blamed' before middle after sent old between new end result blamed all one is = record {
-  done = λ ok files e. let d = all.done (subst IsOk is ok) files e in (d.0, d.1, appends_kept _ _ _ _ d.2 one.keeps);
-  refused = λ refusal r files e. let d = all.refused refusal (sym is ∙ r) files e in (d.0, d.1, appends_kept _ _ _ _ d.2 one.keeps);
+kept : {T W : Type 0} (Told : W → Type 0) (Gives : W → Outcome → Type 0) (Blamed Blamed' : Type 0) (before middle after sent : Option (List ℕ)) (old between new : ℕ) (end result : Result T End)
+    → (Blamed → Blamed') → Ends Told Gives Blamed before middle old between end → IsSentOn middle after sent between new end result → result ≡ end
+    → Ends Told Gives Blamed' before after old new result
+kept Told Gives Blamed Blamed' before middle after sent old between new end result blamed all one is = record {
+  done = λ ok w e. let d = all.done (subst IsOk is ok) w e in (d.0, d.1, appends_kept _ _ _ _ d.2 one.keeps);
+  refused = λ refusal r w e. let d = all.refused refusal (sym is ∙ r) w e in (d.0, d.1, appends_kept _ _ _ _ d.2 one.keeps);
   read = λ r. blamed (all.read (sym is ∙ r));
   later = omega (arith, all.later, one.later);
   write = λ r. rose_before old between new (all.write (sym is ∙ r)) one.later;
-  front = λ files outcome e gives. front_kept _ _ _ _ (all.front files outcome e gives) one.keeps;
-  finished = λ files text e gives refusal r. all.finished files text e gives refusal (sym is ∙ r);
-  refusing = λ files refusal text e gives ok. all.refusing files refusal text e gives (subst IsOk is ok);
+  front = λ w outcome e gives. front_kept _ _ _ _ (all.front w outcome e gives) one.keeps;
+  finished = λ w text e gives refusal r. all.finished w text e gives refusal (sym is ∙ r);
+  refusing = λ w refusal text e gives ok. all.refusing w refusal text e gives (subst IsOk is ok);
 }
 
 -- it ended in a write fault
-failed : {T : Type 0} (Gives : FileMap → Outcome → Type 0) (held : Held) (Blamed Blamed' : Type 0) (before middle after sent : Option (List ℕ)) (old between new : ℕ) (end result : Result T End)
-    → Ends Gives held Blamed before middle old between end → IsSentOn middle after sent between new end result → result ≡ Err ends.WriteFault → Rose old new
-    → Ends Gives held Blamed' before after old new result
-failed Gives held Blamed Blamed' before middle after sent old between new end result all one is risen = record {
+failed : {T W : Type 0} (Told : W → Type 0) (Gives : W → Outcome → Type 0) (Blamed Blamed' : Type 0) (before middle after sent : Option (List ℕ)) (old between new : ℕ) (end result : Result T End)
+    → Ends Told Gives Blamed before middle old between end → IsSentOn middle after sent between new end result → result ≡ Err ends.WriteFault → Rose old new
+    → Ends Told Gives Blamed' before after old new result
+failed Told Gives Blamed Blamed' before middle after sent old between new end result all one is risen = record {
   done = λ ok. absurd (err_no_ok _ result is ok);
   refused = λ refusal r. absurd (write_is_no_refusal refusal (err_is _ _ (sym is ∙ r)));
   read = λ r. absurd (write_is_no_read (err_is _ _ (sym is ∙ r)));
   later = omega (arith, all.later, one.later);
   write = λ r. risen;
-  front = λ files outcome e gives. front_kept _ _ _ _ (all.front files outcome e gives) one.keeps;
-  finished = λ files text e gives refusal r. write_is_no_refusal refusal (err_is _ _ (sym is ∙ r));
-  refusing = λ files refusal text e gives ok. err_no_ok _ result is ok;
+  front = λ w outcome e gives. front_kept _ _ _ _ (all.front w outcome e gives) one.keeps;
+  finished = λ w text e gives refusal r. write_is_no_refusal refusal (err_is _ _ (sym is ∙ r));
+  refusing = λ w refusal text e gives ok. err_no_ok _ result is ok;
 }
 
-pub sent_ends : {T : Type 0} (Gives : FileMap → Outcome → Type 0) (held : Held) (Blamed Blamed' : Type 0) (before middle after sent : Option (List ℕ)) (old between new : ℕ) (end result : Result T End)
-    → (Blamed → Blamed') → Ends Gives held Blamed before middle old between end → IsSentOn middle after sent between new end result → Ends Gives held Blamed' before after old new result
-sent_ends Gives held Blamed Blamed' before middle after sent old between new end result blamed all one = ⊎_elim
-    (λ s. kept Gives held Blamed Blamed' before middle after sent old between new end result blamed all one s.0)
-    (λ f. failed Gives held Blamed Blamed' before middle after sent old between new end result all one f.0
+pub sent_ends : {T W : Type 0} (Told : W → Type 0) (Gives : W → Outcome → Type 0) (Blamed Blamed' : Type 0) (before middle after sent : Option (List ℕ)) (old between new : ℕ) (end result : Result T End)
+    → (Blamed → Blamed') → Ends Told Gives Blamed before middle old between end → IsSentOn middle after sent between new end result → Ends Told Gives Blamed' before after old new result
+sent_ends Told Gives Blamed Blamed' before middle after sent old between new end result blamed all one = ⊎_elim
+    (λ s. kept Told Gives Blamed Blamed' before middle after sent old between new end result blamed all one s.0)
+    (λ f. failed Told Gives Blamed Blamed' before middle after sent old between new end result all one f.0
     (⊎_elim (λ w. rose_before old between new (all.write w) one.later) (λ r. rose_behind old between new all.later r) f.1))
     one.same

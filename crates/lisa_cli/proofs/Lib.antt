@@ -1,13 +1,4 @@
 mod OtherWords
 mod FieldTexts
-mod Told
-mod SingleStatements
-mod Fitting
-mod Endings
-mod Finding
-mod Stages
-mod Writing
 mod Ran
 mod Flushed
-mod Faulty
-mod PinCounts

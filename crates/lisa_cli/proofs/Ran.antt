@@ -1,27 +1,29 @@
 -- What a run answers, by how its command ended and how that was told.
-use Rattle.std.proofs.Common.{◌≡◌, ◌≢◌, ◌∙◌, sym, ap, refl, subst, arith, List, ℕ, [], Option, Some, Result, Ok, Err, IsOk, ◌⊎◌, inl, inr, ⊎_elim, length}
-use Rattle.std.specs.Io.KnownBytes.{Appends}
+use Rattle.std.proofs.Common.{◌≡◌, ◌≢◌, ◌∙◌, sym, ap, refl, subst, arith, List, ℕ, Option, Some, Result, Ok, Err, IsOk, ◌⊎◌, inl, inr, ⊎_elim, length}
+use Rattle.std.specs.Io.KnownBytes.{Appends, Keeps}
 use Rattle.lisa_io.specs.Causes.{Rose}
 use Rattle.lisa_io.specs.Contents.{AppendsFront}
+use Rattle.lisa_io.proofs.Known.{appends_kept}
 use Rattle.std.proofs.lemmas.List.{take_all}
-use Rattle.lisa_cli.specs.declared.status.End.{End}
-use Rattle.lisa_cli.specs.declared.status.End.TheVariants as ends
-use Rattle.lisa_cli.specs.declared.status.Refusal.{Refusal}
-use Rattle.lisa_cli.specs.declared.status.Status.{Status}
-use Rattle.lisa_cli.specs.declared.status.Status.TheVariants as statuses
-use Rattle.lisa_cli.specs.Requests.{Request, Asks}
-use Rattle.lisa_cli.specs.Outcomes.{Finished, Refusing, FileMap}
+use Rattle.lisa_outcomes.specs.declared.status.End.{End}
+use Rattle.lisa_outcomes.specs.declared.status.End.TheVariants as ends
+use Rattle.lisa_outcomes.specs.declared.status.Refusal.{Refusal}
+use Rattle.lisa_outcomes.specs.declared.status.Status.{Status}
+use Rattle.lisa_outcomes.specs.declared.status.Status.TheVariants as statuses
+use Rattle.lisa_cli.specs.Requests.{Request, Format, Run, Asks}
+use Rattle.lisa_outcomes.specs.Outcomes.{Finished, Refusing, Given}
 use Rattle.lisa_cli.specs.Gives.{Gives}
-use Rattle.lisa_cli.specs.Ends.{Ends}
+use Rattle.lisa_outcomes.specs.Ends.{Ends}
 use Rattle.lisa_cli.specs.Statuses.{status_of}
 use Rattle.lisa_cli.specs.Told.{IsTold}
-use Rattle.lisa_cli.specs.Runs.{World, Blames, status_text, IsDone, IsRefused, IsReadFault, IsWithin, IsWriteFault, IsNoMemory, NoneFailed, IsSomeRefusal}
-use Rattle.lisa_cli.proofs.Told.{not_ok}
+use Rattle.lisa_cli.specs.Runs.{status_text, IsDone, IsRefused, IsReadFault, IsWithin, IsWriteFault, IsNoMemory, IsSomeRefusal}
+use Rattle.lisa_cli.specs.Worlds.{World, Readings, Blames, Blamed, IsGiven, IsKnown, NoneFailed}
+use Rattle.lisa_outcomes.proofs.Told.{not_ok}
 
 pub record Ran {T : Type 0} (w : World) (words : List (List ℕ)) (request : Request) (end : Result T End) (status : Status) : Type 0 where
   pub asks : Asks words request
   pub one : (other : Request) → Asks words other → request ≡ other
-  pub how : Ends (λ files. Gives files request) w.held (Blames request w.file_faults w.file_faults_after × Appends w.out w.out_after []) w.out w.out_after w.out_faults w.out_faults_after end
+  pub how : Ends (IsGiven w.reads.held w.reads.input request) (λ given. Gives given request) (Blamed w.reads w.out w.out_after request) w.out w.out_after w.out_faults w.out_faults_after end
   pub told : IsTold (status_of end) w.err w.err_after w.err_faults w.err_faults_after status
 
 -- a status that is no write fault was told whole
@@ -98,11 +100,12 @@ ran_usage {end = end} ran is = no_usage end (told_whole _ _ _ _ usage_differs is
 pub ran_read : {T : Type 0} {w : World} {words : List (List ℕ)} {request : Request} {end : Result T End} {status : Status} → Ran w words request end status → status ≡ statuses.ReadFault → IsReadFault w words
 ran_read {request = request} {end = end} ran is =
     let t = told_whole _ _ _ _ read_differs is ran.told in
-    let blamed = ran.how.read (is_read end t.0) in
-    record { request = request; asks = ran.asks; blamed = blamed.0; written = blamed.1; said = t.1 }
+    record { request = request; asks = ran.asks; blamed = ran.how.read (is_read end t.0); said = t.1 }
 
 ran_within : {T : Type 0} {w : World} {words : List (List ℕ)} {request : Request} {end : Result T End} {status : Status} → Ran w words request end status → IsWithin w words
-ran_within ran other files outcome asks held gives = ran.how.front files outcome held (subst (λ (q : Request). Gives files q outcome) (sym (ran.one other asks)) gives)
+ran_within {w = w} ran other given outcome asks known gives =
+    let same = sym (ran.one other asks) in
+    ran.how.front given outcome (subst (λ (q : Request). IsKnown w q given) same known) (subst (λ (q : Request). Gives given q outcome) same gives)
 
 whole_front : (a b : Option (List ℕ)) (text : List ℕ) → Appends a b text → AppendsFront a b text
 whole_front a b text h = (length text, omega arith, subst (Appends a b) (sym (take_all (length text) text (omega arith))) h)
@@ -120,6 +123,16 @@ ran_memory {request = request} ran is =
     let t = told_whole _ _ _ _ memory_differs is ran.told in
     record { request = request; asks = ran.asks; within = ran_within ran; said = t.1 }
 
+-- what stands after a read fault names what failed
+blamed_blames : (r : Readings) (before after : Option (List ℕ)) (request : Request) → Blamed r before after request → Blames r request
+blamed_blames r before after (Format description) blamed = blamed.0
+blamed_blames r before after (Run description edges) blamed = blamed.0
+
+-- and what stands is kept where nothing more is put
+pub blamed_kept : (r : Readings) (before after sent : Option (List ℕ)) (request : Request) → Keeps after sent → Blamed r before after request → Blamed r before sent request
+blamed_kept r before after sent (Format description) keeps blamed = (blamed.0, appends_kept _ _ _ _ blamed.1 keeps)
+blamed_kept r before after sent (Run description edges) keeps blamed = (blamed.0, appends_kept _ _ _ _ blamed.1 keeps)
+
 -- where nothing failed the status was told
 told_unfailed : {s status : Status} (a b : Option (List ℕ)) (m n : ℕ) → (Rose m n → ⊥) → IsTold s a b m n status → status ≡ s
 told_unfailed a b m n none told = ⊎_elim (λ t. t.0) (λ f. absurd (none f.1)) told
@@ -129,7 +142,7 @@ ended : {T : Type 0} {w : World} {words : List (List ℕ)} {request : Request} (
     → IsOk end ⊎ ((r : Refusal) × (end ≡ Err (ends.Refused r))) ⊎ (end ≡ Err ends.NoMemory)
 ended (Ok x) ran none = inl refl
 ended (Err (ends.Refused r)) ran none = inr (inl (r, refl))
-ended (Err ends.ReadFault) ran none = absurd (none.files (ran.how.read refl).0)
+ended {w = w} {request = request} (Err ends.ReadFault) ran none = absurd (none.read (blamed_blames w.reads w.out w.out_after request (ran.how.read refl)))
 ended (Err ends.WriteFault) ran none = absurd (none.out (ran.how.write refl))
 ended (Err ends.NoMemory) ran none = inr (inr refl)
 
@@ -138,26 +151,28 @@ ok_status (Ok x) ok = refl
 ok_status (Err e) ok = absurd (not_ok ok)
 
 pub ran_done_always : {T : Type 0} {w : World} {words : List (List ℕ)} {request : Request} {end : Result T End} {status : Status} → Ran w words request end status
-    → (other : Request) (files : FileMap) (text : List ℕ) → Asks words other → w.held ≡ Some files → Gives files other (Finished text) → NoneFailed w other
+    → (other : Request) (given : Given) (text : List ℕ) → Asks words other → IsKnown w other given → Gives given other (Finished text) → NoneFailed w other
     → (status ≡ statuses.Done) ⊎ (status ≡ statuses.NoMemory)
-ran_done_always {w = w} {end = end} ran other files text asks held gives none =
+ran_done_always {w = w} {end = end} ran other given text asks known gives none =
     let same = sym (ran.one other asks) in
-    let mine = subst (λ (q : Request). Gives files q (Finished text)) same gives in
+    let mine = subst (λ (q : Request). Gives given q (Finished text)) same gives in
+    let told_too = subst (λ (q : Request). IsKnown w q given) same known in
     let unfailed = subst (NoneFailed w) same none in
     let told = told_unfailed _ _ _ _ unfailed.err ran.told in
     ⊎_elim (λ ok. inl (told ∙ ok_status end ok))
-    (λ rest. ⊎_elim (λ r. absurd (ran.how.finished files text held mine r.0 r.1)) (λ m. inr (told ∙ ap status_of m)) rest)
+    (λ rest. ⊎_elim (λ r. absurd (ran.how.finished given text told_too mine r.0 r.1)) (λ m. inr (told ∙ ap status_of m)) rest)
     (ended end ran unfailed)
 
 pub ran_refused_always : {T : Type 0} {w : World} {words : List (List ℕ)} {request : Request} {end : Result T End} {status : Status} → Ran w words request end status
-    → (other : Request) (files : FileMap) (refusal : Refusal) (text : List ℕ) → Asks words other → w.held ≡ Some files → Gives files other (Refusing refusal text) → NoneFailed w other
+    → (other : Request) (given : Given) (refusal : Refusal) (text : List ℕ) → Asks words other → IsKnown w other given → Gives given other (Refusing refusal text) → NoneFailed w other
     → IsSomeRefusal status ⊎ (status ≡ statuses.NoMemory)
-ran_refused_always {w = w} {end = end} ran other files refusal text asks held gives none =
+ran_refused_always {w = w} {end = end} ran other given refusal text asks known gives none =
     let same = sym (ran.one other asks) in
-    let mine = subst (λ (q : Request). Gives files q (Refusing refusal text)) same gives in
+    let mine = subst (λ (q : Request). Gives given q (Refusing refusal text)) same gives in
+    let told_too = subst (λ (q : Request). IsKnown w q given) same known in
     let unfailed = subst (NoneFailed w) same none in
     let told = told_unfailed _ _ _ _ unfailed.err ran.told in
-    ⊎_elim (λ ok. absurd (ran.how.refusing files refusal text held mine ok))
+    ⊎_elim (λ ok. absurd (ran.how.refusing given refusal text told_too mine ok))
     (λ rest. ⊎_elim (λ r. inl (r.0, told ∙ ap status_of r.1)) (λ m. inr (told ∙ ap status_of m)) rest)
     (ended end ran unfailed)
 

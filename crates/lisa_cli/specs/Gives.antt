@@ -1,35 +1,9 @@
--- What each request gives for the files that are there.
-use Rattle.std.specs.Prelude.{ℕ, ◌≡◌, List}
-use Rattle.lisa_tree.specs.declared.faults.DescFault.{DescFault}
-use Rattle.lisa_tree.specs.Descriptions.{DescriptionTree}
-use Rattle.lisa_tree.specs.Texts.{SpellsText}
-use Rattle.lisa_printer.specs.CanonicalText.{canonical_text}
-use Rattle.lisa_printer.specs.CanonicalTokens.{description_tokens}
-use Rattle.lisa_cli.specs.declared.status.Refusal.{Refusal}
-use Rattle.lisa_cli.specs.declared.status.Refusal.TheVariants as refusals
-use Rattle.lisa_reader.specs.Answers.{IsBroken}
+-- What each request gives for the files and the input that are there.
+use Rattle.lisa_outcomes.specs.Outcomes.{Outcome, Given}
+use Rattle.description_commands.specs.Descriptions.{AfterDescription, Formats}
+use Rattle.description_commands.specs.ThinRuns.{TreeRuns}
 use Rattle.lisa_cli.specs.Requests.{Request, Format, Run}
-use Rattle.lisa_cli.specs.Outcomes.{Outcome, Finished, FileMap, After, AfterReading}
-use Rattle.lisa_cli.specs.ThinRuns.{TreeRuns}
 
--- the most bytes of a description
-abbrev pub description_limit : ℕ
-description_limit = 1048576
-
--- the description that bytes spell
-abbrev pub IsUnread : List ℕ → Refusal → Type 0
-IsUnread bytes refusal = (fault : DescFault) × IsBroken bytes fault × (refusal ≡ refusals.Description fault)
-
-abbrev pub AfterSpelling : List ℕ → (DescriptionTree → Outcome → Type 0) → Outcome → Type 0
-AfterSpelling bytes Then = After (SpellsText bytes) (IsUnread bytes) Then
-
-abbrev pub AfterDescription : FileMap → List ℕ → (DescriptionTree → Outcome → Type 0) → Outcome → Type 0
-AfterDescription files name Then = AfterReading files name description_limit (λ bytes. AfterSpelling bytes Then)
-
--- the canonical text
-abbrev pub Formats : DescriptionTree → Outcome → Type 0
-Formats d outcome = outcome ≡ Finished (canonical_text (description_tokens d))
-
-abbrev pub Gives : FileMap → Request → Outcome → Type 0
-Gives files (Format description) = AfterDescription files description Formats
-Gives files (Run description edges) = AfterDescription files description (TreeRuns edges)
+abbrev pub Gives : Given → Request → Outcome → Type 0
+Gives given (Format description) = AfterDescription given.files description Formats
+Gives given (Run description edges) = AfterDescription given.files description (TreeRuns edges)

@@ -1,5 +1,5 @@
 -- What the words of a command line ask for.
-use Rattle.std.specs.Prelude.{ℕ, ◌≡◌, ◌≢◌, ◌≤◌, List, [], ◌∷◌, codes, decimal}
+use Rattle.std.specs.Prelude.{ℕ, ◌≡◌, ◌≢◌, ◌≤◌, Bool, false, List, [], ◌∷◌, codes, decimal}
 
 -- a command with its file and numbers
 pub data Request : Type 0 where
@@ -21,6 +21,11 @@ pub record IsFileName (name : List ℕ) : Type 0 where
 abbrev pub IsAllowed : Request → Type 0
 IsAllowed (Format description) = IsFileName description
 IsAllowed (Run description edges) = IsFileName description × (edges ≤ 1000000)
+
+-- it takes the lines of the input
+abbrev pub reads_input : Request → Bool
+reads_input (Format description) = false
+reads_input (Run description edges) = false
 
 -- the words ask for this
 pub record Asks (words : List (List ℕ)) (request : Request) : Type 0 where

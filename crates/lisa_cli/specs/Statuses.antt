@@ -1,9 +1,9 @@
 -- The status of a command's end.
 use Rattle.std.specs.Prelude.{Result, Ok, Err}
-use Rattle.lisa_cli.specs.declared.status.End.{End}
-use Rattle.lisa_cli.specs.declared.status.End.TheVariants as ends
-use Rattle.lisa_cli.specs.declared.status.Status.{Status}
-use Rattle.lisa_cli.specs.declared.status.Status.TheVariants as statuses
+use Rattle.lisa_outcomes.specs.declared.status.End.{End}
+use Rattle.lisa_outcomes.specs.declared.status.End.TheVariants as ends
+use Rattle.lisa_outcomes.specs.declared.status.Status.{Status}
+use Rattle.lisa_outcomes.specs.declared.status.Status.TheVariants as statuses
 
 abbrev pub status_of : {T : Type 0} → Result T End → Status
 status_of (Ok x) = statuses.Done

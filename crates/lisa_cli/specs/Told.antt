@@ -3,8 +3,8 @@ use Rattle.std.specs.Prelude.{ℕ, ◌≡◌, List, Option, ◌⊎◌}
 use Rattle.std.specs.Io.KnownBytes.{Appends}
 use Rattle.lisa_io.specs.Causes.{Rose}
 use Rattle.lisa_io.specs.Contents.{AppendsFront}
-use Rattle.lisa_cli.specs.declared.status.Status.{Status}
-use Rattle.lisa_cli.specs.declared.status.Status.TheVariants as statuses
+use Rattle.lisa_outcomes.specs.declared.status.Status.{Status}
+use Rattle.lisa_outcomes.specs.declared.status.Status.TheVariants as statuses
 use Rattle.lisa_cli.specs.Runs.{status_text}
 
 -- the status was told whole, or the stream failed, and then it holds a front of the text

@@ -1,109 +1,32 @@
-//! The commands, over the files that they name.
-ghost use Rattle.std.specs.Prelude.{◌≡◌, ◌≤◌, ◌<◌, ◌^◌, List, ℕ, [], length};
-ghost use Rattle.std.specs.Io.KnownBytes.{Appends};
-ghost use Rattle.lisa_io.specs.Causes.{Rose};
-ghost use Rattle.lisa_tree.specs.Descriptions.{description_tree};
-ghost use Rattle.lisa_printer.specs.CanonicalText.{canonical_text};
-ghost use Rattle.lisa_printer.specs.CanonicalTokens.{description_tokens};
+//! The commands, each by what it reads.
+ghost use Rattle.std.specs.Prelude.{◌≡◌, Bool, false, List, ℕ};
+ghost use Rattle.lisa_outcomes.specs.Outcomes.{Given};
+ghost use Rattle.lisa_outcomes.specs.Ends.{Ends};
+ghost use Rattle.lisa_cli.specs.Requests.{reads_input};
 ghost use Rattle.lisa_cli.specs.Asked.{request_of};
-ghost use Rattle.lisa_cli.specs.Gives.{Gives, AfterSpelling, AfterDescription, Formats};
-ghost use Rattle.lisa_cli.specs.ThinRuns.{TreeRuns};
-ghost use Rattle.lisa_cli.specs.Runs.{Blames};
-ghost use Rattle.lisa_cli.specs.Ends.{Ends};
-ghost use Rattle.lisa_cli.specs.Replies.{Replies};
-ghost use Rattle.lisa_cli.specs.Writes.{Writes};
+ghost use Rattle.lisa_cli.specs.Gives.{Gives};
+ghost use Rattle.lisa_cli.specs.Worlds.{readings, IsGiven, Blamed};
 
-use crate::loading::load;
-use crate::reading::description_of;
 use crate::requests::Command;
-use crate::running::run_tree;
-use crate::status::End;
-use lisa_io::{Files, Sink, put_all};
-use lisa_printer::print_description;
-use lisa_tree::Description;
+use description_commands::{format_file, run_file};
+use lisa_io::{Files, Sink, Source};
+use lisa_outcomes::End;
 use std::alloc::Global;
 
-const DESCRIPTION_LIMIT: u64 = 1_048_576;
-
-// Writes the canonical text of a description.
-fn format_tree<O: Sink>(alloc: Global, description: &Description, out: &mut O) -> Result<(), End>
-    ensures { Writes (O.written out.old) (O.written out.new) (O.faults out.old) (O.faults out.new) result (canonical_text (description_tokens (description_tree description.now))) }
-{
-    let text = match print_description(alloc, description) {
-        Ok(text) => text,
-        Err(_) => return Err(End::NoMemory),
-    };
-    match put_all(out, &text) {
-        Ok(()) => Ok(()),
-        Err(_) => Err(End::WriteFault),
-    }
-}
-
-// `fmt` on the bytes of a description.
-fn format_bytes<O: Sink>(alloc: Global, bytes: &[u8], out: &mut O) -> Result<(), End>
-    requires { length bytes.now < 2 ^ 32 }
-    ensures { Replies (AfterSpelling bytes.now Formats) (O.written out.old) (O.written out.new) (O.faults out.old) (O.faults out.new) result }
-{
-    match description_of(alloc, bytes) {
-        Ok(description) => format_tree(alloc, &description, out),
-        Err(end) => Err(end),
-    }
-}
-
-// `fmt` on a file.
-fn format_file<F: Files, O: Sink>(
-    alloc: Global,
-    description: &str,
-    files: &mut F,
-    out: &mut O,
-) -> Result<(), End>
-    ensures { Ends (λ files. AfterDescription files description.now Formats) (F.held files.old)
-        (Rose (F.faults files.old description.now) (F.faults files.new description.now) × Appends (O.written out.old) (O.written out.new) []) (O.written out.old) (O.written out.new) (O.faults out.old) (O.faults out.new) result }
-{
-    match load(alloc, files, description, DESCRIPTION_LIMIT) {
-        Ok(bytes) => format_bytes(alloc, &bytes, out),
-        Err(end) => Err(end),
-    }
-}
-
-// `run` on the bytes of a description.
-fn run_bytes<O: Sink>(alloc: Global, bytes: &[u8], edges: u32, out: &mut O) -> Result<(), End>
-    requires { length bytes.now < 2 ^ 32 }
-    ensures { Replies (AfterSpelling bytes.now (TreeRuns edges)) (O.written out.old) (O.written out.new) (O.faults out.old) (O.faults out.new) result }
-{
-    match description_of(alloc, bytes) {
-        Ok(description) => run_tree(alloc, &description, edges, out),
-        Err(end) => Err(end),
-    }
-}
-
-// `run` on a file.
-fn run_file<F: Files, O: Sink>(
-    alloc: Global,
-    description: &str,
-    edges: u32,
-    files: &mut F,
-    out: &mut O,
-) -> Result<(), End>
-    ensures { Ends (λ files. AfterDescription files description.now (TreeRuns edges)) (F.held files.old)
-        (Rose (F.faults files.old description.now) (F.faults files.new description.now) × Appends (O.written out.old) (O.written out.new) []) (O.written out.old) (O.written out.new) (O.faults out.old) (O.faults out.new) result }
-{
-    match load(alloc, files, description, DESCRIPTION_LIMIT) {
-        Ok(bytes) => run_bytes(alloc, &bytes, edges, out),
-        Err(end) => Err(end),
-    }
-}
-
 /// Does what a command asks for, and writes what it gives.
-pub fn perform<F: Files, O: Sink>(
+pub fn perform<F: Files, I: Source, O: Sink>(
     alloc: Global,
     command: &Command<'_>,
     files: &mut F,
+    input: &mut I,
     out: &mut O,
 ) -> Result<(), End>
-    ensures { Ends (λ files. Gives files (request_of command.now)) (F.held files.old)
-        (Blames (request_of command.now) (F.faults files.old) (F.faults files.new) × Appends (O.written out.old) (O.written out.new) []) (O.written out.old) (O.written out.new) (O.faults out.old) (O.faults out.new) result }
+    ensures ends { Ends (IsGiven (F.held files.old) (I.left input.old) (request_of command.now)) (λ given. Gives given (request_of command.now))
+        (Blamed (readings (F.held files.old) (F.faults files.old) (F.faults files.new) (I.left input.old) (I.left input.new) (I.faults input.old) (I.faults input.new)) (O.written out.old) (O.written out.new) (request_of command.now))
+        (O.written out.old) (O.written out.new) (O.faults out.old) (O.faults out.new) result }
+    ensures input { reads_input (request_of command.now) ≡ false → (I.left input.new ≡ I.left input.old) × (I.faults input.new ≡ I.faults input.old) }
 {
+    let _ = input;
     match command {
         Command::Format { description } => format_file(alloc, description, files, out),
         Command::Run { description, edges } => run_file(alloc, description, *edges, files, out),

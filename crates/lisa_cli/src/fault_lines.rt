@@ -2,12 +2,12 @@
 ghost use Rattle.std.specs.Prelude.{◌≡◌};
 ghost use Rattle.lisa_cli.specs.LineViews.{line_of};
 ghost use Rattle.lisa_cli.specs.DescriptionLines.{description_line};
-ghost use Rattle.lisa_cli.specs.OwnLines.{file_line, later_line};
+ghost use Rattle.lisa_cli.specs.OwnLines.{file_line, input_line, later_line};
 
 use crate::lines::{
     Line, line0, line1, line2, line3, name_field, number_field, text_field, word_field,
 };
-use crate::status::{FileFault, LaterFault};
+use lisa_outcomes::{FileFault, InputFault, LaterFault};
 use lisa_tree::DescFault;
 
 /// The line of a description's fault.
@@ -158,6 +158,16 @@ pub fn file_line(fault: &FileFault) -> Line<'_>
             line1(b"file 1 TooLong", name_field(b"name", name.as_bytes()))
         }
         FileFault::NoMemory => line0(b""),
+    }
+}
+
+/// The line of a fault of the input.
+pub fn input_line(fault: &InputFault) -> Line<'_>
+    ensures { line_of result ≡ input_line fault.now }
+{
+    match fault {
+        InputFault::TooLong {} => line0(b"input 1 TooLong"),
+        InputFault::NoMemory => line0(b""),
     }
 }
 

@@ -4,20 +4,13 @@
 mod commands;
 mod fault_lines;
 mod lines;
-mod loading;
 mod module_lines;
-mod parts;
-mod reading;
 mod requests;
-mod running;
 mod sending;
-mod simulator;
-mod status;
 mod telling;
-mod thin;
 mod top;
 
-pub use status::{End, FileFault, LaterFault, Refusal, Status};
+pub use lisa_outcomes::{End, FileFault, InputFault, LaterFault, Refusal, Status};
 pub use top::lisa;
 
 #[cfg(test)]

@@ -1,8 +1,8 @@
 //! The last of a command's output.
 ghost use Rattle.lisa_cli.specs.Sent.{IsSentOn};
 
-use crate::status::End;
 use lisa_io::Flush;
+use lisa_outcomes::End;
 
 /// Sends on what a command's output holds back, but for a command that ended in a write fault.
 pub fn sent_on<O: Flush>(end: Result<(), End>, out: &mut O) -> Result<(), End>

@@ -6,11 +6,11 @@ ghost use Rattle.lisa_cli.specs.LineViews.{line_of};
 ghost use Rattle.lisa_cli.specs.Runs.{refusal_line, status_text};
 ghost use Rattle.lisa_cli.specs.Told.{IsTold};
 
-use crate::fault_lines::{description_line, file_line, later_line};
+use crate::fault_lines::{description_line, file_line, input_line, later_line};
 use crate::lines::{Line, put_line};
 use crate::module_lines::{image_line, schedule_line, verilog_line};
-use crate::status::{FileFault, LaterFault, Refusal, Status};
 use lisa_io::{Failed, Sink, put_all};
+use lisa_outcomes::{Refusal, Status};
 
 const USAGE: &[u8] =
     b"usage: lisa check|fmt|verilog|run|trace|clock|clocktrace|asm|link|dis|debug|vdebug|gen|soak ..\n";
@@ -21,6 +21,7 @@ fn refusal_line(refusal: &Refusal) -> Line<'_>
 {
     match refusal {
         Refusal::File(fault) => file_line(fault),
+        Refusal::Input(fault) => input_line(fault),
         Refusal::Description(fault) => description_line(fault),
         Refusal::Verilog(fault) => verilog_line(fault),
         Refusal::Image(fault) => image_line(fault),

@@ -1,7 +1,13 @@
+use Rattle.lisa_outcomes.specs.Outcomes.{Given, FileMap}
+use Rattle.lisa_outcomes.proofs.Endings.{ends_within}
+use Rattle.description_commands.specs.Descriptions.{AfterDescription, Formats}
+use Rattle.description_commands.specs.ThinRuns.{TreeRuns}
 use Rattle.lisa_cli.proofs.commands.perform.Goals as goal
 
-pub returns-in-Format : goal.returns-in-Format
-returns-in-Format g c = rw c.in-Format.is c.format_file.ensures
+pub returns-in-Format-clause-ends : goal.returns-in-Format-clause-ends
+returns-in-Format-clause-ends g c =
+    rw c.in-Format.is (ends_within {T = Unit {0}} {W = FileMap} {V = Given} _ _ (λ files. AfterDescription files c.in-Format.description.now Formats) _ _ (λ given. given.files) _ _ _ _ _ (λ given known. known.files) (λ b. b) c.format_file.ensures)
 
-pub returns-in-Run : goal.returns-in-Run
-returns-in-Run g c = rw c.in-Run.is c.run_file.ensures
+pub returns-in-Run-clause-ends : goal.returns-in-Run-clause-ends
+returns-in-Run-clause-ends g c =
+    rw c.in-Run.is (ends_within {T = Unit {0}} {W = FileMap} {V = Given} _ _ (λ files. AfterDescription files c.in-Run.description.now (TreeRuns c.in-Run.edges)) _ _ (λ given. given.files) _ _ _ _ _ (λ given known. known.files) (λ b. b) c.run_file.ensures)

@@ -1,5 +1,5 @@
-use Rattle.std.proofs.Common.{◌+◌, ◌<◌, length, arith, get_or, slice_index_or}
-use Rattle.lisa_io.proofs.Known.{puts_exit, puts_early, puts_more, puts_whole}
+use Rattle.std.proofs.Common.{◌+◌, arith}
+use Rattle.lisa_io.proofs.Known.{puts_exit, puts_early, puts_more}
 use Rattle.lisa_object.specs.Texts.{byte_digits}
 use Rattle.lisa_cli.proofs.lines.put_digest.Goals as goal
 

@@ -1,0 +1,4 @@
+mod SingleStatements
+mod Fitting
+mod Faulty
+mod PinCounts

@@ -1,0 +1,12 @@
+use Rattle.lisa_tree.specs.Descriptions.{description_tree}
+use Rattle.description_commands.specs.ThinForm.{IsThin}
+use Rattle.description_commands.specs.ThinView.{thin_of}
+use Rattle.description_commands.specs.ThinRuns.{IsForLater}
+use Rattle.lisa_outcomes.proofs.Finding.{found_ok}
+use Rattle.lisa_outcomes.proofs.Told.{some_is}
+use Rattle.description_commands.proofs.running.built.Goals as goal
+
+pub returns-in-Some : goal.returns-in-Some
+returns-in-Some c =
+    found_ok thin_of (IsThin (description_tree c.args.description.now)) (IsForLater (description_tree c.args.description.now)) c.in-Some.thin
+    c.in-Some.ensures.found (λ t h. some_is (c.in-Some.ensures.only t h)) (λ r wrong. wrong.0 _ c.in-Some.ensures.found)

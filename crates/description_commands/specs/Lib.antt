@@ -1,0 +1,6 @@
+pub mod Descriptions
+pub mod ThinForm
+pub mod ThinView
+pub mod ThinStates
+pub mod ThinRuns
+pub mod Unread

@@ -1,0 +1,6 @@
+pub mod Told
+pub mod Finding
+pub mod Stages
+pub mod Writing
+pub mod Endings
+pub mod Files
