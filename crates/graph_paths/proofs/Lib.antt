@@ -1,0 +1,6 @@
+pub mod Seen
+pub mod Search
+pub mod Long
+pub mod Edges
+pub mod Peels
+pub mod Rows

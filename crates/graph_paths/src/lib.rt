@@ -1,0 +1,16 @@
+//! What reaches what in a finite graph, whose nodes are numbers and whose edges are a list of nodes for each node.
+#![tactic(auto)]
+
+mod circles;
+mod laws;
+mod peeling;
+mod reaching;
+mod reversing;
+
+pub use circles::first_circular;
+pub use laws::paths_are_short;
+pub use reaching::{reached_from, row};
+pub use reversing::reversed;
+
+#[cfg(test)]
+mod tests;

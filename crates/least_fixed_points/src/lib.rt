@@ -1,0 +1,9 @@
+//! Values of nodes that rest on each other: what follows from the rules, and nothing else.
+#![tactic(auto)]
+
+mod rounds;
+
+pub use rounds::{Rule, settle};
+
+#[cfg(test)]
+mod tests;
