@@ -75,3 +75,27 @@ fn lines_are_read(rt: HostRuntime) -> Result<(), Fail> {
     }
     Ok(())
 }
+
+const SOURCE: &[u8] =
+    b".section prog ; code\nstart: BR @(far-$-2)\r\n.equ n 0x1F\n.word @(n), -5\nfar: NOP\n";
+
+#[test]
+fn each_front_of_a_source_is_read_or_has_a_fault_in_its_last_line(rt: HostRuntime) {
+    let alloc = rt.alloc();
+    assert_eq!(rt; fault(alloc, SOURCE), None);
+    for end in 0..SOURCE.len() {
+        let front = &SOURCE[..end];
+        let feeds = front.iter().filter(|b| **b == b'\n').count();
+        match fault(alloc, front) {
+            None => {}
+            Some(
+                SourceFault::BadLine { line }
+                | SourceFault::UnknownDirective { line }
+                | SourceFault::BadExpression { line },
+            ) => {
+                assert_eq!(rt; line as usize, feeds.saturating_add(1));
+            }
+            Some(_) => assert!(rt; false),
+        }
+    }
+}

@@ -86,3 +86,49 @@ fn other_objects_are_refused(rt: HostRuntime) {
     let twice = b"section m 8\nlabel a\nequ a 1\nend\n".as_slice();
     assert_eq!(rt; object_again(alloc, twice).err(), Some(4));
 }
+
+// The image and the objects of two small sources, each from its head on.
+const LINKED: &[u8] = b"memory prog 8 16 5\n82\n0\n0\n0\n0\nend\n";
+
+const FIRST: &[u8] =
+    b"section prog 8\nglobal start\nlabel start\ncell 80\nfix 0 6 s -2 +far -$\nend\n";
+
+const SECOND: &[u8] = b"section prog 8\nglobal far\nspace 3\nlabel far\ncell 0\nend\n";
+
+#[test]
+fn objects_and_their_image_are_read_and_printed(rt: HostRuntime) -> Result<(), Fail> {
+    let alloc = rt.alloc();
+    let mut image = Vec::from_slice(alloc, HEAD)?;
+    image.extend_from_slice(LINKED)?;
+    assert_eq!(rt; again(alloc, LINKED), Ok(image));
+    for lines in [FIRST, SECOND] {
+        let mut object = Vec::from_slice(alloc, OBJECT)?;
+        object.extend_from_slice(lines)?;
+        assert_eq!(rt; object_again(alloc, lines), Ok(object));
+    }
+    Ok(())
+}
+
+#[test]
+fn each_front_of_an_image_or_object_is_refused(rt: HostRuntime) {
+    let alloc = rt.alloc();
+    for end in 0..LINKED.len() {
+        assert!(rt; again(alloc, &LINKED[..end]).is_err());
+    }
+    for end in 0..FIRST.len() {
+        assert!(rt; object_again(alloc, &FIRST[..end]).is_err());
+    }
+}
+
+#[test]
+fn spellings_near_an_image_are_refused(rt: HostRuntime) {
+    let alloc = rt.alloc();
+    let upper = b"memory m 8 16 1\nFF\nend\n".as_slice();
+    assert_eq!(rt; fault(alloc, upper), Some(3));
+    let blanks = b"memory m  8 16 1\n1\nend\n".as_slice();
+    assert_eq!(rt; fault(alloc, blanks), Some(2));
+    let fewer = b"memory m 8 16 2\n1\nend\n".as_slice();
+    assert_eq!(rt; fault(alloc, fewer), Some(4));
+    let zero = b"memory m 08 16 1\n1\nend\n".as_slice();
+    assert_eq!(rt; fault(alloc, zero), Some(2));
+}
