@@ -1,0 +1,9 @@
+pub mod Longer
+pub mod Operands
+pub mod Meanings
+pub mod Members
+pub mod Named
+pub mod Growing
+pub mod Knowing
+pub mod Edges
+pub mod Sample
