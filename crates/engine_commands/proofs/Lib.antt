@@ -1,0 +1,4 @@
+mod Scheduled
+mod Tracing
+mod SessionEnds
+mod Imaged

@@ -1,0 +1,5 @@
+pub mod Machines
+pub mod Sessions
+pub mod Tasks
+pub mod Images
+pub mod Unread

@@ -1,0 +1,38 @@
+-- What each task gives over a machine under a schedule.
+use Rattle.std.specs.Prelude.{ℕ, ◌≡◌, Bool, true, false, List, Option, Some}
+use Rattle.lisa_io.specs.Causes.{Rose}
+use Rattle.lisa_engine.specs.ScheduleLine.{Line}
+use Rattle.lisa_engine.specs.Text.{state_text, trace_text}
+use Rattle.lisa_outcomes.specs.Outcomes.{Outcome, Finished}
+use Rattle.engine_commands.specs.declared.tasks.Task.{Task}
+use Rattle.engine_commands.specs.declared.tasks.Task.TheVariants as tasks
+use Rattle.engine_commands.specs.Machines.{Machine, machine_state, IsSchedule, AfterSchedule}
+use Rattle.engine_commands.specs.Sessions.{course_under, session_outcome, IsCutOff}
+
+-- it takes the lines of the input
+abbrev pub takes_input : Task → Bool
+takes_input (tasks.State edges) = false
+takes_input (tasks.Trace edges) = false
+takes_input tasks.Answers = true
+
+-- the input is told, where the task takes it
+abbrev pub IsHeard : Task → Option (List ℕ) → List ℕ → Type 0
+IsHeard task left input = takes_input task ≡ true → left ≡ Some input
+
+-- the text of the state after some edges; that of the first state, and of what each edge changes; or the answers to the input
+abbrev pub GivesTask : Task → Machine → (input : List ℕ) → List Line → Outcome → Type 0
+GivesTask (tasks.State edges) m input lines outcome = outcome ≡ Finished (state_text m.items m.arrays edges (machine_state m lines edges))
+GivesTask (tasks.Trace edges) m input lines outcome = outcome ≡ Finished (trace_text m.items m.arrays (machine_state m lines) edges)
+GivesTask tasks.Answers m input lines outcome = outcome ≡ session_outcome (course_under m lines) input
+
+-- the same behind the reading of the schedule
+abbrev pub GivesUnder : Task → Machine → (schedule input : List ℕ) → Outcome → Type 0
+GivesUnder task m schedule input = AfterSchedule m.pins schedule (GivesTask task m input)
+
+-- the input failed, which the task takes
+abbrev pub HasFailed : Task → (first last : ℕ) → Type 0
+HasFailed task first last = (takes_input task ≡ true) × Rose first last
+
+-- and the session under the schedule is cut off there
+abbrev pub IsCutUnder : Machine → (schedule : List ℕ) → (left rest before after : Option (List ℕ)) → Type 0
+IsCutUnder m schedule left rest before after = (lines : List Line) × IsSchedule m.pins schedule lines × IsCutOff (course_under m lines) left rest before after

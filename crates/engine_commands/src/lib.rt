@@ -1,0 +1,17 @@
+//! The tasks of commands over any engine: the text of its state after some edges, the text of a trace, and the answers of a
+//! session, each under a schedule that is read first.
+//!
+//! `specs/Tasks.antt` says what each task gives.
+#![tactic(auto)]
+
+mod images;
+mod running;
+mod scheduling;
+mod sessions;
+mod tasks;
+
+pub use images::image_of;
+pub use tasks::{Task, do_task};
+
+#[cfg(test)]
+mod tests;

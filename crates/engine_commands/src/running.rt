@@ -1,0 +1,55 @@
+//! The text of an engine's state after some edges, and of a trace.
+ghost use Rattle.std.specs.Prelude.{◌≡◌, []};
+ghost use Rattle.lisa_engine.specs.PinValues.{IsFor};
+ghost use Rattle.lisa_engine.specs.Text.{state_text, trace_text};
+ghost use Rattle.lisa_outcomes.specs.Writes.{Writes};
+ghost use Rattle.engine_commands.specs.Machines.{machine_of, machine_state};
+
+use lisa_engine::{Engine, Schedule, TraceEnd, run_edges, write_state, write_trace};
+use lisa_io::Sink;
+use lisa_outcomes::End;
+use std::alloc::Global;
+
+/// Writes the state after some edges of a schedule.
+pub fn put_state<E: Engine, O: Sink>(
+    alloc: Global,
+    engine: &mut E,
+    schedule: &Schedule,
+    edges: u32,
+    out: &mut O,
+) -> Result<(), End>
+    requires first { E.present engine.old ≡ E.defined engine.old [] }
+    requires fits { IsFor (E.pin_list engine.old) schedule.now }
+    ensures { Writes (O.written out.old) (O.written out.new) (O.faults out.old) (O.faults out.new) result
+        (state_text (E.item_list engine.old) (E.array_list engine.old) edges (machine_state (machine_of (E.pin_list engine.old) (E.item_list engine.old) (E.array_list engine.old) (E.defined engine.old)) schedule.now edges)) }
+{
+    let mut pins = match vec![in alloc; 0; engine.pins().len()] {
+        Ok(pins) => pins,
+        Err(_) => return Err(End::NoMemory),
+    };
+    run_edges(engine, schedule, 0, edges, &mut pins);
+    match write_state(engine, edges, out) {
+        Ok(()) => Ok(()),
+        Err(_) => Err(End::WriteFault),
+    }
+}
+
+/// Writes the first state, and what each of some edges of a schedule changes.
+pub fn put_trace<E: Engine, O: Sink>(
+    alloc: Global,
+    engine: &mut E,
+    schedule: &Schedule,
+    edges: u32,
+    out: &mut O,
+) -> Result<(), End>
+    requires first { E.present engine.old ≡ E.defined engine.old [] }
+    requires fits { IsFor (E.pin_list engine.old) schedule.now }
+    ensures { Writes (O.written out.old) (O.written out.new) (O.faults out.old) (O.faults out.new) result
+        (trace_text (E.item_list engine.old) (E.array_list engine.old) (machine_state (machine_of (E.pin_list engine.old) (E.item_list engine.old) (E.array_list engine.old) (E.defined engine.old)) schedule.now) edges) }
+{
+    match write_trace(alloc, engine, schedule, edges, out) {
+        Ok(()) => Ok(()),
+        Err(TraceEnd::WriteFault) => Err(End::WriteFault),
+        Err(TraceEnd::NoMemory) => Err(End::NoMemory),
+    }
+}
