@@ -1,0 +1,6 @@
+pub mod Pieces
+pub mod Spelled
+pub mod Narrowed
+pub mod Accepted
+pub mod Bounds
+pub mod Whole
