@@ -1,0 +1,9 @@
+pub mod FirstLaws
+pub mod LengthLaws
+pub mod PowerLaws
+pub mod NameLaws
+pub mod DriverLaws
+pub mod SizeLaws
+pub mod ActionLaws
+pub mod TellingLaws
+pub mod CountLaws
