@@ -10,21 +10,50 @@ use Rattle.lisa_outcomes.specs.declared.status.End.TheVariants as ends
 use Rattle.lisa_outcomes.specs.declared.status.Refusal.{Refusal}
 use Rattle.lisa_outcomes.specs.declared.status.Status.{Status}
 use Rattle.lisa_outcomes.specs.declared.status.Status.TheVariants as statuses
-use Rattle.lisa_cli.specs.Requests.{Request, Format, Run, Asks}
+use Rattle.module_commands.specs.Clocks.{file_failed, input_failed}
+use Rattle.module_commands.proofs.Stopped.{stopped_kept}
+use Rattle.lisa_cli.specs.Requests.{Request, Format, Run, Clock, Asks}
 use Rattle.lisa_outcomes.specs.Outcomes.{Finished, Refusing, Given}
 use Rattle.lisa_cli.specs.Gives.{Gives}
 use Rattle.lisa_outcomes.specs.Ends.{Ends}
 use Rattle.lisa_cli.specs.Statuses.{status_of}
+use Rattle.lisa_cli.specs.Sent.{IsSentOn}
 use Rattle.lisa_cli.specs.Told.{IsTold}
 use Rattle.lisa_cli.specs.Runs.{status_text, IsDone, IsRefused, IsReadFault, IsWithin, IsWriteFault, IsNoMemory, IsSomeRefusal}
-use Rattle.lisa_cli.specs.Worlds.{World, Readings, Blames, Blamed, IsGiven, IsKnown, NoneFailed}
+use Rattle.lisa_cli.specs.Worlds.{World, world, Readings, Blames, Blamed, IsGiven, IsKnown, NoneFailed}
 use Rattle.lisa_outcomes.proofs.Told.{not_ok}
+use Rattle.lisa_cli.proofs.Flushed.{sent_ends}
 
 pub record Ran {T : Type 0} (w : World) (words : List (List ℕ)) (request : Request) (end : Result T End) (status : Status) : Type 0 where
   pub asks : Asks words request
   pub one : (other : Request) → Asks words other → request ≡ other
   pub how : Ends (IsGiven w.reads.held w.reads.input request) (λ given. Gives given request) (Blamed w.reads w.out w.out_after request) w.out w.out_after w.out_faults w.out_faults_after end
   pub told : IsTold (status_of end) w.err w.err_after w.err_faults w.err_faults_after status
+
+-- what stands after a read fault names what failed
+blamed_blames : (r : Readings) (before after : Option (List ℕ)) (request : Request) → Blamed r before after request → Blames r request
+blamed_blames r before after (Format description) blamed = blamed.0
+blamed_blames r before after (Run description edges) blamed = blamed.0
+blamed_blames r before after (Clock task names) (file_failed failed nothing) = inl failed
+blamed_blames r before after (Clock task names) (input_failed failed cut) = inr failed
+
+-- and what stands is kept where nothing more is put
+pub blamed_kept : (r : Readings) (before after sent : Option (List ℕ)) (request : Request) → Keeps after sent → Blamed r before after request → Blamed r before sent request
+blamed_kept r before after sent (Format description) keeps blamed = (blamed.0, appends_kept _ _ _ _ blamed.1 keeps)
+blamed_kept r before after sent (Run description edges) keeps blamed = (blamed.0, appends_kept _ _ _ _ blamed.1 keeps)
+blamed_kept r before after sent (Clock task names) keeps blamed = stopped_kept keeps blamed
+
+-- a command that ended, whose output was sent on and whose status was told
+pub sent_ran : {T : Type 0} (r : Readings) (words : List (List ℕ)) (request : Request) (before middle after sent : Option (List ℕ)) (old between new : ℕ) (err err_after : Option (List ℕ)) (err_old err_new : ℕ)
+    (end result : Result T End) (status : Status) → Asks words request → ((other : Request) → Asks words other → request ≡ other)
+    → Ends (IsGiven r.held r.input request) (λ given. Gives given request) (Blamed r before middle request) before middle old between end → IsSentOn middle after sent between new end result
+    → IsTold (status_of result) err err_after err_old err_new status → Ran (world r before after old new err err_after err_old err_new) words request result status
+sent_ran r words request before middle after sent old between new err err_after err_old err_new end result status asks one ends sent_on told = record {
+  asks = asks;
+  one = one;
+  how = sent_ends (IsGiven r.held r.input request) (λ given. Gives given request) _ _ before middle after sent old between new end result (blamed_kept r before middle after request sent_on.keeps) ends sent_on;
+  told = told;
+}
 
 -- a status that is no write fault was told whole
 told_whole : {s x status : Status} (a b : Option (List ℕ)) (m n : ℕ) → x ≢ statuses.WriteFault → status ≡ x → IsTold s a b m n status → (s ≡ x) × Appends a b (status_text x)
@@ -122,16 +151,6 @@ pub ran_memory : {T : Type 0} {w : World} {words : List (List ℕ)} {request : R
 ran_memory {request = request} ran is =
     let t = told_whole _ _ _ _ memory_differs is ran.told in
     record { request = request; asks = ran.asks; within = ran_within ran; said = t.1 }
-
--- what stands after a read fault names what failed
-blamed_blames : (r : Readings) (before after : Option (List ℕ)) (request : Request) → Blamed r before after request → Blames r request
-blamed_blames r before after (Format description) blamed = blamed.0
-blamed_blames r before after (Run description edges) blamed = blamed.0
-
--- and what stands is kept where nothing more is put
-pub blamed_kept : (r : Readings) (before after sent : Option (List ℕ)) (request : Request) → Keeps after sent → Blamed r before after request → Blamed r before sent request
-blamed_kept r before after sent (Format description) keeps blamed = (blamed.0, appends_kept _ _ _ _ blamed.1 keeps)
-blamed_kept r before after sent (Run description edges) keeps blamed = (blamed.0, appends_kept _ _ _ _ blamed.1 keeps)
 
 -- where nothing failed the status was told
 told_unfailed : {s status : Status} (a b : Option (List ℕ)) (m n : ℕ) → (Rose m n → ⊥) → IsTold s a b m n status → status ≡ s

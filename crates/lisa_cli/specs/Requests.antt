@@ -1,31 +1,74 @@
 -- What the words of a command line ask for.
-use Rattle.std.specs.Prelude.{ℕ, ◌≡◌, ◌≢◌, ◌≤◌, Bool, false, List, [], ◌∷◌, codes, decimal}
+use Rattle.std.specs.Prelude.{ℕ, ◌≡◌, ◌≢◌, ◌≤◌, Bool, false, List, [], ◌∷◌, Option, Some, None, codes, decimal}
+use Rattle.lisa_outcomes.specs.RunFiles.{RunNames}
+use Rattle.engine_commands.specs.declared.tasks.Task.{Task}
+use Rattle.engine_commands.specs.declared.tasks.Task.TheVariants as tasks
+use Rattle.engine_commands.specs.Tasks.{takes_input}
 
--- a command with its file and numbers
+-- a command with its files and numbers
 pub data Request : Type 0 where
   -- description
   Format : List ℕ → Request
   -- description, edges
   Run : List ℕ → ℕ → Request
+  -- what is to be done with the clock of a module, and its files
+  Clock : Task → RunNames → Request
+
+-- a dash stands where a file is left out
+abbrev pub file_word : Option (List ℕ) → List ℕ
+file_word None = codes "-"
+file_word (Some name) = name
+
+abbrev pub clock_word : Task → List ℕ
+clock_word (tasks.State edges) = codes "clock"
+clock_word (tasks.Trace edges) = codes "clocktrace"
+clock_word tasks.Answers = codes "vdebug"
+
+-- the words behind the files
+abbrev pub count_words : Task → List (List ℕ)
+count_words (tasks.State edges) = decimal edges ∷ []
+count_words (tasks.Trace edges) = decimal edges ∷ []
+count_words tasks.Answers = []
+
+abbrev pub run_words : RunNames → List (List ℕ) → List (List ℕ)
+run_words names counts = names.main ∷ file_word names.image ∷ file_word names.schedule ∷ counts
 
 abbrev pub request_words : Request → List (List ℕ)
 request_words (Format description) = codes "fmt" ∷ description ∷ []
 request_words (Run description edges) = codes "run" ∷ description ∷ codes "-" ∷ codes "-" ∷ decimal edges ∷ []
+request_words (Clock task names) = clock_word task ∷ run_words names (count_words task)
 
 -- a word that names a file
 pub record IsFileName (name : List ℕ) : Type 0 where
   pub some : name ≢ []
   pub no_dash : name ≢ codes "-"
 
--- the file has a name, and the number of edges is within its limit
+abbrev pub IsAnyName : Option (List ℕ) → Type 0
+IsAnyName None = Unit {0}
+IsAnyName (Some name) = IsFileName name
+
+pub record AreNames (names : RunNames) : Type 0 where
+  pub main : IsFileName names.main
+  pub image : IsAnyName names.image
+  pub schedule : IsAnyName names.schedule
+
+-- the number of edges is within its limit
+abbrev pub IsCounted : Task → Type 0
+IsCounted (tasks.State edges) = edges ≤ 1000000
+IsCounted (tasks.Trace edges) = edges ≤ 10000
+IsCounted tasks.Answers = Unit {0}
+
+-- each file has a name, and the number of edges is within its limit
 abbrev pub IsAllowed : Request → Type 0
 IsAllowed (Format description) = IsFileName description
 IsAllowed (Run description edges) = IsFileName description × (edges ≤ 1000000)
+IsAllowed (Clock task names) = AreNames names × IsCounted task
 
 -- it takes the lines of the input
 abbrev pub reads_input : Request → Bool
 reads_input (Format description) = false
 reads_input (Run description edges) = false
+reads_input (Clock task names) = takes_input task
 
 -- the words ask for this
 pub record Asks (words : List (List ℕ)) (request : Request) : Type 0 where

@@ -9,12 +9,13 @@ ghost use Rattle.lisa_cli.specs.Worlds.{readings, IsGiven, Blamed};
 
 use crate::requests::Command;
 use description_commands::{format_file, run_file};
-use lisa_io::{Files, Sink, Source};
+use lisa_io::{Files, Flush, Source};
 use lisa_outcomes::End;
+use module_commands::do_with_module;
 use std::alloc::Global;
 
 /// Does what a command asks for, and writes what it gives.
-pub fn perform<F: Files, I: Source, O: Sink>(
+pub fn perform<F: Files, I: Source, O: Flush>(
     alloc: Global,
     command: &Command<'_>,
     files: &mut F,
@@ -26,9 +27,9 @@ pub fn perform<F: Files, I: Source, O: Sink>(
         (O.written out.old) (O.written out.new) (O.faults out.old) (O.faults out.new) result }
     ensures input { reads_input (request_of command.now) ≡ false → (I.left input.new ≡ I.left input.old) × (I.faults input.new ≡ I.faults input.old) }
 {
-    let _ = input;
     match command {
         Command::Format { description } => format_file(alloc, description, files, out),
         Command::Run { description, edges } => run_file(alloc, description, *edges, files, out),
+        Command::Clock { names, task } => do_with_module(alloc, *names, *task, files, input, out),
     }
 }

@@ -1,9 +1,15 @@
 //! The words of the command line.
-ghost use Rattle.std.specs.Prelude.{◌≡◌, ◌≤◌, ◌<◌, ◌^◌, ◌↔◌, ◌∷◌, [], Some, IsTrue, IfSome, codes, map, string_bytes, decimal};
+ghost use Rattle.std.specs.Prelude.{◌≡◌, ◌≤◌, ◌<◌, ◌^◌, ◌↔◌, ◌∷◌, [], List, ℕ, Option, Some, IsTrue, IfSome, codes, map, string_bytes, decimal};
 ghost use Rattle.std.specs.Option.{option_map};
-ghost use Rattle.lisa_cli.specs.Requests.{Request, Asks, IsFileName};
+ghost use Rattle.lisa_outcomes.specs.RunFiles.{RunNames as TheNames};
+ghost use Rattle.lisa_outcomes.specs.RunViews.{names_of};
+ghost use Rattle.engine_commands.specs.declared.tasks.Task.{Task as TheTask};
+ghost use Rattle.engine_commands.specs.declared.tasks.Task.TheVariants.{Answers};
+ghost use Rattle.lisa_cli.specs.Requests.{Request, Clock, Asks, IsFileName, IsAnyName, AreNames, IsCounted, file_word, clock_word, count_words, run_words};
 ghost use Rattle.lisa_cli.specs.Asked.{request_of};
 
+use engine_commands::Task;
+use lisa_outcomes::RunNames;
 use lisa_words::canonical_decimal;
 
 /// What the words ask for: a command with its file and numbers.
@@ -13,6 +19,8 @@ pub enum Command<'a> {
     Format { description: &'a str },
     /// `run DESC - - N`
     Run { description: &'a str, edges: u32 },
+    /// `clock VFILE IMAGE SCHED N`, `clocktrace VFILE IMAGE SCHED N` or `vdebug VFILE IMAGE SCHED`
+    Clock { names: RunNames<'a>, task: Task },
 }
 
 // A word that names a file.
@@ -97,6 +105,87 @@ fn run_command(operands: &[String]) -> Option<Command<'_>>
     )
 }
 
+// A word that names a file, or a dash where one is left out.
+fn any_file(word: &str) -> Option<Option<&str>>
+    ensures found { IfSome result (λ name. (word.now ≡ file_word (option_map (λ n. n.now) name)) × IsAnyName (option_map (λ n. n.now) name)) }
+    ensures only { (name : Option (List ℕ)) → word.now ≡ file_word name → IsAnyName name → option_map (option_map (λ n. n.now)) result ≡ Some name }
+{
+    if is_absent(word) {
+        return Some(None);
+    }
+    let name = file_name(word)?;
+    Some(Some(name))
+}
+
+// The names of a run's files.
+fn run_names<'a>(main: &'a str, image: &'a str, schedule: &'a str) -> Option<RunNames<'a>>
+    ensures found { IfSome result (λ n. (run_words (names_of n) [] ≡ main.now ∷ image.now ∷ schedule.now ∷ []) × AreNames (names_of n)) }
+    ensures only { (n : TheNames) → main.now ≡ n.main → image.now ≡ file_word n.image → schedule.now ≡ file_word n.schedule → AreNames n → option_map names_of result ≡ Some n }
+{
+    let main = file_name(main)?;
+    let image = any_file(image)?;
+    let schedule = any_file(schedule)?;
+    Some(RunNames {
+        main,
+        image,
+        schedule,
+    })
+}
+
+// The number of edges that stands behind the files.
+fn counted(rest: &[String], limit: u32) -> Option<u32>
+    ensures found { IfSome result (λ n. (map string_bytes rest.now ≡ decimal n ∷ []) × (n ≤ limit)) }
+    ensures only { (n : ℕ) → map string_bytes rest.now ≡ decimal n ∷ [] → n ≤ limit → result ≡ Some n }
+{
+    let [edges] = rest else {
+        return None;
+    };
+    edge_count(edges.as_str(), limit)
+}
+
+// The task without a number.
+fn answers_task(rest: &[String]) -> Option<Task>
+    ensures found { IfSome result (λ t. (t ≡ Answers) × (map string_bytes rest.now ≡ [])) }
+    ensures only { map string_bytes rest.now ≡ [] → result ≡ Some Answers }
+{
+    if rest.is_empty() {
+        return Some(Task::Answers);
+    }
+    None
+}
+
+// What is to be done with a module's clock.
+fn clock_task(command: &str, rest: &[String]) -> Option<Task>
+    ensures found { IfSome result (λ t. (command.now ≡ clock_word t) × (map string_bytes rest.now ≡ count_words t) × IsCounted t) }
+    ensures only { (t : TheTask) → command.now ≡ clock_word t → map string_bytes rest.now ≡ count_words t → IsCounted t → result ≡ Some t }
+{
+    match command {
+        "clock" => {
+            let edges = counted(rest, 1_000_000)?;
+            Some(Task::State { edges })
+        }
+        "clocktrace" => {
+            let edges = counted(rest, 10_000)?;
+            Some(Task::Trace { edges })
+        }
+        "vdebug" => answers_task(rest),
+        _ => None,
+    }
+}
+
+// The operands of a command over the clock of a module.
+fn clock_command<'a>(command: &str, operands: &'a [String]) -> Option<Command<'a>>
+    ensures found { IfSome result (λ c. Asks (command.now ∷ map string_bytes operands.now) (request_of c)) }
+    ensures only { (task : TheTask) (names : TheNames) → Asks (command.now ∷ map string_bytes operands.now) (Clock task names) → option_map request_of result ≡ Some (Clock task names) }
+{
+    let [main, image, schedule, rest @ ..] = operands else {
+        return None;
+    };
+    let names = run_names(main.as_str(), image.as_str(), schedule.as_str())?;
+    let task = clock_task(command, rest)?;
+    Some(Command::Clock { names, task })
+}
+
 /// What the words ask for, where they ask for something.
 pub fn request(words: &[String]) -> Option<Command<'_>>
     ensures found { IfSome result (λ c. Asks (map string_bytes words.now) (request_of c)) }
@@ -108,6 +197,6 @@ pub fn request(words: &[String]) -> Option<Command<'_>>
     match command.as_str() {
         "fmt" => format_command(operands),
         "run" => run_command(operands),
-        _ => None,
+        other => clock_command(other, operands),
     }
 }

@@ -2,6 +2,8 @@ use Rattle.lisa_outcomes.specs.Outcomes.{Given, FileMap}
 use Rattle.lisa_outcomes.proofs.Endings.{ends_within}
 use Rattle.description_commands.specs.Descriptions.{AfterDescription, Formats}
 use Rattle.description_commands.specs.ThinRuns.{TreeRuns}
+use Rattle.lisa_outcomes.specs.RunViews.{names_of}
+use Rattle.module_commands.specs.Clocks.{GivesClocked}
 use Rattle.lisa_cli.proofs.commands.perform.Goals as goal
 
 pub returns-in-Format-clause-ends : goal.returns-in-Format-clause-ends
@@ -11,3 +13,7 @@ returns-in-Format-clause-ends g c =
 pub returns-in-Run-clause-ends : goal.returns-in-Run-clause-ends
 returns-in-Run-clause-ends g c =
     rw c.in-Run.is (ends_within {T = Unit {0}} {W = FileMap} {V = Given} _ _ (λ files. AfterDescription files c.in-Run.description.now (TreeRuns c.in-Run.edges)) _ _ (λ given. given.files) _ _ _ _ _ (λ given known. known.files) (λ b. b) c.run_file.ensures)
+
+pub returns-in-Clock-clause-ends : goal.returns-in-Clock-clause-ends
+returns-in-Clock-clause-ends g c =
+    rw c.in-Clock.is (ends_within {T = Unit {0}} {W = Given} {V = Given} _ _ (GivesClocked c.in-Clock.task (names_of c.in-Clock.names)) _ _ (λ given. given) _ _ _ _ _ (λ given known. record { files = known.files; input = known.lines }) (λ b. b) c.do_with_module.ensures.ends)

@@ -1,0 +1,11 @@
+use Rattle.lisa_outcomes.proofs.Endings.{passed_ends, stopped_ends}
+use Rattle.module_commands.specs.DesignViews.{design_of}
+use Rattle.module_commands.proofs.clocking.do_with_bytes.Goals as goal
+
+pub returns-in-Ok-clause-ends : goal.returns-in-Ok-clause-ends
+returns-in-Ok-clause-ends g c =
+    passed_ends {T = Unit {0}} design_of _ _ _ _ _ _ c.in-Ok.parts _ _ _ _ _ c.in-Ok.ensures.finds
+    (λ b. (b.0, record { design = design_of c.in-Ok.parts; spelled = c.in-Ok.ensures.finds.found; cut = b.1 })) (rw c.schedule_text.ensures at c.do_with_parts.ensures.ends)
+
+pub returns-in-Err-clause-ends : goal.returns-in-Err-clause-ends
+returns-in-Err-clause-ends g c = stopped_ends {T = Unit {0}} design_of _ _ _ _ _ c.in-Err.end _ _ c.in-Err.ensures.finds

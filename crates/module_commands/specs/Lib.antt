@@ -1,0 +1,5 @@
+pub mod Reading
+pub mod Designs
+pub mod Clocks
+pub mod Unread
+pub mod DesignViews

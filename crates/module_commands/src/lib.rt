@@ -1,0 +1,11 @@
+//! The commands on a module of the Verilog subset, which clock it: `clock`, `clocktrace` and `vdebug`.
+//!
+//! `specs/Clocks.antt` says what each gives.
+#![tactic(auto)]
+
+mod clocking;
+mod designs;
+mod parts;
+mod reader;
+
+pub use clocking::do_with_module;
