@@ -1,0 +1,4 @@
+pub mod FirstLaws
+pub mod OrderLaws
+pub mod TextLaws
+pub mod ClockLaws
