@@ -101,6 +101,97 @@ for word in ("ALIAS", "CLOCKED"):
 row("fmt of a missing file", {}, step("fmt G", err="lisa: read fault\n", status=3))
 row("fmt of two files", {"A": A}, step("fmt A A", err=USAGE, status=2))
 
+# ---------------------------------------------------------------- modules
+
+V = example("v.v")
+
+
+def at_most(line, text):
+    """A pattern for a line that ends in a number up to the length of a text."""
+    digits = str(len(text))
+    least = "|".join(digits[:k] + f"[0-{int(digits[k]) - 1}]" + f"\\d{{{len(digits) - k - 1}}}"
+                     for k in range(len(digits)) if digits[k] != "0")
+    return re.compile(re.escape(line) + f"(\\d{{1,{len(digits) - 1}}}|{least}|{digits})\n")
+
+
+def with_array(depth, index):
+    return swap(V, ("reg [15:0] s;", f"reg [15:0] s; reg [7:0] m [0:{depth - 1}];"), ("s <= a + b;", f"s <= m[{index}];"))
+
+
+row("clock of a module", {"V": V}, step("clock V - - 1", lines("edge 1", "a 0xc8", "b 0x64", "s 0x12c")))
+row("clocktrace of a module", {"V": V}, step(
+    "clocktrace V - - 2", lines("edge 0", "a 0xc8", "b 0x64", "s 0x0", "edge 1", "s 0x12c", "edge 2")))
+row("clock of a module without members", {"W": "module t (input c); endmodule"}, step("clock W - - 2", "edge 2\n"))
+for number, (sum, result) in enumerate([("(a + b) >> 1'd1", "0x96"), ("{a + b} >> 1'd1", "0x16"), ("a ^ ~b", "0xff53"),
+                                        ("~(~a)", "0xc8")]):
+    row(f"widths of a module's operators {number + 1}", {"V": swap(V, ("a + b", sum))},
+        step("clock V - - 1", lines("edge 1", "a 0xc8", "b 0x64", f"s {result}")))
+for sum in ("a ^~ b", "~~a"):
+    whole = swap(V, ("a + b", sum))
+    row(f"{sum} is outside the subset", {"V": whole}, step("clock V - - 1", err=at_most("lisa: verilog 3 NotInSubset at=", whole)))
+for name, text, fault in [
+        ("an index that is too narrow", with_array(16, "3'd1"), "8 IndexWidth name=m width=3 needed=4"),
+        ("a register without a value", swap(V, (" s = 16'd0;", "")), "7 NoInitial name=s"),
+        ("a register twice", swap(V, ("  reg [7:0] a;\n", "  reg [7:0] a;\n  reg [7:0] a;\n")), "4 DuplicateName name=a"),
+        ("a depth that is no power of two", swap(V, ("reg [15:0] s;", "reg [15:0] s; reg [7:0] m [0:2];")),
+         "11 TooMany what=depth count=3 limit=1048576"),
+        ("an unknown name", swap(V, ("a + b", "a + c")), "5 UsedBeforeDeclared name=c"),
+        ("an assignment to the clock", swap(V, ("a <= b;", "clk <= b;")), "6 WrongUse name=clk"),
+        ("a sum of 65 bits", swap(V, ("a + b", "{s, s, s, s, 1'd1}")), f"9 TooWide at={V.index('a + b')}"),
+        ("two drivers", swap(V, ("endmodule", "  always @(posedge clk) s <= a;\nendmodule")), "10 TwoDrivers name=s"),
+        ("65 brackets", "(" * 65, "2 TooDeep at=64"),
+        ("a bad byte", "module \x01", "1 BadByte at=7")]:
+    row(f"clock of {name}", {"V": text}, step("clock V - - 1", err=f"lisa: verilog {fault}\n"))
+
+MEMORY = lines("module t (input clk, input [3:0] step);", "  reg [7:0] n;", "  reg [7:0] m [0:3];", "  initial n = 8'd0;",
+               "  always @(posedge clk) begin n <= n + step; m[n[1:0]] <= n; end", "endmodule")
+DIGEST = "0" * 64
+IMAGE = lines(f"image 1 {DIGEST}", "memory m 8 4 3", "1", "2", "3", "end")
+row("clocktrace with an image and a schedule", {"W": MEMORY, "I": IMAGE, "H": lines("2 step=3", "3 step=0")}, step(
+    "clocktrace W I H 3", lines("edge 0", "n 0x0", "m[0] 0x1", "m[1] 0x2", "m[2] 0x3", "edge 1", "m[0] 0x0", "edge 2", "n 0x3",
+                                "edge 3", "m[3] 0x3")))
+row("clock with an image alone", {"W": MEMORY, "I": IMAGE}, step(
+    "clock W I - 0", lines("edge 0", "n 0x0", "m[0] 0x1", "m[1] 0x2", "m[2] 0x3")))
+row("an image of another memory", {"W": MEMORY, "I": swap(IMAGE, ("memory m 8 4", "memory k 8 4"))},
+    step("clock W I - 1", err="lisa: image 3 NoSuchMemory name=k\n"))
+row("an image without its end", {"W": MEMORY, "I": swap(IMAGE, ("end\n", ""))},
+    step("clock W I - 1", err=re.compile("lisa: image 1 NotAnImage line=[0-6]\n")))
+row("a schedule of another pin", {"W": MEMORY, "H": "1 stop=1\n"},
+    step("clock W - H 1", err="lisa: schedule 2 UnknownPin line=1 name=stop\n"))
+row("a schedule's value out of range", {"W": MEMORY, "H": "\n1 step=16\n"},
+    step("clock W - H 1", err="lisa: schedule 4 PinRange line=2 name=step value=16\n"))
+BAD = {"W": "(" * 65, "I": "image", "H": "x"}
+row("the module is read first", BAD, step("clock W I H 1", err="lisa: verilog 2 TooDeep at=64\n"))
+row("then the image", dict(BAD, W=MEMORY), step("clock W I H 1", err=re.compile("lisa: image 1 NotAnImage line=[01]\n")))
+row("then its memories", dict(BAD, W=MEMORY, I=swap(IMAGE, ("memory m 8 4", "memory m 8 8"))),
+    step("clock W I H 1", err="lisa: image 3 NoSuchMemory name=m\n"))
+row("then the schedule", dict(BAD, W=MEMORY, I=IMAGE), step("clock W I H 1", err="lisa: schedule 1 BadLine line=1\n"))
+row("a missing file before a bad one", {"W": "("}, step("clock W G - 1", err="lisa: read fault\n", status=3))
+for number, words in enumerate(["clocktrace V - - 10001", "clock V - - 1000001", "clock V - -", "vdebug V - - 1", "clock - - - 1",
+                                "vdebug V -", "clock V - - 01"]):
+    row(f"words of a module's commands {number + 1}", {"V": V}, step(words, err=USAGE, status=2))
+
+row("trace of a thin description", {"A": A}, step("trace A - - 2", lines("edge 0", "n 0x5", "edge 1", "n 0x6", "edge 2", "n 0x7")))
+row("too many edges of a trace", {"A": A}, step("trace A - - 10001", err=USAGE, status=2))
+row("debug", {"A": A}, step(
+    "debug A - -",
+    lines("edge 5", "n 0xa", "edge 3", "edge 4 met", "edge 6 not met", "refused 2 UnknownName", "refused 4 NoEarlierEdge"),
+    input=lines("step 5", "show n", "back 2", "until n 0x9 10", "until n 0x0 2", "show zz", "back 9", "quit")))
+row("debug of what isn't thin", {"C": SAMPLES["c.lisa"]}, step("debug C - -", err="lisa: later 1 NotBuilt\n", input="where\n"))
+row("debug with an image", {"A": A}, step("debug A I -", err=USAGE, status=2))
+row("vdebug", {"V": V}, step("vdebug V - -", lines("edge 1", "s 0x12c"), input=lines("step 1", "show s")))
+row("vdebug back and on again", {"W": MEMORY, "I": IMAGE, "H": "1 step=5\n"}, step(
+    "vdebug W I H", lines("edge 3", "n 0xf", "edge 2", "edge 1", "n 0x5", "m[1] 0x2", "edge 4", "n 0x14", "m[1] 0x5"),
+    input=lines("step 3", "show n", "back 1", "back 1", "show n", "cell m 1", "step 3", "show n", "cell m 1", "quit", "where")))
+row("vdebug of a bad schedule takes no input", {"V": V, "H": "x"},
+    step("vdebug V - H", err="lisa: schedule 1 BadLine line=1\n", input="where\n"))
+LONG = "where\n" + "\n" * (1048577 - 6)
+row("vdebug of too long an input", {"V": V}, step(
+    "vdebug V - -", "edge 0\n" + "refused 1 BadCommand\n" * (1048577 - 6), err="lisa: input 1 TooLong\n", input=LONG))
+row("vdebug of the longest input", {"V": V}, step(
+    "vdebug V - -", "edge 0\n" + "refused 1 BadCommand\n" * (1048576 - 6), input=LONG[:-1]))
+row("vdebug of a long input behind quit", {"V": V}, step("vdebug V - -", "edge 0\n", input="where\nquit\n" + LONG))
+
 # ---------------------------------------------------------------- running
 
 

@@ -2,3 +2,5 @@ mod SingleStatements
 mod Fitting
 mod Faulty
 mod PinCounts
+mod ThinTasks
+pub mod Stopped

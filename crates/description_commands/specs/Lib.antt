@@ -3,4 +3,5 @@ pub mod ThinForm
 pub mod ThinView
 pub mod ThinStates
 pub mod ThinRuns
+pub mod Tasks
 pub mod Unread

@@ -1,19 +1,22 @@
 //! The commands, over the file that they name.
-ghost use Rattle.std.specs.Prelude.{◌≡◌, ◌≤◌, ◌<◌, ◌^◌, List, ℕ, [], length};
+ghost use Rattle.std.specs.Prelude.{◌≡◌, ◌≤◌, ◌<◌, ◌^◌, List, ℕ, [], length, false};
 ghost use Rattle.std.specs.Io.KnownBytes.{Appends};
 ghost use Rattle.lisa_io.specs.Causes.{Rose};
 ghost use Rattle.lisa_tree.specs.Descriptions.{description_tree};
 ghost use Rattle.lisa_printer.specs.CanonicalText.{canonical_text};
 ghost use Rattle.lisa_printer.specs.CanonicalTokens.{description_tokens};
 ghost use Rattle.description_commands.specs.Descriptions.{AfterSpelling, AfterDescription, Formats};
-ghost use Rattle.description_commands.specs.ThinRuns.{TreeRuns};
+ghost use Rattle.description_commands.specs.Tasks.{GivesDescription, IsTold, IsCutText, IsStopped};
+ghost use Rattle.description_commands.specs.ThinRuns.{GivesTree};
+ghost use Rattle.engine_commands.specs.Tasks.{takes_input, IsHeard, HasFailed};
 ghost use Rattle.lisa_outcomes.specs.Ends.{Ends, AreHeld};
 ghost use Rattle.lisa_outcomes.specs.Replies.{Replies};
 ghost use Rattle.lisa_outcomes.specs.Writes.{Writes};
 
 use crate::reading::description_of;
-use crate::running::run_tree;
-use lisa_io::{Files, Sink, put_all};
+use crate::running::do_with_tree;
+use engine_commands::Task;
+use lisa_io::{Files, Flush, Sink, Source, put_all};
 use lisa_outcomes::{End, load};
 use lisa_printer::print_description;
 use lisa_tree::Description;
@@ -62,30 +65,42 @@ pub fn format_file<F: Files, O: Sink>(
     }
 }
 
-// `run` on the bytes of a description.
-fn run_bytes<O: Sink>(alloc: Global, bytes: &[u8], edges: u32, out: &mut O) -> Result<(), End>
+// A task over the description that bytes spell.
+fn do_with_bytes<I: Source, O: Flush>(
+    alloc: Global,
+    bytes: &[u8],
+    task: Task,
+    input: &mut I,
+    out: &mut O,
+) -> Result<(), End>
     requires { length bytes.now < 2 ^ 32 }
-    ensures { Replies (AfterSpelling bytes.now (TreeRuns edges)) (O.written out.old) (O.written out.new) (O.faults out.old) (O.faults out.new) result }
+    ensures ends { Ends (IsHeard task (I.left input.old)) (λ lines. AfterSpelling bytes.now (GivesTree task lines))
+        (HasFailed task (I.faults input.old) (I.faults input.new) × IsCutText bytes.now (I.left input.old) (I.left input.new) (O.written out.old) (O.written out.new))
+        (O.written out.old) (O.written out.new) (O.faults out.old) (O.faults out.new) result }
+    ensures input { takes_input task ≡ false → (I.left input.new ≡ I.left input.old) × (I.faults input.new ≡ I.faults input.old) }
 {
     match description_of(alloc, bytes) {
-        Ok(description) => run_tree(alloc, &description, edges, out),
+        Ok(description) => do_with_tree(alloc, &description, task, input, out),
         Err(end) => Err(end),
     }
 }
 
-/// `run` on a file: writes the state of its description after some edges.
-pub fn run_file<F: Files, O: Sink>(
+/// Does a task over the description of a file: `run` is its state after some edges, `debug` the answers to the lines of the input.
+pub fn do_with_description<F: Files, I: Source, O: Flush>(
     alloc: Global,
     description: &str,
-    edges: u32,
+    task: Task,
     files: &mut F,
+    input: &mut I,
     out: &mut O,
 ) -> Result<(), End>
-    ensures { Ends (AreHeld (F.held files.old)) (λ files. AfterDescription files description.now (TreeRuns edges))
-        (Rose (F.faults files.old description.now) (F.faults files.new description.now) × Appends (O.written out.old) (O.written out.new) []) (O.written out.old) (O.written out.new) (O.faults out.old) (O.faults out.new) result }
+    ensures ends { Ends (IsTold (F.held files.old) (I.left input.old) task) (GivesDescription task description.now)
+        (IsStopped task description.now (F.held files.old) (F.faults files.old description.now) (F.faults files.new description.now) (I.left input.old) (I.left input.new) (I.faults input.old) (I.faults input.new) (O.written out.old) (O.written out.new))
+        (O.written out.old) (O.written out.new) (O.faults out.old) (O.faults out.new) result }
+    ensures input { takes_input task ≡ false → (I.left input.new ≡ I.left input.old) × (I.faults input.new ≡ I.faults input.old) }
 {
     match load(alloc, files, description, DESCRIPTION_LIMIT) {
-        Ok(bytes) => run_bytes(alloc, &bytes, edges, out),
+        Ok(bytes) => do_with_bytes(alloc, &bytes, task, input, out),
         Err(end) => Err(end),
     }
 }

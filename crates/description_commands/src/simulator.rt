@@ -1,8 +1,10 @@
 //! The simulator of a thin description.
 ghost use Rattle.std.specs.Prelude.{◌≡◌, ◌<◌, ◌∷◌, [], length, map, IfOk};
-ghost use Rattle.description_commands.specs.ThinForm.{thin_items, thin_state, thin_value};
+ghost use Rattle.description_commands.specs.ThinForm.{thin_items, thin_value};
 ghost use Rattle.description_commands.specs.ThinView.{thin_of};
+ghost use Rattle.description_commands.specs.ThinRuns.{thin_machine};
 ghost use Rattle.description_commands.specs.ThinStates.{state_with};
+ghost use Rattle.engine_commands.specs.Machines.{machine_of};
 ghost use Rattle.lisa_engine.specs.Shape.{IsShaped, HaveDistinctNames};
 
 use crate::parts::ThinParts;
@@ -38,11 +40,8 @@ fn make_items(alloc: Global, thin: &ThinParts<'_>) -> Result<Vec<Item>, NoMemory
 
 impl<'a> Simulator<'a> {
     pub fn make(alloc: Global, thin: &'a ThinParts<'a>) -> Result<Simulator<'a>, NoMemory>
-        ensures items { IfOk result (λ s. ⟦<Simulator<'a> as Engine>⟧.item_list s ≡ thin_items (thin_of thin.now)) }
-        ensures arrays { IfOk result (λ s. ⟦<Simulator<'a> as Engine>⟧.array_list s ≡ []) }
-        ensures pins { IfOk result (λ s. ⟦<Simulator<'a> as Engine>⟧.pin_list s ≡ []) }
-        ensures defined { IfOk result (λ s. ⟦<Simulator<'a> as Engine>⟧.defined s ≡ (λ l. thin_state (thin_of thin.now) (length l))) }
-        ensures first { IfOk result (λ s. ⟦<Simulator<'a> as Engine>⟧.present s ≡ thin_state (thin_of thin.now) 0) }
+        ensures machine { IfOk result (λ s. machine_of (⟦<Simulator<'a> as Engine>⟧.pin_list s) (⟦<Simulator<'a> as Engine>⟧.item_list s) (⟦<Simulator<'a> as Engine>⟧.array_list s) (⟦<Simulator<'a> as Engine>⟧.defined s) ≡ thin_machine (thin_of thin.now)) }
+        ensures first { IfOk result (λ s. ⟦<Simulator<'a> as Engine>⟧.present s ≡ ⟦<Simulator<'a> as Engine>⟧.defined s []) }
     {
         let items = make_items(alloc, thin)?;
         Ok(Simulator {

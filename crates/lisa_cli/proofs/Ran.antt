@@ -10,9 +10,11 @@ use Rattle.lisa_outcomes.specs.declared.status.End.TheVariants as ends
 use Rattle.lisa_outcomes.specs.declared.status.Refusal.{Refusal}
 use Rattle.lisa_outcomes.specs.declared.status.Status.{Status}
 use Rattle.lisa_outcomes.specs.declared.status.Status.TheVariants as statuses
+use Rattle.description_commands.specs.Tasks as simulators
+use Rattle.description_commands.proofs.Stopped.{stopped_kept as simulator_kept}
 use Rattle.module_commands.specs.Clocks.{file_failed, input_failed}
 use Rattle.module_commands.proofs.Stopped.{stopped_kept}
-use Rattle.lisa_cli.specs.Requests.{Request, Format, Run, Clock, Asks}
+use Rattle.lisa_cli.specs.Requests.{Request, Format, Simulate, Clock, Asks}
 use Rattle.lisa_outcomes.specs.Outcomes.{Finished, Refusing, Given}
 use Rattle.lisa_cli.specs.Gives.{Gives}
 use Rattle.lisa_outcomes.specs.Ends.{Ends}
@@ -33,14 +35,15 @@ pub record Ran {T : Type 0} (w : World) (words : List (List ℕ)) (request : Req
 -- what stands after a read fault names what failed
 blamed_blames : (r : Readings) (before after : Option (List ℕ)) (request : Request) → Blamed r before after request → Blames r request
 blamed_blames r before after (Format description) blamed = blamed.0
-blamed_blames r before after (Run description edges) blamed = blamed.0
+blamed_blames r before after (Simulate task description) (simulators.file_failed failed nothing) = inl failed
+blamed_blames r before after (Simulate task description) (simulators.input_failed failed cut) = inr failed
 blamed_blames r before after (Clock task names) (file_failed failed nothing) = inl failed
 blamed_blames r before after (Clock task names) (input_failed failed cut) = inr failed
 
 -- and what stands is kept where nothing more is put
 pub blamed_kept : (r : Readings) (before after sent : Option (List ℕ)) (request : Request) → Keeps after sent → Blamed r before after request → Blamed r before sent request
 blamed_kept r before after sent (Format description) keeps blamed = (blamed.0, appends_kept _ _ _ _ blamed.1 keeps)
-blamed_kept r before after sent (Run description edges) keeps blamed = (blamed.0, appends_kept _ _ _ _ blamed.1 keeps)
+blamed_kept r before after sent (Simulate task description) keeps blamed = simulator_kept keeps blamed
 blamed_kept r before after sent (Clock task names) keeps blamed = stopped_kept keeps blamed
 
 -- a command that ended, whose output was sent on and whose status was told

@@ -1,5 +1,6 @@
 -- What the words of a command line ask for.
-use Rattle.std.specs.Prelude.{ℕ, ◌≡◌, ◌≢◌, ◌≤◌, Bool, false, List, [], ◌∷◌, Option, Some, None, codes, decimal}
+use Rattle.std.specs.Prelude.{ℕ, ◌≡◌, ◌≢◌, ◌≤◌, ◌||◌, Bool, false, List, [], ◌∷◌, Option, Some, None, codes, decimal}
+use Rattle.std.specs.Str.{bytes_eq}
 use Rattle.lisa_outcomes.specs.RunFiles.{RunNames}
 use Rattle.engine_commands.specs.declared.tasks.Task.{Task}
 use Rattle.engine_commands.specs.declared.tasks.Task.TheVariants as tasks
@@ -9,8 +10,8 @@ use Rattle.engine_commands.specs.Tasks.{takes_input}
 pub data Request : Type 0 where
   -- description
   Format : List ℕ → Request
-  -- description, edges
-  Run : List ℕ → ℕ → Request
+  -- what is to be done with the simulator of a description, and its file
+  Simulate : Task → List ℕ → Request
   -- what is to be done with the clock of a module, and its files
   Clock : Task → RunNames → Request
 
@@ -18,6 +19,14 @@ pub data Request : Type 0 where
 abbrev pub file_word : Option (List ℕ) → List ℕ
 file_word None = codes "-"
 file_word (Some name) = name
+
+abbrev pub simulator_word : Task → List ℕ
+simulator_word (tasks.State edges) = codes "run"
+simulator_word (tasks.Trace edges) = codes "trace"
+simulator_word tasks.Answers = codes "debug"
+
+abbrev pub is_simulator_word : List ℕ → Bool
+is_simulator_word word = bytes_eq word (codes "run") || bytes_eq word (codes "trace") || bytes_eq word (codes "debug")
 
 abbrev pub clock_word : Task → List ℕ
 clock_word (tasks.State edges) = codes "clock"
@@ -35,7 +44,7 @@ run_words names counts = names.main ∷ file_word names.image ∷ file_word name
 
 abbrev pub request_words : Request → List (List ℕ)
 request_words (Format description) = codes "fmt" ∷ description ∷ []
-request_words (Run description edges) = codes "run" ∷ description ∷ codes "-" ∷ codes "-" ∷ decimal edges ∷ []
+request_words (Simulate task description) = simulator_word task ∷ description ∷ codes "-" ∷ codes "-" ∷ count_words task
 request_words (Clock task names) = clock_word task ∷ run_words names (count_words task)
 
 -- a word that names a file
@@ -61,13 +70,13 @@ IsCounted tasks.Answers = Unit {0}
 -- each file has a name, and the number of edges is within its limit
 abbrev pub IsAllowed : Request → Type 0
 IsAllowed (Format description) = IsFileName description
-IsAllowed (Run description edges) = IsFileName description × (edges ≤ 1000000)
+IsAllowed (Simulate task description) = IsFileName description × IsCounted task
 IsAllowed (Clock task names) = AreNames names × IsCounted task
 
 -- it takes the lines of the input
 abbrev pub reads_input : Request → Bool
 reads_input (Format description) = false
-reads_input (Run description edges) = false
+reads_input (Simulate task description) = takes_input task
 reads_input (Clock task names) = takes_input task
 
 -- the words ask for this

@@ -1,11 +1,11 @@
 //! The words of the command line.
-ghost use Rattle.std.specs.Prelude.{◌≡◌, ◌≤◌, ◌<◌, ◌^◌, ◌↔◌, ◌∷◌, [], List, ℕ, Option, Some, IsTrue, IfSome, codes, map, string_bytes, decimal};
+ghost use Rattle.std.specs.Prelude.{◌≡◌, ◌≢◌, ◌≤◌, ◌<◌, ◌^◌, ◌↔◌, ◌∷◌, [], List, ℕ, Option, Some, IsTrue, IfSome, codes, map, string_bytes, decimal};
 ghost use Rattle.std.specs.Option.{option_map};
 ghost use Rattle.lisa_outcomes.specs.RunFiles.{RunNames as TheNames};
 ghost use Rattle.lisa_outcomes.specs.RunViews.{names_of};
 ghost use Rattle.engine_commands.specs.declared.tasks.Task.{Task as TheTask};
 ghost use Rattle.engine_commands.specs.declared.tasks.Task.TheVariants.{Answers};
-ghost use Rattle.lisa_cli.specs.Requests.{Request, Clock, Asks, IsFileName, IsAnyName, AreNames, IsCounted, file_word, clock_word, count_words, run_words};
+ghost use Rattle.lisa_cli.specs.Requests.{Request, Simulate, Clock, Asks, IsFileName, IsAnyName, AreNames, IsCounted, file_word, simulator_word, is_simulator_word, clock_word, count_words, run_words};
 ghost use Rattle.lisa_cli.specs.Asked.{request_of};
 
 use engine_commands::Task;
@@ -17,8 +17,8 @@ use lisa_words::canonical_decimal;
 pub enum Command<'a> {
     /// `fmt DESC`
     Format { description: &'a str },
-    /// `run DESC - - N`
-    Run { description: &'a str, edges: u32 },
+    /// `run DESC - - N`, `trace DESC - - N` or `debug DESC - -`
+    Simulate { description: &'a str, task: Task },
     /// `clock VFILE IMAGE SCHED N`, `clocktrace VFILE IMAGE SCHED N` or `vdebug VFILE IMAGE SCHED`
     Clock { names: RunNames<'a>, task: Task },
 }
@@ -66,43 +66,6 @@ fn format_command(operands: &[String]) -> Option<Command<'_>>
     };
     let description = file_name(description.as_str())?;
     Some(Command::Format { description })
-}
-
-// The four operands of `run`.
-fn run_of<'a>(
-    description: &'a str,
-    image: &'a str,
-    schedule: &'a str,
-    edges: &str,
-) -> Option<Command<'a>>
-    ensures found { IfSome result (λ c. Asks (codes "run" ∷ description.now ∷ image.now ∷ schedule.now ∷ edges.now ∷ []) (request_of c)) }
-    ensures only { (r : Request) → Asks (codes "run" ∷ description.now ∷ image.now ∷ schedule.now ∷ edges.now ∷ []) r → option_map request_of result ≡ Some r }
-{
-    let description = file_name(description)?;
-    if !is_absent(image) {
-        return None;
-    }
-    if !is_absent(schedule) {
-        return None;
-    }
-    let edges = edge_count(edges, 1_000_000)?;
-    Some(Command::Run { description, edges })
-}
-
-// The operands of `run`.
-fn run_command(operands: &[String]) -> Option<Command<'_>>
-    ensures found { IfSome result (λ c. Asks (codes "run" ∷ map string_bytes operands.now) (request_of c)) }
-    ensures only { (r : Request) → Asks (codes "run" ∷ map string_bytes operands.now) r → option_map request_of result ≡ Some r }
-{
-    let [first, image, schedule, edges] = operands else {
-        return None;
-    };
-    run_of(
-        first.as_str(),
-        image.as_str(),
-        schedule.as_str(),
-        edges.as_str(),
-    )
 }
 
 // A word that names a file, or a dash where one is left out.
@@ -173,6 +136,59 @@ fn clock_task(command: &str, rest: &[String]) -> Option<Task>
     }
 }
 
+// What is to be done with a description's simulator.
+fn simulator_task(command: &str, rest: &[String]) -> Option<Task>
+    ensures found { IfSome result (λ t. (command.now ≡ simulator_word t) × (map string_bytes rest.now ≡ count_words t) × IsCounted t) }
+    ensures only { (t : TheTask) → command.now ≡ simulator_word t → map string_bytes rest.now ≡ count_words t → IsCounted t → result ≡ Some t }
+{
+    match command {
+        "run" => {
+            let edges = counted(rest, 1_000_000)?;
+            Some(Task::State { edges })
+        }
+        "trace" => {
+            let edges = counted(rest, 10_000)?;
+            Some(Task::Trace { edges })
+        }
+        "debug" => answers_task(rest),
+        _ => None,
+    }
+}
+
+// The description of a command that takes neither an image nor a schedule.
+fn lone_description<'a>(description: &'a str, image: &str, schedule: &str) -> Option<&'a str>
+    ensures found { IfSome result (λ d. (d.now ≡ description.now) × (image.now ≡ codes "-") × (schedule.now ≡ codes "-") × IsFileName d.now) }
+    ensures only { image.now ≡ codes "-" → schedule.now ≡ codes "-" → IsFileName description.now → option_map (λ d. d.now) result ≡ Some description.now }
+{
+    if !is_absent(image) {
+        return None;
+    }
+    if !is_absent(schedule) {
+        return None;
+    }
+    file_name(description)
+}
+
+// The operands of a command over the simulator of a description.
+fn simulator_command<'a>(command: &str, operands: &'a [String]) -> Option<Command<'a>>
+    ensures found { IfSome result (λ c. Asks (command.now ∷ map string_bytes operands.now) (request_of c)) }
+    ensures only { (task : TheTask) (description : List ℕ) → Asks (command.now ∷ map string_bytes operands.now) (Simulate task description) → option_map request_of result ≡ Some (Simulate task description) }
+{
+    let [description, image, schedule, rest @ ..] = operands else {
+        return None;
+    };
+    let description = lone_description(description.as_str(), image.as_str(), schedule.as_str())?;
+    let task = simulator_task(command, rest)?;
+    Some(Command::Simulate { description, task })
+}
+
+// Whether the word is that of a command over the simulator of a description.
+fn is_simulator_word(word: &str) -> bool
+    ensures { result ≡ is_simulator_word word.now }
+{
+    word == "run" || word == "trace" || word == "debug"
+}
+
 // The operands of a command over the clock of a module.
 fn clock_command<'a>(command: &str, operands: &'a [String]) -> Option<Command<'a>>
     ensures found { IfSome result (λ c. Asks (command.now ∷ map string_bytes operands.now) (request_of c)) }
@@ -186,6 +202,19 @@ fn clock_command<'a>(command: &str, operands: &'a [String]) -> Option<Command<'a
     Some(Command::Clock { names, task })
 }
 
+// The operands of a command other than `fmt`.
+fn task_command<'a>(command: &str, operands: &'a [String]) -> Option<Command<'a>>
+    requires { command.now ≢ codes "fmt" }
+    ensures found { IfSome result (λ c. Asks (command.now ∷ map string_bytes operands.now) (request_of c)) }
+    ensures only { (r : Request) → Asks (command.now ∷ map string_bytes operands.now) r → option_map request_of result ≡ Some r }
+{
+    if is_simulator_word(command) {
+        simulator_command(command, operands)
+    } else {
+        clock_command(command, operands)
+    }
+}
+
 /// What the words ask for, where they ask for something.
 pub fn request(words: &[String]) -> Option<Command<'_>>
     ensures found { IfSome result (λ c. Asks (map string_bytes words.now) (request_of c)) }
@@ -196,7 +225,6 @@ pub fn request(words: &[String]) -> Option<Command<'_>>
     };
     match command.as_str() {
         "fmt" => format_command(operands),
-        "run" => run_command(operands),
-        other => clock_command(other, operands),
+        other => task_command(other, operands),
     }
 }

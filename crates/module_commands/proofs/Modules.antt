@@ -11,7 +11,7 @@ use Rattle.lisa_outcomes.specs.declared.status.Refusal.{Refusal}
 use Rattle.lisa_outcomes.specs.declared.status.Refusal.TheVariants as refusals
 use Rattle.lisa_outcomes.specs.Stages.{Finds}
 use Rattle.lisa_outcomes.proofs.Finding.{found_memory, found_refused}
-use Rattle.module_commands.specs.Reading.{IsFault}
+use Rattle.verilog_reader.specs.Answers.{IsFault}
 use Rattle.module_commands.specs.Designs.{IsUnreadModule}
 use Rattle.module_commands.specs.Unread.{unread_end}
 

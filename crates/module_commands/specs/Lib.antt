@@ -1,4 +1,3 @@
-pub mod Reading
 pub mod Designs
 pub mod Clocks
 pub mod Unread

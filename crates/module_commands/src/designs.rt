@@ -12,12 +12,12 @@ ghost use Rattle.module_commands.specs.DesignViews.{design_of};
 ghost use Rattle.module_commands.specs.Unread.{unread_end};
 
 use crate::parts::Parts;
-use crate::reader::read_module;
 use engine_commands::image_of;
 use lisa_engine::Image;
 use lisa_object::Stamped;
 use lisa_outcomes::{End, Refusal, RunBytes};
 use std::alloc::Global;
+use verilog_reader::read_module;
 use verilog_text::{Module, VerilogFault};
 
 // The end of a command whose module wasn't read.

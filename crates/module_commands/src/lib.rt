@@ -6,6 +6,5 @@
 mod clocking;
 mod designs;
 mod parts;
-mod reader;
 
 pub use clocking::do_with_module;
