@@ -166,8 +166,8 @@ fn inputs(alloc: Global, inputs: Vec<PlacedInput>) -> Result<Vec<Item>, NoMemory
     Ok(all)
 }
 
-/// The module without its places. What is named and numbered is moved, and each box and vector is made anew. Recursion is as deep as
-/// the module.
+/// The module without its places. Names, words and numbers are moved; boxes and vectors are made anew. Recursion is as deep as the
+/// module.
 pub fn strip(alloc: Global, whole: PlacedModule) -> Result<Module, NoMemory>
     // Of an `always` block the name behind `posedge` is given up too: it is taken to be the clock's.
     ensures tree { IfOk result (λ m. module_tree m ≡ with_one_clock (bare_module (placed_module whole))) }

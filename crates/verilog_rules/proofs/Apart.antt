@@ -64,15 +64,15 @@ apart_pairs f (x ∷ xs) apart (suc i) (suc j) d less within same = apart_pairs 
 decided : (y x : List ℕ) → (y ≡ x) ⊎ ((y ≡ x) → ⊥)
 decided y x = ⊎_elim (λ yes. inl ((bytes_eq-Decides y x).0 yes)) (λ other. inr (λ is. false≢true (sym other ∙ (bytes_eq-Decides y x).1 is))) (cases_Bool (bytes_eq y x))
 
-has_or_not : (xs : List (List ℕ)) (x : List ℕ) → Has xs x ⊎ (Has xs x → ⊥)
+pub has_or_not : (xs : List (List ℕ)) (x : List ℕ) → Has xs x ⊎ (Has xs x → ⊥)
 has_or_not [] x = inr (λ has. has)
 has_or_not (y ∷ xs) x = ⊎_elim (λ is. inl (inl is)) (λ differ. ⊎_elim (λ later. inl (inr later)) (λ never. inr (λ has. ⊎_elim differ never has)) (has_or_not xs x)) (decided y x)
 
-has_contains : (xs : List (List ℕ)) (x : List ℕ) → Has xs x → Contains xs x
+pub has_contains : (xs : List (List ℕ)) (x : List ℕ) → Has xs x → Contains xs x
 has_contains [] x has = absurd has
 has_contains (y ∷ xs) x has = ⊎_elim (λ is. (0, omega arith, is)) (λ later. let c = has_contains xs x later in (suc c.0, omega (arith, c.1), c.2)) has
 
-contains_has : (xs : List (List ℕ)) (x : List ℕ) (k : ℕ) → k < length xs → slice_index_or xs k x ≡ x → Has xs x
+pub contains_has : (xs : List (List ℕ)) (x : List ℕ) (k : ℕ) → k < length xs → slice_index_or xs k x ≡ x → Has xs x
 contains_has [] x k within is = absurd (omega arith)
 contains_has (y ∷ xs) x zero within is = inl is
 contains_has (y ∷ xs) x (suc k) within is = inr (contains_has xs x k (omega arith) is)

@@ -1,0 +1,3 @@
+.section prog
+.global start
+start: BR @(far-$-2)
