@@ -179,6 +179,12 @@ row("debug", {"A": A}, step(
     input=lines("step 5", "show n", "back 2", "until n 0x9 10", "until n 0x0 2", "show zz", "back 9", "quit")))
 row("debug of what isn't thin", {"C": SAMPLES["c.lisa"]}, step("debug C - -", err="lisa: later 1 NotBuilt\n", input="where\n"))
 row("debug with an image", {"A": A}, step("debug A I -", err=USAGE, status=2))
+row("debug without quit and a last line feed", {"A": A}, step("debug A - -", lines("edge 1", "edge 1"), input="step 1\nwhere"))
+row("debug without lines", {"A": A}, step("debug A - -"))
+row("debug of no description", {"A": "@"}, step("debug A - -", err="lisa: description 1 BadByte at=0\n", input="where\n"))
+row("debug of a missing file", {}, step("debug G - -", err="lisa: read fault\n", status=3, input="where\n"))
+for number, words in enumerate(["debug A - - 1", "debug A -", "debug - - -", "debug A - A", "trace A - -"]):
+    row(f"words of trace and debug {number + 1}", {"A": A}, step(words, err=USAGE, status=2, input="where\n"))
 row("vdebug", {"V": V}, step("vdebug V - -", lines("edge 1", "s 0x12c"), input=lines("step 1", "show s")))
 row("vdebug back and on again", {"W": MEMORY, "I": IMAGE, "H": "1 step=5\n"}, step(
     "vdebug W I H", lines("edge 3", "n 0xf", "edge 2", "edge 1", "n 0x5", "m[1] 0x2", "edge 4", "n 0x14", "m[1] 0x5"),

@@ -12,6 +12,12 @@ const DOUBLER: &[u8] = b"RESOURCE{REGISTER uint8 n;}OPERATION main{BEHAVIOR{n=(n
 const DOUBLER_TEXT: &[u8] =
     b"RESOURCE {\n  REGISTER uint8 n;\n}\nOPERATION main {\n  BEHAVIOR {\n    n = (n + 1) * 2;\n  }\n}\n";
 
+const SCRIPT: &[u8] =
+    b"step 5\nshow n\nback 2\nuntil n 0x9 10\nuntil n 0x0 2\nshow zz\nback 9\nquit\nstep 1\n";
+
+const ANSWERS: &[u8] =
+    b"edge 5\nn 0xa\nedge 3\nedge 4 met\nedge 6 not met\nrefused 2 UnknownName\nrefused 4 NoEarlierEdge\n";
+
 fn words(alloc: Global, texts: &[&str]) -> Result<Vec<String>, Fail> {
     let mut all = Vec::new(alloc);
     for text in texts {
@@ -35,11 +41,16 @@ fn commands_print_or_tell(rt: HostRuntime) -> Result<(), Fail> {
     let alloc = rt.alloc();
     let run: &[&str] = &["run", "A", "-", "-", "257"];
     let missing: &[&str] = &["run", "G", "-", "-", "3"];
+    let debug: &[&str] = &["debug", "A", "-", "-"];
+    let trace: &[&str] = &["trace", "A", "-", "-", "1"];
     let format: &[&str] = &["fmt", "A"];
     let none = b"".as_slice();
     let cases = [
         (run, COUNTER, b"edge 257\nn 0x6\n".as_slice(), none),
         (run, DOUBLER, none, b"lisa: later 1 NotBuilt\n".as_slice()),
+        (debug, COUNTER, ANSWERS, none),
+        (debug, DOUBLER, none, b"lisa: later 1 NotBuilt\n"),
+        (trace, COUNTER, b"edge 0\nn 0x5\nedge 1\nn 0x6\n", none),
         (missing, COUNTER, none, b"lisa: read fault\n".as_slice()),
         (format, DOUBLER, DOUBLER_TEXT, none),
         (
@@ -52,7 +63,7 @@ fn commands_print_or_tell(rt: HostRuntime) -> Result<(), Fail> {
     for (asked, bytes, printed, said) in cases {
         let mut out = sink(alloc, &[])?;
         let mut err = sink(alloc, &[])?;
-        let mut input = MemSource::new(Vec::new(alloc), Vec::new(alloc));
+        let mut input = MemSource::new(SCRIPT.to_vec(alloc)?, Vec::new(alloc));
         let _ = lisa(
             alloc,
             &words(alloc, asked)?,
