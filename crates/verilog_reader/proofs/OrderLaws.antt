@@ -1,5 +1,5 @@
 -- Of the conditions on a module one is broken first.
-use Rattle.std.proofs.Common.{◌≡◌, ℕ, zero, suc, ◌-◌, ◌^◌, ◌<◌, List, [], ◌∷◌, Option, Some, None, refl, sym, ap, ◌∙◌, ◌⊎◌, inl, inr, ⊎_elim, arith}
+use Rattle.std.proofs.Common.{◌≡◌, ℕ, zero, suc, ◌-◌, ◌^◌, List, [], ◌∷◌, Option, Some, None, refl, sym, ap, ◌∙◌, ◌⊎◌, inl, inr, ⊎_elim, arith}
 use Rattle.std.specs.Prelude.{flat_map, option_map, slice_get, min}
 use Rattle.std.proofs.Math.Pow.{pow-lt}
 use Rattle.std.proofs.lemmas.Bool.{cases_lt}
@@ -11,7 +11,7 @@ use Rattle.verilog_text.specs.Trees.{VTree, ModuleTree}
 use Rattle.verilog_text.specs.Values.{v_width}
 use Rattle.verilog_text.specs.Clocked.{widths_of}
 use Rattle.verilog_text.specs.Grammar.{SpellsModule}
-use Rattle.verilog_text.specs.Conditions.{Use, Counted, IsExcess, counted, Store, member_indexes, used_name, event_name, what_of, count_of, limit_of, sort_of, NeedsWidth, IsDuplicate, IsUndeclared, IsWrongUse, IsUnset, IsMisindexed, IsDrivenTwice, IsTooMany}
+use Rattle.verilog_text.specs.Conditions.{Use, IsExcess, counted, Store, member_indexes, used_name, event_name, what_of, count_of, limit_of, sort_of, NeedsWidth, IsDuplicate, IsUndeclared, IsWrongUse, IsUnset, IsMisindexed, IsDrivenTwice, IsTooMany}
 use Rattle.verilog_text.specs.WidePlaces.{first_wide}
 use Rattle.verilog_text.specs.Faults.{parts_of, IsTooWide, IsFirstBroken, HoldsAll, Holds4, Holds5, Holds6, Holds7, Holds8}
 use Rattle.verilog_places.specs.Spelling.{PlacedToks}

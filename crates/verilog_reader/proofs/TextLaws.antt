@@ -1,20 +1,19 @@
 -- Bytes, tokens and the module that they spell.
-use Rattle.std.proofs.Common.{◌≡◌, ℕ, ◌+◌, ◌<◌, ◌≤◌, Bool, true, false, List, [], ◌∷◌, ◌++◌, length, Option, Some, None, Ok, Err, refl, sym, ap, subst, ◌∙◌, arith, ◌⊎◌, inl, inr}
-use Rattle.std.specs.Prelude.{Result, IfOk, IfErr, option_map, nat_lt, if◌then◌else◌}
+use Rattle.std.proofs.Common.{◌≡◌, ℕ, ◌+◌, ◌≤◌, Bool, true, false, List, [], ◌∷◌, length, Option, Some, None, Ok, Err, refl, sym, ap, subst, ◌∙◌, arith, ◌⊎◌, inl, inr}
+use Rattle.std.specs.Prelude.{Result, IfOk, IfErr, nat_lt, if◌then◌else◌}
 use Rattle.std.proofs.lemmas.Bool.{ltb-false, le-ltb}
 use Rattle.std.proofs.lemmas.List.{length-append}
 use Rattle.verilog_text.specs.declared.faults.VerilogFault.{VerilogFault}
 use Rattle.verilog_text.specs.declared.faults.VerilogFault.TheVariants as faults
 use Rattle.verilog_text.specs.declared.modules.Module.{Module}
 use Rattle.verilog_text.specs.declared.tokens.VToken.{VToken}
-use Rattle.verilog_text.specs.Tokens.{VTok, vtok_of}
 use Rattle.verilog_text.specs.Trees.{ModuleTree, module_tree, members_depth}
 use Rattle.verilog_text.specs.Grammar.{SpellsModule}
 use Rattle.verilog_text.specs.Lexing as lexing
 use Rattle.verilog_text.specs.Lexing.{Lexes, Breaks}
 use Rattle.verilog_text.specs.Spelling.{open_after, first_deep, most_open, VSpells}
 use Rattle.verilog_text.specs.WidePlaces as told
-use Rattle.verilog_text.specs.Faults.{parts_of, IsFirstBroken, HoldsAll, Holds7, VAccepts, VFault, bad_byte, too_deep, not_in_subset, broken}
+use Rattle.verilog_text.specs.Faults.{parts_of, Holds7, VAccepts, VFault, bad_byte, too_deep, not_in_subset, broken}
 use Rattle.verilog_text.proofs.OpenBrackets.{most_least}
 use Rattle.verilog_lexer.specs.Answers.{IsFirst}
 use Rattle.verilog_lexer.proofs.LexLaws.{lex_complete, lex_breaks}
