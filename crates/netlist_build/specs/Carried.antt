@@ -1,0 +1,26 @@
+-- What it is to be the module of a step program, for a module and for a text.
+use Rattle.std.specs.Prelude.{◌≡◌, ◌≤◌, ℕ, List, length, None}
+use Rattle.lisa_engine.specs.Memory.{Memory}
+use Rattle.lisa_engine.specs.Shape.{AreEntries}
+use Rattle.lisa_engine.specs.Images.{IsImage, missing_memory}
+use Rattle.verilog_text.specs.Trees.{ModuleTree}
+use Rattle.verilog_text.specs.Clocked.{regs, arrays, v_state}
+use Rattle.verilog_text.specs.Faults.{VAccepts}
+use Rattle.step_program.specs.Programs.{Program}
+use Rattle.step_program.specs.Effects.{p_state}
+use Rattle.netlist_rules.specs.Sizes.{module_most}
+
+-- the module has the program's items, arrays and pins, and the program's state after each list of pin values, an entry for each edge,
+-- for every image whose memories are the program's arrays
+pub record IsModuleOf (p : Program) (m : ModuleTree) : Type 0 where
+  pub items : regs m.members ≡ p.items
+  pub arrays : arrays m.members ≡ p.arrays
+  pub pins : m.inputs ≡ p.pins
+  pub states : (image : List Memory) (entries : List (List ℕ)) → IsImage image → missing_memory p.arrays image ≡ None → AreEntries p.pins entries → v_state m image entries ≡ p_state p image entries
+
+-- the bytes spell such a module, in which nothing is broken, and they are as few as stated
+pub record IsTextOf (p : Program) (bytes : List ℕ) : Type 0 where
+  pub tree : ModuleTree
+  pub accepted : VAccepts bytes tree
+  pub is_module : IsModuleOf p tree
+  pub short : length bytes ≤ module_most p

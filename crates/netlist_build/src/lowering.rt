@@ -1,0 +1,232 @@
+// From expressions and steps to wires.
+ghost use Rattle.std.specs.Prelude.{◌≡◌, ◌≤◌, IfOk, OnOk, length, reverse, slice_index_or};
+ghost use Rattle.step_program.specs.Programs.{expr_tree, move_of, program_tree};
+ghost use Rattle.step_program.specs.Effects.{width};
+ghost use Rattle.netlist_wires.specs.Wiring.{share, behind, load, nothing, one_body, lower, gone, gone_all, begun_going};
+ghost use Rattle.netlist_build.specs.Symbolic.{sym_of, first, made, going};
+
+use crate::symbols::{Operand, Symbols};
+use crate::widths::{array_width, item_width, one_width, temp_width, two_width};
+use indexmap::IndexSet;
+use netlist_wires::keys::{Body, Flat, Key, Write};
+use std::alloc::{AllocError, Global};
+use step_program::{OneOp, Step, StepExpr, StepProgram, Target, TwoOp};
+
+// The wire of a key, a new one only where there is none.
+fn share(keys: &mut IndexSet<Key>, width: u32, body: Body) -> Result<Flat, AllocError>
+    ensures flat { IfOk result (λ flat. flat ≡ (share (first ⟦<Key as PartialEq>⟧.eq) width body keys.old.keys).flat) }
+    ensures keys { OnOk result (keys.new.keys ≡ (share (first ⟦<Key as PartialEq>⟧.eq) width body keys.old.keys).keys) }
+{
+    let (wire, _) = keys.insert_full(Key { width, body })?;
+    Ok(Flat::OfWire(wire))
+}
+
+// The cell that was read, behind one more write, where that is of the same array.
+fn behind(
+    keys: &mut IndexSet<Key>,
+    width: u32,
+    same: bool,
+    write: Write,
+    index: Flat,
+    found: Flat,
+) -> Result<Flat, AllocError>
+    ensures flat { IfOk result (λ flat. flat ≡ (behind (first ⟦<Key as PartialEq>⟧.eq) width same write index (made found keys.old.keys)).flat) }
+    ensures keys { OnOk result (keys.new.keys ≡ (behind (first ⟦<Key as PartialEq>⟧.eq) width same write index (made found keys.old.keys)).keys) }
+{
+    if !same {
+        return Ok(found);
+    }
+    let here = share(keys, 1, Body::Operate(TwoOp::Equal, write.index, index))?;
+    let taken = share(keys, width, Body::Select(write.guard, write.value, found))?;
+    share(keys, width, Body::Select(here, taken, found))
+}
+
+// The cell of an array behind the writes, the oldest first.
+fn load(
+    program: &StepProgram,
+    keys: &mut IndexSet<Key>,
+    array: u32,
+    writes: &[Write],
+    index: Flat,
+) -> Result<Flat, AllocError>
+    ensures flat { IfOk result (λ flat. flat ≡ (load (first ⟦<Key as PartialEq>⟧.eq) (program_tree program.now) array (reverse writes.now) index keys.old.keys).flat) }
+    ensures keys { OnOk result (keys.new.keys ≡ (load (first ⟦<Key as PartialEq>⟧.eq) (program_tree program.now) array (reverse writes.now) index keys.old.keys).keys) }
+{
+    let width = array_width(&program.arrays, array);
+    let mut found = share(keys, width, Body::Load(array, index))?;
+    for write in writes {
+        found = behind(keys, width, write.array == array, *write, index, found)?;
+    }
+    Ok(found)
+}
+
+fn one_body(one: OneOp, flat: Flat) -> Body
+    ensures { result ≡ one_body one flat }
+{
+    match one {
+        OneOp::Not => Body::Inverse(flat),
+        OneOp::Cut(_) | OneOp::Widen(_) => Body::Copied(flat),
+    }
+}
+
+fn now(flats: &[Flat], place: u32) -> Flat
+    ensures { result ≡ slice_index_or flats.now place nothing }
+{
+    match flats.get(place as usize) {
+        Some(flat) => *flat,
+        None => Flat::Fixed(0, 0),
+    }
+}
+
+// The operand that an expression is.
+fn lower(
+    program: &StepProgram,
+    symbols: &Symbols,
+    keys: &mut IndexSet<Key>,
+    e: &StepExpr,
+) -> Result<Operand, AllocError>
+    ensures flat { IfOk result (λ o. o.flat ≡ (lower (first ⟦<Key as PartialEq>⟧.eq) (program_tree program.now) (sym_of symbols.now) (expr_tree e.now) keys.old.keys).flat) }
+    ensures keys { OnOk result (keys.new.keys ≡ (lower (first ⟦<Key as PartialEq>⟧.eq) (program_tree program.now) (sym_of symbols.now) (expr_tree e.now) keys.old.keys).keys) }
+    ensures width { IfOk result (λ o. o.width ≡ width (program_tree program.now) (expr_tree e.now)) }
+{
+    match e {
+        StepExpr::Const(word) => Ok(Operand {
+            flat: Flat::Fixed(word.width, word.bits),
+            width: word.width,
+        }),
+        StepExpr::Item(item) => Ok(Operand {
+            flat: now(&symbols.items, *item),
+            width: item_width(&program.items, *item),
+        }),
+        StepExpr::Before(item) => Ok(Operand {
+            flat: Flat::OfItem(*item),
+            width: item_width(&program.items, *item),
+        }),
+        StepExpr::Pin(pin) => Ok(Operand {
+            flat: Flat::OfPin(*pin),
+            width: item_width(&program.pins, *pin),
+        }),
+        StepExpr::Temp(temp) => Ok(Operand {
+            flat: now(&symbols.temps, *temp),
+            width: temp_width(&program.temps, *temp),
+        }),
+        StepExpr::Cell(array, index) => {
+            let index = lower(program, symbols, keys, index)?;
+            let flat = load(program, keys, *array, &symbols.writes, index.flat)?;
+            let width = array_width(&program.arrays, *array);
+            Ok(Operand { flat, width })
+        }
+        StepExpr::One(one, a) => {
+            let a = lower(program, symbols, keys, a)?;
+            let width = one_width(*one, a.width);
+            let flat = share(keys, width, one_body(*one, a.flat))?;
+            Ok(Operand { flat, width })
+        }
+        StepExpr::Two(two, a, b) => {
+            let left = lower(program, symbols, keys, a)?;
+            let right = lower(program, symbols, keys, b)?;
+            let width = two_width(*two, left.width);
+            let flat = share(keys, width, Body::Operate(*two, left.flat, right.flat))?;
+            Ok(Operand { flat, width })
+        }
+        StepExpr::Choose(test, this, other) => {
+            let test = lower(program, symbols, keys, test)?;
+            let this = lower(program, symbols, keys, this)?;
+            let other = lower(program, symbols, keys, other)?;
+            let width = this.width;
+            let flat = share(keys, width, Body::Select(test.flat, this.flat, other.flat))?;
+            Ok(Operand { flat, width })
+        }
+    }
+}
+
+// What a target is once it has taken a value where the guard isn't 0.
+fn taken(
+    keys: &mut IndexSet<Key>,
+    guard: Flat,
+    value: Operand,
+    old: Flat,
+) -> Result<Flat, AllocError>
+    ensures flat { IfOk result (λ flat. flat ≡ (share (first ⟦<Key as PartialEq>⟧.eq) value.width (Body.Select guard value.flat old) keys.old.keys).flat) }
+    ensures keys { OnOk result (keys.new.keys ≡ (share (first ⟦<Key as PartialEq>⟧.eq) value.width (Body.Select guard value.flat old) keys.old.keys).keys) }
+{
+    share(keys, value.width, Body::Select(guard, value.flat, old))
+}
+
+// Takes one step.
+fn take(
+    program: &StepProgram,
+    symbols: &mut Symbols,
+    keys: &mut IndexSet<Key>,
+    step: &Step,
+) -> Result<(), AllocError>
+    ensures sym { OnOk result (sym_of symbols.new ≡ (gone (first ⟦<Key as PartialEq>⟧.eq) (program_tree program.now) (going (sym_of symbols.old) keys.old.keys) (move_of step.now)).sym) }
+    ensures keys { OnOk result (keys.new.keys ≡ (gone (first ⟦<Key as PartialEq>⟧.eq) (program_tree program.now) (going (sym_of symbols.old) keys.old.keys) (move_of step.now)).keys) }
+{
+    let guard = lower(program, symbols, keys, &step.guard)?.flat;
+    let value = lower(program, symbols, keys, &step.value)?;
+    match &step.target {
+        Target::Item(item) => {
+            let old = now(&symbols.items, *item);
+            let new = taken(keys, guard, value, old)?;
+            if let Some(flat) = symbols.items.get_mut(*item as usize) {
+                *flat = new;
+            }
+            Ok(())
+        }
+        Target::Temp(temp) => {
+            let old = now(&symbols.temps, *temp);
+            let new = taken(keys, guard, value, old)?;
+            if let Some(flat) = symbols.temps.get_mut(*temp as usize) {
+                *flat = new;
+            }
+            Ok(())
+        }
+        Target::Cell(array, index) => {
+            let index = lower(program, symbols, keys, index)?.flat;
+            symbols.writes.push(Write {
+                array: *array,
+                guard,
+                index,
+                value: value.flat,
+            })?;
+            Ok(())
+        }
+    }
+}
+
+// Takes all steps.
+pub fn take_all(
+    program: &StepProgram,
+    symbols: &mut Symbols,
+    keys: &mut IndexSet<Key>,
+) -> Result<(), AllocError>
+    ensures sym { OnOk result (sym_of symbols.new ≡ (gone_all (first ⟦<Key as PartialEq>⟧.eq) (program_tree program.now) (going (sym_of symbols.old) keys.old.keys) (program_tree program.now).moves).sym) }
+    ensures keys { OnOk result (keys.new.keys ≡ (gone_all (first ⟦<Key as PartialEq>⟧.eq) (program_tree program.now) (going (sym_of symbols.old) keys.old.keys) (program_tree program.now).moves).keys) }
+{
+    for step in &program.steps {
+        take(program, symbols, keys, step)?;
+    }
+    Ok(())
+}
+
+// The items and temps as an edge begins.
+#[tactic(auto, using(crate::proofs::Owned::own_more))]
+pub fn begun(alloc: Global, program: &StepProgram) -> Result<Symbols, AllocError>
+    requires { length program.now.items.items ≤ 8192 }
+    ensures { IfOk result (λ symbols. sym_of symbols ≡ (begun_going (program_tree program.now)).sym) }
+{
+    let mut items = Vec::new(alloc);
+    for (index, _item) in program.items.iter().enumerate() {
+        items.push(Flat::OfItem(index as u32))?;
+    }
+    let mut temps = Vec::new(alloc);
+    for width in &program.temps {
+        temps.push(Flat::Fixed(*width, 0))?;
+    }
+    Ok(Symbols {
+        items,
+        temps,
+        writes: Vec::new(alloc),
+    })
+}
