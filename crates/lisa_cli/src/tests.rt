@@ -97,3 +97,71 @@ fn a_failed_write_is_told_by_the_status(rt: HostRuntime) -> Result<(), Fail> {
     assert_eq!(rt; err.bytes(), b"".as_slice());
     Ok(())
 }
+
+// A module whose register starts at 5 and grows by 1.
+const MODULE: &[u8] =
+    b"module t (input clk); reg [7:0] n; initial n = 8'd5; always @(posedge clk) n <= n + 1'd1; endmodule";
+
+// What a run over the file A tells, prints and says, where its input, its output and what it says may fail.
+fn run(
+    alloc: Global,
+    asked: &[&str],
+    bytes: &[u8],
+    failing: [&[u64]; 3],
+) -> Result<(Status, Vec<u8>, Vec<u8>), Fail> {
+    let lines = b"step 5\nshow n\n".to_vec(alloc)?;
+    let mut input = MemSource::new(lines, failing[0].to_vec(alloc)?);
+    let mut out = MemSink::new(vec![in alloc; 0; 400]?, 8, failing[1].to_vec(alloc)?);
+    let mut err = sink(alloc, failing[2])?;
+    let status = lisa(
+        alloc,
+        &words(alloc, asked)?,
+        &mut files(alloc, bytes)?,
+        &mut input,
+        &mut out,
+        &mut err,
+    );
+    Ok((
+        status,
+        out.bytes().to_vec(alloc)?,
+        err.bytes().to_vec(alloc)?,
+    ))
+}
+
+#[test]
+fn a_session_answers_what_it_took(rt: HostRuntime) -> Result<(), Fail> {
+    let alloc = rt.alloc();
+    let debug: &[&str] = &["vdebug", "A", "-", "-"];
+    let none: &[u64] = &[];
+    let (status, out, err) = run(alloc, debug, MODULE, [none, none, none])?;
+    assert!(rt; matches!(status, Status::Done));
+    assert_eq!(rt; out.as_slice(), b"edge 5\nn 0xa\n".as_slice());
+    assert_eq!(rt; err.as_slice(), b"".as_slice());
+    let (status, out, err) = run(alloc, debug, MODULE, [&[2], none, none])?;
+    assert!(rt; matches!(status, Status::ReadFault));
+    assert_eq!(rt; out.as_slice(), b"edge 5\nn 0xa\n".as_slice());
+    assert_eq!(rt; err.as_slice(), b"lisa: read fault\n".as_slice());
+    Ok(())
+}
+
+#[test]
+fn the_first_failing_call_decides(rt: HostRuntime) -> Result<(), Fail> {
+    let alloc = rt.alloc();
+    let none: &[u64] = &[];
+    let nothing: &[&str] = &[];
+    let missing: &[&str] = &["run", "G", "-", "-", "3"];
+    let trace: &[&str] = &["clocktrace", "A", "-", "-", "2"];
+    let cases = [
+        (nothing, [none, none, &[1]], 0),
+        (missing, [none, none, &[1]], 0),
+        (trace, [none, &[2], none], 8),
+    ];
+    for (asked, failing, most) in cases {
+        let (status, out, err) = run(alloc, asked, MODULE, failing)?;
+        assert!(rt; matches!(status, Status::WriteFault));
+        assert!(rt; out.len() <= most);
+        assert!(rt; b"edge 0\nn 0x5\n".starts_with(&out));
+        assert_eq!(rt; err.as_slice(), b"".as_slice());
+    }
+    Ok(())
+}

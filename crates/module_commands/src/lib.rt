@@ -8,3 +8,6 @@ mod designs;
 mod parts;
 
 pub use clocking::do_with_module;
+
+#[cfg(test)]
+mod tests;
