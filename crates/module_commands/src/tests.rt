@@ -67,8 +67,20 @@ fn modules_are_clocked(rt: HostRuntime) -> Result<(), Fail> {
             bytes,
             b"edge 0\nn 0x0\nm[0] 0x1\nm[1] 0x2\nm[2] 0x3\nedge 1\nn 0x5\nm[0] 0x0\nedge 2\nn 0xa\nm[1] 0x5\n".as_slice(),
         ),
-        (Task::Answers, None, Some("H"), bytes, b"edge 1\nn 0x5\n".as_slice()),
-        (state, Some("I"), None, bytes, b"edge 1\nn 0x0\nm[1] 0x2\nm[2] 0x3\n".as_slice()),
+        (
+            Task::Answers,
+            None,
+            Some("H"),
+            bytes,
+            b"edge 1\nn 0x5\n".as_slice(),
+        ),
+        (
+            state,
+            Some("I"),
+            None,
+            bytes,
+            b"edge 1\nn 0x0\nm[1] 0x2\nm[2] 0x3\n".as_slice(),
+        ),
     ];
     for (task, image, schedule, bytes, expected) in cases {
         let (end, written) = done(alloc, task, image, schedule, bytes, &[])?;
