@@ -6,5 +6,5 @@ mod samples;
 #[cfg(test)]
 mod tests;
 
-pub use naming::{clocked, named_apart, written};
+pub use naming::{clocked, named_apart, read_back, written};
 pub use samples::{Lines, double_sum, long_chain, through_a_cell};

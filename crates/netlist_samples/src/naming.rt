@@ -1,9 +1,10 @@
 // Programs whose names are distinct, and their modules.
-ghost use Rattle.std.specs.Prelude.{◌≡◌, ◌≢◌, ◌++◌, IfOk, OnOk, IfSome, IsTrue, AllPairs, Contains, ◌↔◌, map};
+ghost use Rattle.std.specs.Prelude.{◌≡◌, ◌≢◌, ◌++◌, IfOk, OnOk, IfErr, IfSome, IsTrue, AllPairs, Contains, ◌↔◌, map};
 ghost use Rattle.verilog_text.specs.Trees.{module_tree};
 ghost use Rattle.verilog_text.specs.Clockable.{IsClockable};
 ghost use Rattle.step_program.specs.Programs.{program_tree};
-ghost use Rattle.netlist_build.specs.Carried.{IsTextOf};
+ghost use Rattle.verilog_text.specs.declared.faults.VerilogFault.TheVariants.{NoMemory as OutOfMemory};
+ghost use Rattle.netlist_build.specs.Carried.{IsModuleOf, IsTextOf};
 ghost use Rattle.netlist_wires.specs.Tables.{program_names, HasDistinctNames};
 
 use lisa_engine::{ArrayItem, Item};
@@ -11,7 +12,8 @@ use lisa_words::{Name, NoMemory};
 use netlist_build::{build, program_text};
 use std::alloc::{AllocError, Global};
 use step_program::{StepProgram, well_formed};
-use verilog_text::Module;
+use verilog_reader::read_module;
+use verilog_text::{Module, VerilogFault};
 
 fn put_item_names(items: &[Item], names: &mut Vec<Name>) -> Result<(), AllocError>
     ensures { OnOk result (names.new.items ≡ names.old.items ++ map (λ item. item.name) items.now) }
@@ -95,4 +97,21 @@ pub fn written(alloc: Global, program: &StepProgram) -> Result<Option<Vec<u8>>, 
     }
     let text = program_text(alloc, program)?;
     Ok(Some(text))
+}
+
+/// The module that is read from the text of a program's module, where the program is well formed, its names are distinct and the text is
+/// shorter than 2^32 bytes. It has the program's items, arrays, pins and states, and can be clocked. Only want of memory is refused.
+pub fn read_back(alloc: Global, program: &StepProgram) -> Result<Option<Module>, VerilogFault>
+    ensures found { IfOk result (λ found. IfSome found (λ m. IsModuleOf (program_tree program.now) (module_tree m))) }
+    ensures clockable { IfOk result (λ found. IfSome found (λ m. IsClockable (module_tree m))) }
+    ensures fault { IfErr result (λ fault. fault ≡ OutOfMemory) }
+{
+    let Some(text) = written(alloc, program)? else {
+        return Ok(None);
+    };
+    if text.len() >= 1 << 32 {
+        return Ok(None);
+    }
+    let whole = read_module(alloc, &text)?;
+    Ok(Some(whole))
 }

@@ -1,4 +1,4 @@
-use crate::{Lines, clocked, double_sum, long_chain, through_a_cell, written};
+use crate::{Lines, clocked, double_sum, long_chain, read_back, through_a_cell, written};
 use lisa_engine::{Engine, Image, read_schedule, write_trace};
 use lisa_io::MemSink;
 use std::test::Fail;
@@ -8,7 +8,7 @@ use verilog_text::Member;
 #[test]
 fn a_cell_that_was_written_is_read_in_the_same_edge(rt: HostRuntime) -> Result<(), Fail> {
     let alloc = rt.alloc();
-    let Some(module) = clocked(alloc, &through_a_cell(alloc)?)? else {
+    let Some(module) = read_back(alloc, &through_a_cell(alloc)?)? else {
         return Err(Fail::new("not well formed"));
     };
     let image = Image {
