@@ -121,6 +121,12 @@ def with_array(depth, index):
 row("clock of a module", {"V": V}, step("clock V - - 1", lines("edge 1", "a 0xc8", "b 0x64", "s 0x12c")))
 row("clocktrace of a module", {"V": V}, step(
     "clocktrace V - - 2", lines("edge 0", "a 0xc8", "b 0x64", "s 0x0", "edge 1", "s 0x12c", "edge 2")))
+COUNTER = lines("module t (input clk);", "reg [7:0] n;", "initial n = 8'd5;", "always @(posedge clk) n <= n + 8'd1;", "endmodule")
+row("clock of a counter", {"W": COUNTER}, step("clock W - - 3", lines("edge 3", "n 0x8")))
+row("clocktrace of a counter", {"W": COUNTER}, step("clocktrace W - - 2", lines("edge 0", "n 0x5", "edge 1", "n 0x6", "edge 2", "n 0x7")))
+SHARED = lines("module t (input clk);", "reg [7:0] a;", "reg [7:0] b;", "wire [7:0] x = a + b;", "initial begin a = 8'd1; b = 8'd0; end",
+               "always @(posedge clk) begin b <= x - 8'd1; a <= x + 8'd2; end", "endmodule")
+row("clock of a module with a wire", {"W": SHARED}, step("clock W - - 3", lines("edge 3", "a 0x9", "b 0x6")))
 row("clock of a module without members", {"W": "module t (input c); endmodule"}, step("clock W - - 2", "edge 2\n"))
 for number, (sum, result) in enumerate([("(a + b) >> 1'd1", "0x96"), ("{a + b} >> 1'd1", "0x16"), ("a ^ ~b", "0xff53"),
                                         ("~(~a)", "0xc8")]):
