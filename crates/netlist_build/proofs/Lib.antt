@@ -4,4 +4,5 @@ pub mod Owned
 pub mod Steps
 pub mod Wordy
 pub mod Assembly
+pub mod Sharing
 pub mod Promises

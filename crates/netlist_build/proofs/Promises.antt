@@ -1,5 +1,6 @@
 -- What is promised of the module of a program.
-use Rattle.std.proofs.Common.{◌≡◌, ◌≤◌, ◌^◌, ℕ, suc, List, [], ◌∷◌, length, refl, ap, arith}
+use Rattle.std.proofs.Common.{◌≡◌, ◌≢◌, ◌≤◌, ◌^◌, ℕ, suc, List, [], ◌∷◌, length, refl, sym, ap, subst, arith}
+use Rattle.std.specs.Prelude.{AllPairs}
 use Rattle.verilog_text.specs.Clocked.{Net, nets}
 use Rattle.verilog_text.specs.Printing.{module_text, module_size}
 use Rattle.verilog_text.specs.Faults.{VAccepts}
@@ -14,7 +15,8 @@ use Rattle.netlist_wires.proofs.Growing.{all_grown, begun_sound}
 use Rattle.netlist_wires.proofs.Edges.{states_are}
 use Rattle.netlist_rules.specs.Sizes.{module_most}
 use Rattle.netlist_rules.proofs.Whole.{whole_accepted, whole_size}
-use Rattle.netlist_build.specs.Carried.{IsModuleOf}
+use Rattle.netlist_build.specs.Carried.{IsModuleOf, WiresDiffer}
+use Rattle.netlist_build.proofs.Sharing.{Finds, ended_once, wires_differ}
 
 module _ (find : Find) (is_find : IsFind find) (p : Program) (formed : IsWellFormed p) where
   pub is_module : HasDistinctNames p → length (ended find p).keys ≤ 2 ^ 64 → IsModuleOf p (built find p)
@@ -38,3 +40,9 @@ module _ (find : Find) (is_find : IsFind find) (p : Program) (formed : IsWellFor
   pub has_few_wires : length (nets (built find p).members) ≤ wires_most p
   has_few_wires =
       omega (arith, ap (λ (xs : List Net). length xs) (nets_is p (ended find p)), net_count 0 (ended find p).keys, (all_grown p formed find is_find (begun_going p) p.moves (begun_sound p formed find is_find) formed.moves).few)
+
+  pub is_shared : Finds find → HasDistinctNames p → length (ended find p).keys ≤ 2 ^ 64 → WiresDiffer (built find p)
+  is_shared finds distinct few =
+      let ordered = (all_grown p formed find is_find (begun_going p) p.moves (begun_sound p formed find is_find) formed.moves).ordered (λ k key e. absurd (cc)) in
+      subst (λ (all : List Net). AllPairs (λ (a b : Net). a.item.width ≡ b.item.width → a.value ≢ b.value) all) (sym (nets_is p (ended find p)))
+      (wires_differ p formed distinct (ended find p).keys (ended_once find finds p) ordered few)

@@ -1,10 +1,10 @@
 -- What it is to be the module of a step program, for a module and for a text.
-use Rattle.std.specs.Prelude.{◌≡◌, ◌≤◌, ℕ, List, length, None}
+use Rattle.std.specs.Prelude.{◌≡◌, ◌≢◌, ◌≤◌, ℕ, List, length, None, AllPairs}
 use Rattle.lisa_engine.specs.Memory.{Memory}
 use Rattle.lisa_engine.specs.Shape.{AreEntries}
 use Rattle.lisa_engine.specs.Images.{IsImage, missing_memory}
 use Rattle.verilog_text.specs.Trees.{ModuleTree}
-use Rattle.verilog_text.specs.Clocked.{regs, arrays, v_state}
+use Rattle.verilog_text.specs.Clocked.{regs, arrays, nets, v_state}
 use Rattle.verilog_text.specs.Faults.{VAccepts}
 use Rattle.step_program.specs.Programs.{Program}
 use Rattle.step_program.specs.Effects.{p_state}
@@ -24,3 +24,7 @@ pub record IsTextOf (p : Program) (bytes : List ℕ) : Type 0 where
   pub accepted : VAccepts bytes tree
   pub is_module : IsModuleOf p tree
   pub short : length bytes ≤ module_most p
+
+-- no two wires of one width carry the same expression
+abbrev pub WiresDiffer : ModuleTree → Type 0
+WiresDiffer m = AllPairs (λ a b. a.item.width ≡ b.item.width → a.value ≢ b.value) (nets m.members)

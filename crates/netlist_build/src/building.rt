@@ -12,7 +12,7 @@ ghost use Rattle.netlist_wires.specs.Costs.{wires_most};
 ghost use Rattle.netlist_rules.specs.Sizes.{module_most};
 ghost use Rattle.netlist_build.specs.Symbolic.{sym_of, first};
 ghost use Rattle.netlist_build.specs.Assembled.{IsWord, HasWords, IsWrite, members_of};
-ghost use Rattle.netlist_build.specs.Carried.{IsModuleOf, IsTextOf};
+ghost use Rattle.netlist_build.specs.Carried.{IsModuleOf, IsTextOf, WiresDiffer};
 
 use crate::assembling::{
     copied_items, first_settings, put_arrays, put_items, put_sets, put_wires, put_writes,
@@ -101,7 +101,8 @@ fn assemble(alloc: Global, program: &StepProgram) -> Result<Module, NoMemory>
     })
 }
 
-/// The module of a program: its items, arrays and pins are the program's, and so is its state after each edge. Nothing is broken in it.
+/// The module of a program: its items, arrays and pins are the program's, and so is its state after each edge. Nothing is broken in it,
+/// and what is computed twice from the same values is one wire.
 pub fn build(alloc: Global, program: &StepProgram) -> Result<Module, NoMemory>
     requires formed { IsWellFormed (program_tree program.now) }
     requires distinct { HasDistinctNames (program_tree program.now) }
@@ -109,6 +110,7 @@ pub fn build(alloc: Global, program: &StepProgram) -> Result<Module, NoMemory>
     ensures accepted { IfOk result (λ m. VAccepts (module_text (module_tree m)) (module_tree m)) }
     ensures size { IfOk result (λ m. module_size (module_tree m) ≤ module_most (program_tree program.now)) }
     ensures wires { IfOk result (λ m. length (nets (module_tree m).members) ≤ wires_most (program_tree program.now)) }
+    ensures shared { IfOk result (λ m. WiresDiffer (module_tree m)) }
 {
     assemble(alloc, program)
 }

@@ -1,10 +1,16 @@
 //! Step programs whose states are worked out by hand, and tests that clock their modules.
 #![tactic(auto)]
 
+mod modules;
 mod naming;
+mod parts;
 mod samples;
 #[cfg(test)]
 mod tests;
 
-pub use naming::{clocked, named_apart, read_back, written};
-pub use samples::{Lines, double_sum, long_chain, through_a_cell};
+pub use modules::{clocked, is_buildable, read_back, written};
+pub use naming::named_apart;
+pub use samples::{
+    Lines, double_sum, guarded_writes, long_chain, mixed_steps, narrow_and_wide, printable_bytes,
+    printable_names, swap, through_a_cell,
+};

@@ -14,8 +14,9 @@ use Rattle.verilog_text.specs.Printing.{module_text, module_size}
 use Rattle.verilog_text.specs.Faults.{VAccepts}
 use Rattle.netlist_wires.specs.Costs.{wires_most}
 use Rattle.netlist_rules.specs.Sizes.{module_most}
-use Rattle.netlist_build.specs.Carried.{IsModuleOf}
-use Rattle.netlist_build.proofs.Promises.{is_module, is_accepted, is_small, has_few_wires}
+use Rattle.netlist_build.specs.Carried.{IsModuleOf, WiresDiffer}
+use Rattle.netlist_build.proofs.Sharing.{key_equal, first_finds}
+use Rattle.netlist_build.proofs.Promises.{is_module, is_accepted, is_small, has_few_wires, is_shared}
 use Rattle.netlist_build.proofs.building.build.Goals as goal
 
 -- what holds of the module that is made, where there are so few wires
@@ -46,3 +47,10 @@ returns-clause-wires c =
     let p = program_tree c.args.program.now in
     let find = first impl.eq-value.it in
     along (λ m. length (nets m.members) ≤ wires_most p) _ (built find p) c.assemble.result c.assemble.ensures.built c.assemble.ensures.few (λ few. has_few_wires find (is_find impl.eq-value.it key_same) p c.requires.formed)
+
+pub returns-clause-shared : goal.returns-clause-shared
+returns-clause-shared c =
+    let p = program_tree c.args.program.now in
+    let find = first impl.eq-value.it in
+    along WiresDiffer _ (built find p) c.assemble.result c.assemble.ensures.built c.assemble.ensures.few
+    (λ few. is_shared find (is_find impl.eq-value.it key_same) p c.requires.formed (first_finds impl.eq-value.it key_equal) c.requires.distinct few)
