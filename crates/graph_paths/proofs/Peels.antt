@@ -1,12 +1,12 @@
 -- Taking nodes out keeps `IsPeeled`.
-use Rattle.std.proofs.Common.{◌≡◌, ℕ, zero, suc, ◌<◌, List, [], ◌∷◌, Bool, true, false, ◌||◌, ◌&&◌, nat_eq, length, set, refl, sym, ap, ◌∙◌, arith, replicate, inl, inr, subst}
+use Rattle.std.proofs.Common.{◌≡◌, ℕ, zero, suc, ◌<◌, List, [], ◌∷◌, ◌++◌, Bool, true, false, ◌||◌, ◌&&◌, nat_eq, length, set, refl, sym, ap, ◌∙◌, arith, replicate, inl, inr, subst}
 use Rattle.std.proofs.Math.ListN.{length-replicate}
 use Rattle.std.specs.Global.{Vec}
 use Rattle.std.specs.List.{list_all}
 use Rattle.std.proofs.lemmas.Bool.{or_cases, eqb-true}
 use Rattle.graph_paths.specs.Paths.{targets, is_in, Leads, Reaches, edge, more, saw, AreNodes}
 use Rattle.graph_paths.specs.Peeled.{AreFree, IsPeeled}
-use Rattle.graph_paths.proofs.Seen.{saw-set}
+use Rattle.graph_paths.proofs.Seen.{saw-set, in-push}
 use Rattle.graph_paths.proofs.Long.{within}
 
 -- what is reached from nodes that are out is out
@@ -84,3 +84,10 @@ module _ (next back : List (Vec ℕ)) (exact : (x y : ℕ) → is_in y (targets 
 
   pub back_nodes : length back ≡ length next → AreNodes back
   back_nodes len a b e = subst (λ (n : ℕ). b < n) (sym len) (within next b a (sym (exact a b) ∙ e))
+
+-- one more node of nodes that are below a number
+pub one_below : (n b k : ℕ) (nodes : List ℕ) → ((x : ℕ) → is_in x nodes ≡ true → x < n) → k < n → is_in b (nodes ++ k ∷ []) ≡ true → b < n
+one_below n b k nodes all h e = elim (or_cases (is_in b nodes) (nat_eq b k) (sym (in-push b nodes k) ∙ e)) [
+  | inl old ↦ all b old
+  | inr new ↦ subst (λ (x : ℕ). x < n) (sym (eqb-true b k new)) h
+]

@@ -3,14 +3,16 @@
 
 mod circles;
 mod laws;
+mod ordering;
 mod peeling;
 mod reaching;
 mod reversing;
 
 pub use circles::first_circular;
 pub use laws::paths_are_short;
+pub use ordering::order;
 pub use reaching::{reached_from, row};
-pub use reversing::reversed;
+pub use reversing::{add_edge, no_edges, reversed};
 
 #[cfg(test)]
 mod tests;

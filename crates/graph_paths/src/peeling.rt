@@ -31,7 +31,7 @@ fn take_out(next: &[Vec<usize>], node: usize, out: &mut Vec<bool>)
 }
 
 // How many edges go out from each node.
-fn edge_counts(alloc: Global, next: &[Vec<usize>]) -> Result<Vec<usize>, AllocError>
+pub(crate) fn edge_counts(alloc: Global, next: &[Vec<usize>]) -> Result<Vec<usize>, AllocError>
     ensures { IfOk result (λ counts. length counts.items ≡ length next.now) }
 {
     let mut counts = Vec::new(alloc);
@@ -42,7 +42,7 @@ fn edge_counts(alloc: Global, next: &[Vec<usize>]) -> Result<Vec<usize>, AllocEr
 }
 
 // Notes the nodes from which no edge goes out.
-fn mark_ends(
+pub(crate) fn mark_ends(
     counts: &[usize],
     seen: &mut Vec<bool>,
     work: &mut Vec<usize>,
@@ -83,7 +83,7 @@ fn lower(
 }
 
 // The same for each of the nodes.
-fn lower_all(
+pub(crate) fn lower_all(
     nodes: &[usize],
     counts: &mut Vec<usize>,
     seen: &mut Vec<bool>,

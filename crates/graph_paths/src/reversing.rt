@@ -6,9 +6,9 @@ ghost use Rattle.graph_paths.specs.Paths.{AreNodes, targets, is_in};
 use crate::reaching::row;
 use std::alloc::{AllocError, Global};
 
-// Adds one edge.
+/// Adds one edge.
 #[tactic(auto, using(crate::proofs::Edges::targets_pushed))]
-fn add_edge(edges: &mut Vec<Vec<usize>>, from: usize, to: usize) -> Result<(), AllocError>
+pub fn add_edge(edges: &mut Vec<Vec<usize>>, from: usize, to: usize) -> Result<(), AllocError>
     requires { from < length edges.old.items }
     ensures length { length edges.new.items ≡ length edges.old.items }
     ensures added { OnOk result ((x y : ℕ) → is_in y (targets edges.new.items x) ≡ (is_in y (targets edges.old.items x) || (nat_eq x from && nat_eq y to))) }
@@ -29,9 +29,9 @@ fn add_row(edges: &mut Vec<Vec<usize>>, from: usize, nodes: &[usize]) -> Result<
     Ok(())
 }
 
-// A graph of so many nodes, without edges.
+/// A graph of so many nodes, without edges.
 #[tactic(auto, using(crate::proofs::Edges::targets_none))]
-fn no_edges(alloc: Global, count: usize) -> Result<Vec<Vec<usize>>, AllocError>
+pub fn no_edges(alloc: Global, count: usize) -> Result<Vec<Vec<usize>>, AllocError>
     ensures length { IfOk result (λ edges. length edges.items ≡ count) }
     ensures none { IfOk result (λ edges. (x y : ℕ) → is_in y (targets edges.items x) ≡ false) }
 {

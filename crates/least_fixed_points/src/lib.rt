@@ -3,7 +3,7 @@
 
 mod rounds;
 
-pub use rounds::{Rule, settle};
+pub use rounds::{Rule, settle, settle_along};
 
 #[cfg(test)]
 mod tests;

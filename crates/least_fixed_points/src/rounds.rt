@@ -75,6 +75,20 @@ fn no_values<T: Copy>(alloc: Global, count: usize) -> Result<Vec<Option<T>>, All
     Ok(table)
 }
 
+// Goes over some nodes once, in the order in which they are given; what is no node is passed over.
+fn visit<T: Copy, R: Rule<T>>(rule: &R, table: &mut Vec<Option<T>>, order: &[usize])
+    requires count { length table.old.items ≡ R.count rule.now }
+    requires sound { IsSound (R.step rule.now) table.old.items }
+    ensures count { length table.new.items ≡ length table.old.items }
+    ensures sound { IsSound (R.step rule.now) table.new.items }
+{
+    for &node in order {
+        if node < table.len() {
+            add(rule, table, node);
+        }
+    }
+}
+
 /// The value of each node that has one. A node whose value would rest on itself has none.
 ///
 /// The table is gone over until nothing is added, so the time is in proportion to the nodes times the rounds: two, where each node rests
@@ -88,7 +102,23 @@ pub fn settle<T: Copy, R: Rule<T>>(
     ensures length { IfOk result (λ table. length table.items ≡ count) }
     ensures exact { IfOk result (λ table. (a : ℕ) (t : T) → (entry table.items a ≡ Some t) ↔ Settles (R.step rule.now) a t) }
 {
+    settle_along(alloc, rule, count, &[])
+}
+
+/// The same, where some nodes are first gone over in a given order. Any order is right. One in which each node stands behind those that it
+/// rests on leaves a single round to be made.
+pub fn settle_along<T: Copy, R: Rule<T>>(
+    alloc: Global,
+    rule: &R,
+    count: usize,
+    order: &[usize],
+) -> Result<Vec<Option<T>>, AllocError>
+    requires { count ≡ R.count rule.now }
+    ensures length { IfOk result (λ table. length table.items ≡ count) }
+    ensures exact { IfOk result (λ table. (a : ℕ) (t : T) → (entry table.items a ≡ Some t) ↔ Settles (R.step rule.now) a t) }
+{
     let mut table = no_values(alloc, count)?;
+    visit(rule, &mut table, order);
     'rounds: while round(rule, &mut table) {}
     Ok(table)
 }

@@ -1,7 +1,7 @@
 ghost use Rattle.std.specs.Prelude.{ℕ, Option, Some, None, cond, nat_lt};
 ghost use Rattle.std.proofs.Common.{arith};
 
-use crate::{Rule, settle};
+use crate::{Rule, settle, settle_along};
 use std::test::Fail;
 
 // Each node has the same value, whatever is known.
@@ -28,6 +28,9 @@ impl Rule<u32> for Alike {
 fn each_node_has_the_value_that_follows(rt: HostRuntime) -> Result<(), Fail> {
     let rule = Alike { count: 3 };
     let table = settle(rt.alloc(), &rule, 3)?;
+    assert_eq!(rt; table.as_slice(), [Some(7), Some(7), Some(7)].as_slice());
+    let order = [2, 5, 0];
+    let table = settle_along(rt.alloc(), &rule, 3, order.as_slice())?;
     assert_eq!(rt; table.as_slice(), [Some(7), Some(7), Some(7)].as_slice());
     Ok(())
 }

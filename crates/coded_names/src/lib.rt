@@ -1,0 +1,8 @@
+//! What the coding and the syntax of an operation say of its declared names.
+#![tactic(auto)]
+
+mod codings;
+mod tables;
+
+pub use codings::{is_coding, names_instructions, pattern_width};
+pub use tables::CodedNames;

@@ -1,0 +1,179 @@
+//! What a coding and a syntax say of names, in tables.
+
+#![tactic(auto, using(crate::proofs::Notes::one_item, crate::proofs::Notes::one_part, crate::proofs::Notes::or_assoc, crate::proofs::Notes::or_none))]
+
+ghost use Rattle.std.specs.Prelude.{◌≡◌, IfOk, OnOk, List, ℕ, Some, None, option_map, map};
+ghost use Rattle.std.specs.Option.{option_or};
+ghost use Rattle.indexmap.specs.IndexMap.{get};
+ghost use Rattle.lisa_tree.specs.Descriptions.{coding_tree, section_tree};
+ghost use Rattle.description_names.specs.Same.{same_name};
+ghost use Rattle.description_names.specs.Operations.{coding_in, syntax_in};
+ghost use Rattle.coded_names.specs.Codings.{if_same, item_width, items_width, field_width, part_kind, parts_kind, number_kind, item_child, items_child, coded_child, in_coding};
+
+use crate::codings::{format_kind, pattern_width};
+use description_names::{coding, syntax};
+use indexmap::IndexMap;
+use lisa_tree::{CodingItem, CodingPart, Section, SyntaxItem, SyntaxPart};
+use lisa_words::{Kind, Name, NoMemory};
+use std::alloc::{AllocError, Global};
+
+// Notes the value of a name that has none.
+fn note<V: Copy>(table: &mut IndexMap<Name, V>, name: &Name, value: V) -> Result<(), AllocError>
+    ensures { OnOk result ((n : List ℕ) → get same_name table.new n ≡ option_or (get same_name table.old n) (if_same n name.now value)) }
+{
+    if table.get(name).is_some() {
+        return Ok(());
+    }
+    table.insert(name.clone()?, value)?;
+    Ok(())
+}
+
+fn note_width(table: &mut IndexMap<Name, u32>, item: &CodingItem) -> Result<(), AllocError>
+    ensures { OnOk result ((n : List ℕ) → get same_name table.new n ≡ option_or (get same_name table.old n) (item_width n item.now)) }
+{
+    match item {
+        CodingItem::Field(name, pattern) => note(table, name, pattern_width(pattern)),
+        _ => Ok(()),
+    }
+}
+
+fn items_widths(alloc: Global, items: &[CodingItem]) -> Result<IndexMap<Name, u32>, AllocError>
+    ensures { IfOk result (λ table. (n : List ℕ) → get same_name table n ≡ items_width n items.now) }
+{
+    let mut table = IndexMap::new(alloc);
+    for item in items {
+        note_width(&mut table, item)?;
+    }
+    Ok(table)
+}
+
+fn note_child(table: &mut IndexMap<Name, bool>, item: &CodingItem) -> Result<(), AllocError>
+    ensures { OnOk result ((n : List ℕ) → get same_name table.new n ≡ option_or (get same_name table.old n) (item_child n item.now)) }
+{
+    match item {
+        CodingItem::Child(name) => note(table, name, true),
+        _ => Ok(()),
+    }
+}
+
+fn items_children(alloc: Global, items: &[CodingItem]) -> Result<IndexMap<Name, bool>, AllocError>
+    ensures { IfOk result (λ table. (n : List ℕ) → get same_name table n ≡ items_child n items.now) }
+{
+    let mut table = IndexMap::new(alloc);
+    for item in items {
+        note_child(&mut table, item)?;
+    }
+    Ok(table)
+}
+
+fn note_kind(table: &mut IndexMap<Name, Kind>, part: &SyntaxPart) -> Result<(), AllocError>
+    ensures { OnOk result ((n : List ℕ) → get same_name table.new n ≡ option_or (get same_name table.old n) (part_kind n part.now)) }
+{
+    match part {
+        SyntaxPart::Number(name, format) => note(table, name, format_kind(*format)),
+        _ => Ok(()),
+    }
+}
+
+fn parts_kinds(alloc: Global, items: &[SyntaxItem]) -> Result<IndexMap<Name, Kind>, AllocError>
+    ensures { IfOk result (λ table. (n : List ℕ) → get same_name table n ≡ parts_kind n items.now) }
+{
+    let mut table = IndexMap::new(alloc);
+    for item in items {
+        note_kind(&mut table, &item.part)?;
+    }
+    Ok(table)
+}
+
+fn widths(alloc: Global, part: Option<&CodingPart>) -> Result<IndexMap<Name, u32>, AllocError>
+    ensures { IfOk result (λ table. (n : List ℕ) → get same_name table n ≡ field_width n (option_map (λ part. coding_tree part.now) part.entry)) }
+{
+    match part {
+        Some(CodingPart::Items(items)) => {
+            let table = items_widths(alloc, items)?;
+            Ok(table)
+        }
+        _ => Ok(IndexMap::new(alloc)),
+    }
+}
+
+fn children(alloc: Global, part: Option<&CodingPart>) -> Result<IndexMap<Name, bool>, AllocError>
+    ensures { IfOk result (λ table. (n : List ℕ) → get same_name table n ≡ coded_child n (option_map (λ part. coding_tree part.now) part.entry)) }
+{
+    match part {
+        None => Ok(IndexMap::new(alloc)),
+        Some(CodingPart::Items(items)) => {
+            let table = items_children(alloc, items)?;
+            Ok(table)
+        }
+        Some(CodingPart::Root(_, group)) => {
+            let mut table = IndexMap::new(alloc);
+            note(&mut table, group, true)?;
+            Ok(table)
+        }
+    }
+}
+
+fn kinds(alloc: Global, items: Option<&[SyntaxItem]>) -> Result<IndexMap<Name, Kind>, AllocError>
+    ensures { IfOk result (λ table. (n : List ℕ) → get same_name table n ≡ number_kind n (option_map (λ all. all.now) items.entry)) }
+{
+    match items {
+        None => Ok(IndexMap::new(alloc)),
+        Some(items) => {
+            let table = parts_kinds(alloc, items)?;
+            Ok(table)
+        }
+    }
+}
+
+/// What the coding and the syntax of an operation say of names, each found at once.
+#[derive(Drop)]
+pub struct CodedNames<'a> {
+    /// The sections of the operation.
+    pub sections: &'a [Section],
+    widths: IndexMap<Name, u32>,
+    children: IndexMap<Name, bool>,
+    kinds: IndexMap<Name, Kind>,
+    ghost of_widths: { (n : List ℕ) → get same_name widths n ≡ field_width n (coding_in (map section_tree sections.now)) },
+    ghost of_children: { (n : List ℕ) → get same_name children n ≡ coded_child n (coding_in (map section_tree sections.now)) },
+    ghost of_kinds: { (n : List ℕ) → get same_name kinds n ≡ number_kind n (syntax_in (map section_tree sections.now)) },
+}
+
+impl<'a> CodedNames<'a> {
+    /// Goes over the coding and the syntax once.
+    pub fn make(alloc: Global, sections: &'a [Section]) -> Result<CodedNames<'a>, NoMemory>
+        ensures { IfOk result (λ c. c.sections.now ≡ sections.now) }
+    {
+        let part = coding(sections);
+        let widths = widths(alloc, part)?;
+        let children = children(alloc, part)?;
+        let kinds = kinds(alloc, syntax(sections))?;
+        Ok(CodedNames {
+            sections,
+            widths,
+            children,
+            kinds,
+        })
+    }
+
+    /// The width of a label's field, the first one.
+    pub fn field_width(&self, name: &Name) -> Option<u32>
+        ensures { result ≡ field_width name.now (coding_in (map section_tree self.now.sections.now)) }
+    {
+        self.widths.get(name).copied()
+    }
+
+    /// The kind of a label's number, the first one.
+    pub fn number_kind(&self, name: &Name) -> Option<Kind>
+        ensures { result ≡ number_kind name.now (syntax_in (map section_tree self.now.sections.now)) }
+    {
+        self.kinds.get(name).copied()
+    }
+
+    /// Whether a name stands in the coding, as a child or as the root's group.
+    pub fn in_coding(&self, name: &Name) -> bool
+        ensures { result ≡ in_coding name.now (coding_in (map section_tree self.now.sections.now)) }
+    {
+        self.children.get(name).is_some()
+    }
+}

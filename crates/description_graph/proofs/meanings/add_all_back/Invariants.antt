@@ -1,0 +1,10 @@
+use Rattle.std.proofs.Common.{◌≡◌, ◌||◌, ◌&&◌, ℕ, length, take}
+use Rattle.graph_paths.specs.Paths.{is_in, targets}
+use Rattle.description_graph.specs.Graph.{hits}
+use Rattle.description_graph.proofs.meanings.add_all_back.Given as goal
+
+abbrev pub invariant-loop-entry : goal.invariant-loop-entry
+invariant-loop-entry g l = record {
+  count : length l.rows.items ≡ length l.fn.rows.items;
+  added : (x y : ℕ) → is_in y (targets l.rows.items x) ≡ (is_in y (targets l.fn.rows.items x) || (is_in y (take l.entry-index l.all) && hits (g.N.Names.tree l.names) l.operation y x));
+}

@@ -1,0 +1,10 @@
+use Rattle.std.proofs.Common.{◌≡◌, ◌||◌, ℕ, length}
+use Rattle.graph_paths.specs.Paths.{is_in, targets}
+use Rattle.description_graph.specs.Graph.{to_alternatives}
+use Rattle.description_graph.proofs.rows.add_alternatives.Given as goal
+
+abbrev pub invariant-loop-choice : goal.invariant-loop-choice
+invariant-loop-choice g l = record {
+  count : length l.next.items ≡ length l.fn.next.items;
+  added : (a b : ℕ) → is_in b (targets l.next.items a) ≡ (is_in b (targets l.fn.next.items a) || to_alternatives (g.N.Names.tree l.names) l.choice a b);
+}

@@ -1,0 +1,10 @@
+use Rattle.std.proofs.Common.{◌≡◌, ℕ, List, take}
+use Rattle.std.specs.Prelude.{position}
+use Rattle.indexmap.specs.IndexMap.{get}
+use Rattle.lisa_tree.specs.Descriptions.{resource_tree}
+use Rattle.description_names.specs.Same.{same_name}
+use Rattle.description_names.specs.Resources.{is_named}
+use Rattle.description_tables.proofs.globals.resource_places.Given as goal
+
+abbrev pub invariant-loop-place : goal.invariant-loop-place
+invariant-loop-place l = (n : List ℕ) → get same_name l.table n ≡ position (λ r. is_named n (resource_tree r)) (take l.place l.resources)

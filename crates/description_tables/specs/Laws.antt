@@ -1,0 +1,49 @@
+-- What the tables of a description say.
+use Rattle.std.specs.Prelude.{ℕ, zero, suc, Bool, not, ◌&&◌, nat_eq, nat_lt, List, [], ◌∷◌, ◌++◌, Option, Some, None, cond, filter}
+use Rattle.std.specs.List.{list_all}
+use Rattle.std.specs.Option.{option_or}
+use Rattle.indexmap.specs.IndexMap.{IndexMap, get}
+use Rattle.lisa_tree.specs.Descriptions.{DescriptionTree}
+use Rattle.description_names.specs.Same.{same_name}
+use Rattle.description_names.specs.Operations.{numbers_of, is_alias}
+use Rattle.description_names.specs.Declarations.{Choice, Entry, listings}
+
+-- what a name has after it is noted that it stands at a place, if it stood nowhere yet
+abbrev pub noted : Option ℕ → List ℕ → List ℕ → ℕ → Option ℕ
+noted before n name place = option_or before (cond (same_name n name) (Some place) None)
+
+-- a choice with its operations by their numbers, and those of them that are no aliases
+pub record Chosen : Type 0 where
+  pub operation : ℕ
+  pub alternatives : List ℕ
+  pub plain : List ℕ
+
+abbrev pub no_aliases : DescriptionTree → List ℕ → List ℕ
+no_aliases d numbers = filter (λ o. not (is_alias d o)) numbers
+
+abbrev pub chosen : DescriptionTree → Choice → Chosen
+chosen d c = record { operation = c.operation; alternatives = numbers_of d c.alternatives; plain = no_aliases d (numbers_of d c.alternatives) }
+
+-- what the table of an operation says of a name
+abbrev pub find_in : {S : Type 0} → List (IndexMap (List ℕ) ℕ S) → ℕ → List ℕ → Option ℕ
+find_in [] o n = None
+find_in (t ∷ ts) zero n = get same_name t n
+find_in (t ∷ ts) (suc o) n = find_in ts o n
+
+-- an operation declares the name
+abbrev pub declares : ℕ → List ℕ → Entry → Bool
+declares o n e = nat_eq e.operation o && same_name n e.name
+
+abbrev pub is_owned_below : ℕ → Entry → Bool
+is_owned_below count e = nat_lt e.operation count
+
+abbrev pub are_below : ℕ → List ℕ → Bool
+are_below count numbers = list_all (λ x. nat_lt x count) numbers
+
+abbrev pub chooses_below : ℕ → Chosen → Bool
+chooses_below count c = are_below count c.alternatives
+
+-- the operations above one, by choices whose operations are numbers
+abbrev pub above_chosen : DescriptionTree → ℕ → List Chosen → List ℕ
+above_chosen d o [] = []
+above_chosen d o (c ∷ rest) = cond (is_alias d c.operation) [] (listings c.operation o c.alternatives) ++ above_chosen d o rest

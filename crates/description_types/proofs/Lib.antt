@@ -1,0 +1,3 @@
+pub mod ByNumber
+pub mod Merging
+pub mod EachCoding

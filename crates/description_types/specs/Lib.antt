@@ -1,0 +1,9 @@
+pub mod Shapes
+pub mod Types
+pub mod Facts
+pub mod Codings
+pub mod Kinds
+pub mod Larger
+pub mod Ends
+pub mod Steady
+pub mod Tables

@@ -1,0 +1,111 @@
+-- The rules of types, of what may be assigned and of traits give more from a larger table.
+use Rattle.std.proofs.Common.{ℕ, List, [], Option, None, Some, refl, ap₂, ◌∙◌}
+use Rattle.lisa_tree.specs.declared.tokens.Shape.{Shape}
+use Rattle.lisa_tree.specs.declared.expressions.Operator.{Operator}
+use Rattle.lisa_tree.specs.declared.expressions.Operator.TheVariants as operators
+use Rattle.lisa_tree.specs.Expressions as exprs
+use Rattle.lisa_tree.specs.Expressions.{ExprTree}
+use Rattle.lisa_tree.specs.Descriptions.{DescriptionTree}
+use Rattle.description_places.specs.declared.scopes.Local.{Local}
+use Rattle.description_places.specs.Scopes.{Scope, local_named}
+use Rattle.description_names.specs.declared.declared.Meaning.{Meaning}
+use Rattle.description_names.specs.declared.declared.Meaning.TheVariants as meanings
+use Rattle.description_names.specs.Operations.{expression_in, sections_at}
+use Rattle.description_names.specs.Declarations.{plain_at}
+use Rattle.description_names.specs.Meanings.{meaning}
+use Rattle.description_names.specs.Paths.{entry_node}
+use Rattle.least_fixed_points.specs.Settles.{IsWithin}
+use Rattle.description_types.specs.declared.values.Assignable.{Assignable}
+use Rattle.description_types.specs.Shapes.{joined, number_like, beside, paired}
+use Rattle.description_types.specs.Types.{Types, typed, meant_type, or_meant_type, literal, two_type, type_of}
+use Rattle.description_types.specs.Facts.{IsSteady}
+use Rattle.description_types.specs.Kinds.{as_type, expression_type, both_types, type_fact, settled_assignable, meant_assignable, value_assignable, expression_assignable, both_assignable, assignable_fact, traits_fact}
+use Rattle.description_types.specs.Larger.{Less, none_less, same_less, strict_less, within_less, merged_less}
+
+joined_less : (x y x' y' : Option Shape) → Less x x' → Less y y' → Less (joined x y) (joined x' y')
+joined_less None y x' y' l m = none_less _
+joined_less (Some s) None x' y' l m = none_less _
+joined_less (Some s) (Some t) x' y' l m = record { keeps = λ u e. ap₂ joined (l.keeps s refl) (m.keeps t refl) ∙ e }
+
+like_less : (v : ℕ) (x y : Option Shape) → Less x y → Less (number_like x v) (number_like y v)
+like_less v = strict_less (λ x. number_like x v) refl
+
+beside_less : (a b : Option ℕ) (x y x' y' : Option Shape) → Less x x' → Less y y' → Less (beside a b x y) (beside a b x' y')
+beside_less None b x y x' y' l m = l
+beside_less (Some v) None x y x' y' l m = like_less v y y' m
+beside_less (Some v) (Some w) x y x' y' l m = l
+
+paired_less : (a b : Option ℕ) (x y x' y' : Option Shape) → Less x x' → Less y y' → Less (paired a b x y) (paired a b x' y')
+paired_less a b x y x' y' l m = joined_less _ _ _ _ (beside_less a b x y x' y' l m) (beside_less b a y x y' x' m l)
+
+two_less : (operator : Operator) (a b : Option ℕ) (x y x' y' : Option Shape) → Less x x' → Less y y' → Less (two_type operator a b x y) (two_type operator a b x' y')
+two_less operators.Left a b x y x' y' l m = l
+two_less operators.Right a b x y x' y' l m = l
+two_less operators.Add a b x y x' y' l m = paired_less a b x y x' y' l m
+two_less operators.Sub a b x y x' y' l m = paired_less a b x y x' y' l m
+two_less operators.Mul a b x y x' y' l m = paired_less a b x y x' y' l m
+two_less operators.And a b x y x' y' l m = paired_less a b x y x' y' l m
+two_less operators.Or a b x y x' y' l m = paired_less a b x y x' y' l m
+two_less operators.Xor a b x y x' y' l m = paired_less a b x y x' y' l m
+two_less _ a b x y x' y' l m = same_less _
+
+module _ (d : DescriptionTree) (known table : Types) (within : IsWithin known table) where
+  meant_less : (m : Meaning) → Less (meant_type known d m) (meant_type table d m)
+  meant_less meanings.Nothing = same_less _
+  meant_less (meanings.Resource k) = same_less _
+  meant_less (meanings.Declared i) = strict_less typed refl _ _ (within_less known table within (entry_node d i))
+
+  or_less : (o : ℕ) (n : List ℕ) (local : Option Local) → Less (or_meant_type known d o n local) (or_meant_type table d o n local)
+  or_less o n None = meant_less (meaning d o n)
+  or_less o n (Some local) = same_less _
+
+  pub type_less : (o : ℕ) (scope : Scope) (e : ExprTree) → Less (type_of known d o scope e) (type_of table d o scope e)
+  type_less o scope (exprs.Number v base) = same_less _
+  type_less o scope (exprs.Named n) = or_less o n (local_named n scope)
+  type_less o scope (exprs.Element n index) = same_less _
+  type_less o scope (exprs.Input field) = same_less _
+  type_less o scope (exprs.Output field) = same_less _
+  type_less o scope (exprs.Boundary pipe before after field) = same_less _
+  type_less o scope exprs.Decoded = same_less _
+  type_less o scope (exprs.Cast shape a) = same_less _
+  type_less o scope (exprs.Complement a) = type_less o scope a
+  type_less o scope (exprs.Negate a) = same_less _
+  type_less o scope (exprs.Two operator a b) = two_less operator (literal a) (literal b) _ _ _ _ (type_less o scope a) (type_less o scope b)
+  type_less o scope (exprs.Choose c a b) = paired_less (literal a) (literal b) _ _ _ _ (type_less o scope a) (type_less o scope b)
+
+  expression_less : (o : ℕ) (e : Option ExprTree) → Less (expression_type known d o e) (expression_type table d o e)
+  expression_less o None = same_less _
+  expression_less o (Some e) = strict_less as_type refl _ _ (type_less o [] e)
+
+pub types_steady : (d : DescriptionTree) → IsSteady (type_fact d)
+types_steady d = record {
+  operations = λ known table within o t e. (expression_less d known table within o (expression_in (sections_at d o))).keeps t e;
+  choices = λ known table within c t e. (merged_less both_types known table (within_less known table within) (plain_at d c)).keeps t e;
+}
+
+module _ (d : DescriptionTree) (known table : ℕ → Option Assignable) (within : IsWithin known table) where
+  place_less : (m : Meaning) → Less (meant_assignable known d m) (meant_assignable table d m)
+  place_less meanings.Nothing = same_less _
+  place_less (meanings.Resource k) = same_less _
+  place_less (meanings.Declared i) = strict_less settled_assignable refl _ _ (within_less known table within (entry_node d i))
+
+  value_less : (o : ℕ) (e : ExprTree) → Less (value_assignable known d o e) (value_assignable table d o e)
+  value_less o (exprs.Named n) = place_less (meaning d o n)
+  value_less o (exprs.Element n index) = same_less _
+  value_less o _ = same_less _
+
+  assigned_less : (o : ℕ) (e : Option ExprTree) → Less (expression_assignable known d o e) (expression_assignable table d o e)
+  assigned_less o None = same_less _
+  assigned_less o (Some e) = value_less o e
+
+pub assignables_steady : (d : DescriptionTree) → IsSteady (assignable_fact d)
+assignables_steady d = record {
+  operations = λ known table within o t e. (assigned_less d known table within o (expression_in (sections_at d o))).keeps t e;
+  choices = λ known table within c t e. (merged_less both_assignable known table (within_less known table within) (plain_at d c)).keeps t e;
+}
+
+pub traits_steady : (d : DescriptionTree) → IsSteady (traits_fact d)
+traits_steady d = record {
+  operations = λ known table within o t e. e;
+  choices = λ known table within c t e. e;
+}

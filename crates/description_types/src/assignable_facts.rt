@@ -1,0 +1,195 @@
+//! Whether what operations, choices and declared names stand for may be assigned.
+
+ghost use Rattle.std.specs.Prelude.{◌≡◌, option_map};
+ghost use Rattle.lisa_tree.specs.Expressions.{expr_tree};
+ghost use Rattle.lisa_tree.specs.Descriptions.{resource_tree};
+ghost use Rattle.least_fixed_points.specs.Settles.{entry};
+ghost use Rattle.description_types.specs.Facts.{merged, merged_from, together};
+ghost use Rattle.description_types.specs.Kinds.{resource_assignable, settled_assignable, meant_assignable, array_assignable, value_assignable, expression_assignable, both_assignable, either_assignable, assignable_fact};
+ghost use Rattle.description_types.specs.Steady.{assignables_steady};
+
+use crate::bases::add_named;
+use crate::facts::Facts;
+use crate::lookups::{known_entry, known_operation, resource, sections};
+use crate::types::meant_element;
+use crate::values::Assignable;
+use description_names::{Meaning, Names, expression};
+use lisa_tree::{Expr, Resource, Shape};
+use std::alloc::AllocError;
+
+/// The rules of what may be assigned.
+#[derive(Drop)]
+pub struct AssignableFacts<'a, N> {
+    pub names: &'a N,
+}
+
+fn resource_assignable(resource: Option<&Resource>) -> Option<Assignable>
+    ensures { result ≡ resource_assignable (option_map (λ r. resource_tree r.now) resource.entry) }
+{
+    match resource {
+        Some(Resource::Register(_, _, _, None)) | Some(Resource::Clocked(_, _, _)) => {
+            Some(Assignable::Yes)
+        }
+        Some(Resource::Pin(_, _)) => Some(Assignable::No),
+        _ => None,
+    }
+}
+
+// Of declarations that differ not all may be assigned.
+fn settled_assignable(value: Option<Assignable>) -> Option<Assignable>
+    ensures { result ≡ settled_assignable value }
+{
+    match value {
+        Some(Assignable::Mixed) => Some(Assignable::No),
+        value => value,
+    }
+}
+
+fn meant_assignable<N: Names>(
+    names: &N,
+    table: &[Option<Assignable>],
+    meaning: Meaning,
+) -> Option<Assignable>
+    ensures { result ≡ meant_assignable (entry table.now) (N.tree names.now) meaning }
+{
+    match meaning {
+        Meaning::Nothing => None,
+        Meaning::Resource(number) => resource_assignable(resource(names, number)),
+        Meaning::Declared(number) => settled_assignable(known_entry(names, table, number)),
+    }
+}
+
+fn array_assignable(shape: Option<Shape>) -> Option<Assignable>
+    ensures { result ≡ array_assignable shape }
+{
+    match shape {
+        None => None,
+        Some(_) => Some(Assignable::Yes),
+    }
+}
+
+// Whether an expression may be assigned.
+fn value_assignable<N: Names>(
+    names: &N,
+    table: &[Option<Assignable>],
+    operation: usize,
+    expression: &Expr,
+) -> Option<Assignable>
+    ensures { result ≡ value_assignable (entry table.now) (N.tree names.now) operation (expr_tree expression.now) }
+{
+    match expression {
+        Expr::Named(name) => meant_assignable(names, table, names.meaning(operation, name)),
+        Expr::Element(name, _) => {
+            array_assignable(meant_element(names, names.meaning(operation, name)))
+        }
+        _ => Some(Assignable::No),
+    }
+}
+
+// Whether an operation's expression may be assigned.
+fn expression_assignable<N: Names>(
+    names: &N,
+    table: &[Option<Assignable>],
+    operation: usize,
+    expression: Option<&Expr>,
+) -> Option<Assignable>
+    ensures { result ≡ expression_assignable (entry table.now) (N.tree names.now) operation (option_map (λ e. expr_tree e.now) expression.entry) }
+{
+    match expression {
+        None => Some(Assignable::No),
+        Some(expression) => value_assignable(names, table, operation, expression),
+    }
+}
+
+// All alternatives of a choice may be assigned.
+fn both_assignable(left: Assignable, right: Assignable) -> Assignable
+    ensures { result ≡ both_assignable left right }
+{
+    match (left, right) {
+        (Assignable::Yes, Assignable::Yes) => Assignable::Yes,
+        _ => Assignable::No,
+    }
+}
+
+// Whether a reference that may mean two declarations may be assigned.
+fn either_assignable(left: Assignable, right: Assignable) -> Assignable
+    ensures { result ≡ either_assignable left right }
+{
+    match (left, right) {
+        (Assignable::Yes, Assignable::Yes) => Assignable::Yes,
+        (Assignable::No, Assignable::No) => Assignable::No,
+        _ => Assignable::Mixed,
+    }
+}
+
+fn both_known(left: Option<Assignable>, right: Option<Assignable>) -> Option<Assignable>
+    ensures { result ≡ together both_assignable left right }
+{
+    match (left, right) {
+        (Some(left), Some(right)) => Some(both_assignable(left, right)),
+        _ => None,
+    }
+}
+
+// Whether some operations may be assigned, together with what is known so far.
+fn merged_from(
+    table: &[Option<Assignable>],
+    first: Option<Assignable>,
+    operations: &[usize],
+) -> Option<Assignable>
+    ensures { result ≡ merged_from both_assignable (entry table.now) first operations.now }
+{
+    let mut so_far = first;
+    for &operation in operations {
+        so_far = both_known(so_far, known_operation(table, operation));
+    }
+    so_far
+}
+
+// Whether all of some operations may be assigned.
+fn merged(table: &[Option<Assignable>], operations: &[usize]) -> Option<Assignable>
+    ensures { result ≡ merged both_assignable (entry table.now) operations.now }
+{
+    match operations {
+        [] => None,
+        [operation, rest @ ..] => merged_from(table, known_operation(table, *operation), rest),
+    }
+}
+
+impl<'a, N: Names> Facts<Assignable> for AssignableFacts<'a, N> {
+    ghost fact = { λ c. assignable_fact (N.tree c.names.now) };
+
+    fn of_operation(&self, table: &[Option<Assignable>], operation: usize) -> Option<Assignable> {
+        let sections = sections(self.names, operation);
+        expression_assignable(self.names, table, operation, expression(sections))
+    }
+
+    fn of_choice(&self, table: &[Option<Assignable>], choice: usize) -> Option<Assignable> {
+        merged(table, self.names.plain_at(choice))
+    }
+
+    fn of_label(&self, _entry: usize) -> Assignable {
+        Assignable::No
+    }
+
+    fn of_child(&self, _entry: usize, choice: Assignable) -> Assignable {
+        choice
+    }
+
+    fn either(&self, left: Assignable, right: Assignable) -> Assignable {
+        either_assignable(left, right)
+    }
+
+    fn add_bases(&self, operation: usize, into: &mut Vec<usize>) -> Result<(), AllocError> {
+        match expression(sections(self.names, operation)) {
+            Some(Expr::Named(name)) => add_named(self.names, operation, name, into),
+            _ => Ok(()),
+        }
+    }
+
+    fn bases_of_choice(&self, choice: usize) -> &[usize] {
+        self.names.plain_at(choice)
+    }
+
+    ghost steady = { λ c. assignables_steady (N.tree c.names.now) };
+}

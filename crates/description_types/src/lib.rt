@@ -1,0 +1,24 @@
+//! The types of expressions, and other facts about operations, choices and declared names that rest on each other.
+#![tactic(auto)]
+
+mod assignable_facts;
+mod bases;
+mod codings;
+mod facts;
+mod kinds;
+mod lookups;
+mod shapes;
+mod trait_facts;
+mod type_facts;
+mod types;
+mod values;
+
+pub use facts::{Facts, Following};
+pub use kinds::Kinds;
+pub use lookups::{
+    known_choice, known_entry, known_operation, operation_count, operation_name, resource, sections,
+};
+pub use shapes::{beside, number_shape};
+pub use trait_facts::is_root;
+pub use types::{element_type, literal, name_type, type_of, typed};
+pub use values::{Assignable, CodedName, Traits, TypeOf};

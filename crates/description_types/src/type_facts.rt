@@ -1,0 +1,181 @@
+//! The types of operations, choices and declared names.
+
+ghost use Rattle.std.specs.Prelude.{◌≡◌, [], option_map};
+ghost use Rattle.lisa_tree.specs.Expressions.{expr_tree};
+ghost use Rattle.least_fixed_points.specs.Settles.{entry};
+ghost use Rattle.description_types.specs.Facts.{merged, merged_from, together};
+ghost use Rattle.description_types.specs.Kinds.{as_type, expression_type, both_types, lacks_type, either_type, type_fact};
+ghost use Rattle.description_types.specs.Codings.{AreCodings};
+ghost use Rattle.description_types.specs.Steady.{types_steady};
+
+use crate::bases::add_typed;
+use crate::codings::coding_at;
+use crate::facts::Facts;
+use crate::lookups::{known_operation, sections};
+use crate::shapes::same_shape;
+use crate::types::type_of;
+use crate::values::{CodedName, TypeOf};
+use description_names::{Names, expression};
+use description_places::Scope;
+use lisa_tree::{Expr, Shape};
+use std::alloc::AllocError;
+
+/// The rules of types.
+#[derive(Drop)]
+pub struct TypeFacts<'a, N: Names> {
+    pub names: &'a N,
+    /// How declared names stand in codings.
+    pub codings: &'a [CodedName],
+    /// No locals are in scope in an operation's expression.
+    pub no_locals: Scope,
+    ghost coded: { AreCodings (N.tree names.now) codings.now },
+    ghost empty: { no_locals ≡ [] },
+}
+
+fn as_type(shape: Option<Shape>) -> Option<TypeOf>
+    ensures { result ≡ as_type shape }
+{
+    match shape {
+        None => None,
+        Some(shape) => Some(TypeOf::Typed(shape)),
+    }
+}
+
+// The type of an operation, by its expression.
+fn expression_type<N: Names>(
+    names: &N,
+    table: &[Option<TypeOf>],
+    operation: usize,
+    no_locals: &Scope,
+    expression: Option<&Expr>,
+) -> Option<TypeOf>
+    requires { no_locals.now ≡ [] }
+    ensures { result ≡ expression_type (entry table.now) (N.tree names.now) operation (option_map (λ e. expr_tree e.now) expression.entry) }
+{
+    match expression {
+        None => Some(TypeOf::NoType),
+        Some(expression) => as_type(type_of(names, table, operation, no_locals, expression)),
+    }
+}
+
+// The type that two alternatives of a choice have together.
+fn both_types(left: TypeOf, right: TypeOf) -> TypeOf
+    ensures { result ≡ both_types left right }
+{
+    match (left, right) {
+        (TypeOf::Typed(first), TypeOf::Typed(second)) => {
+            if same_shape(first, second) {
+                TypeOf::Typed(first)
+            } else {
+                TypeOf::NoType
+            }
+        }
+        _ => TypeOf::NoType,
+    }
+}
+
+// Whether some declaration that is meant has no type.
+fn lacks_type(value: TypeOf) -> bool
+    ensures { result ≡ lacks_type value }
+{
+    match value {
+        TypeOf::NoType => true,
+        TypeOf::Typed(_) => false,
+        TypeOf::Mixed(some) => some,
+    }
+}
+
+// The type of a reference that may mean two declarations.
+fn either_type(left: TypeOf, right: TypeOf) -> TypeOf
+    ensures { result ≡ either_type left right }
+{
+    match (left, right) {
+        (TypeOf::NoType, TypeOf::NoType) => TypeOf::NoType,
+        (TypeOf::Typed(one), TypeOf::Typed(other)) => {
+            if same_shape(one, other) {
+                TypeOf::Typed(one)
+            } else {
+                TypeOf::Mixed(false)
+            }
+        }
+        _ => TypeOf::Mixed(lacks_type(left) || lacks_type(right)),
+    }
+}
+
+fn both_known(left: Option<TypeOf>, right: Option<TypeOf>) -> Option<TypeOf>
+    ensures { result ≡ together both_types left right }
+{
+    match (left, right) {
+        (Some(left), Some(right)) => Some(both_types(left, right)),
+        _ => None,
+    }
+}
+
+// The type that some operations have together with what is known so far.
+fn merged_from(
+    table: &[Option<TypeOf>],
+    first: Option<TypeOf>,
+    operations: &[usize],
+) -> Option<TypeOf>
+    ensures { result ≡ merged_from both_types (entry table.now) first operations.now }
+{
+    let mut so_far = first;
+    for &operation in operations {
+        so_far = both_known(so_far, known_operation(table, operation));
+    }
+    so_far
+}
+
+// The type that all of some operations have.
+fn merged(table: &[Option<TypeOf>], operations: &[usize]) -> Option<TypeOf>
+    ensures { result ≡ merged both_types (entry table.now) operations.now }
+{
+    match operations {
+        [] => None,
+        [operation, rest @ ..] => merged_from(table, known_operation(table, *operation), rest),
+    }
+}
+
+impl<'a, N: Names> Facts<TypeOf> for TypeFacts<'a, N> {
+    ghost fact = { λ c. type_fact (N.tree c.names.now) };
+
+    fn of_operation(&self, table: &[Option<TypeOf>], operation: usize) -> Option<TypeOf> {
+        let sections = sections(self.names, operation);
+        expression_type(
+            self.names,
+            table,
+            operation,
+            &self.no_locals,
+            expression(sections),
+        )
+    }
+
+    fn of_choice(&self, table: &[Option<TypeOf>], choice: usize) -> Option<TypeOf> {
+        merged(table, self.names.plain_at(choice))
+    }
+
+    fn of_label(&self, entry: usize) -> TypeOf {
+        coding_at(self.codings, entry).label
+    }
+
+    fn of_child(&self, _entry: usize, choice: TypeOf) -> TypeOf {
+        choice
+    }
+
+    fn either(&self, left: TypeOf, right: TypeOf) -> TypeOf {
+        either_type(left, right)
+    }
+
+    fn add_bases(&self, operation: usize, into: &mut Vec<usize>) -> Result<(), AllocError> {
+        match expression(sections(self.names, operation)) {
+            None => Ok(()),
+            Some(expression) => add_typed(self.names, operation, expression, into),
+        }
+    }
+
+    fn bases_of_choice(&self, choice: usize) -> &[usize] {
+        self.names.plain_at(choice)
+    }
+
+    ghost steady = { λ c. types_steady (N.tree c.names.now) };
+}
