@@ -1,0 +1,148 @@
+-- A name is used against its declaration.
+use Rattle.std.specs.Prelude.{◌≡◌, ℕ, Bool, true, false, List, [], ◌∷◌, Option, None, Some, cond, ◌&&◌, ◌||◌, not, length, codes}
+use Rattle.std.specs.Option.{option_or, is_some}
+use Rattle.lisa_tree.specs.declared.faults.DescFault.{DescFault}
+use Rattle.lisa_tree.specs.declared.faults.DescFault.TheVariants as faults
+use Rattle.lisa_tree.specs.Expressions as exprs
+use Rattle.lisa_tree.specs.Expressions.{ExprTree}
+use Rattle.lisa_tree.specs.Descriptions as trees
+use Rattle.lisa_tree.specs.Descriptions.{ResourceTree, DeclareTree, CodingTree, SectionTree, OperationTree, DescriptionTree}
+use Rattle.lisa_tree.specs.Spellings.{keyword_text}
+use Rattle.lisa_tree.specs.declared.tokens.Keyword.TheVariants as keywords
+use Rattle.description_places.specs.declared.sites.Region.{Region}
+use Rattle.description_places.specs.declared.sites.Region.TheVariants as regions
+use Rattle.description_places.specs.Scopes.{Scope, local_named}
+use Rattle.description_places.specs.Places as places
+use Rattle.description_places.specs.Places.{Place, Condition, first, description_places}
+use Rattle.description_names.specs.Same.{same_name}
+use Rattle.description_names.specs.Resources.{stages, stage_at, is_pipeline}
+use Rattle.description_names.specs.Operations.{name_at, own_stage, is_root, declares_in, coding_in, behavior_in, expression_in, activation_in}
+use Rattle.description_names.specs.Declarations.{declared_at}
+use Rattle.description_names.specs.Meanings.{meaning}
+use Rattle.description_types.specs.Tables.{Known, AreKinds}
+use Rattle.kind_checks.specs.Uses.{is_misread, is_misindexed, is_miswritten, is_miscalled, is_misstarted, is_wrong_operand, is_wrong_root_group, is_wrong_field, is_wrong_number, is_wrong_shown, is_misdeclared, may_input, may_output, are_apart, tells_decoded, is_free, is_wrong_register}
+
+-- the name, where it is at fault
+abbrev pub faulty : Bool → List ℕ → Option (List ℕ)
+faulty true n = Some n
+faulty false n = None
+
+-- what isn't the name of a pipeline
+abbrev pub pipe_name : DescriptionTree → List ℕ → Option (List ℕ)
+pipe_name d pipe = faulty (not (is_pipeline d pipe)) pipe
+
+-- a field of the boundary before the own stage, where there is none
+abbrev pub input_name : DescriptionTree → ℕ → List ℕ → Option (List ℕ)
+input_name d o field = faulty (not (may_input (own_stage d o))) field
+
+-- a field of the boundary after the own stage, where there is none
+abbrev pub output_name : DescriptionTree → ℕ → List ℕ → Option (List ℕ)
+output_name d o field = faulty (not (may_output (length (stages d)) (own_stage d o))) field
+
+-- `decoded`, where it isn't known
+abbrev pub decoded_name : DescriptionTree → ℕ → Region → Option (List ℕ)
+decoded_name d o region = faulty (not (tells_decoded (is_root d o) region)) (keyword_text keywords.Decoded)
+
+-- ---- resources and heads
+
+-- the fields of boundaries are those of a pipeline
+abbrev pub resource_name : DescriptionTree → ResourceTree → Option (List ℕ)
+resource_name d (trees.Fields pipe fields) = pipe_name d pipe
+resource_name d _ = None
+
+abbrev pub has_references : List DeclareTree → Bool
+has_references [] = false
+has_references (trees.Reference names ∷ rest) = true
+has_references (declared ∷ rest) = has_references rest
+
+abbrev pub lacks_coding : Option CodingTree → Bool
+lacks_coding (Some (trees.Items all)) = false
+lacks_coding _ = true
+
+-- An alias is neither `main` nor `reset`, has a coding that isn't the root's, and has neither a stage, references, a behaviour, an expression
+-- nor an activation.
+abbrev pub is_wrong_alias : OperationTree → Bool
+is_wrong_alias operation =
+    (same_name operation.name (codes "main") || same_name operation.name (codes "reset")) || (is_some operation.stage || (lacks_coding (coding_in operation.sections)
+    || (has_references (declares_in operation.sections) || (is_some (behavior_in operation.sections) || (is_some (expression_in operation.sections) || is_some (activation_in operation.sections))))))
+
+abbrev pub stage_name : DescriptionTree → Option (List ℕ × List ℕ) → Option (List ℕ)
+stage_name d None = None
+stage_name d (Some stage) = pipe_name d stage.0
+
+abbrev pub head_name : DescriptionTree → OperationTree → Option (List ℕ)
+head_name d operation = option_or (stage_name d operation.stage) (faulty (operation.alias && is_wrong_alias operation) operation.name)
+
+-- ---- names at fault
+
+-- the word of a root over a field is that of the boundary before its own stage
+abbrev pub register_name : Known → DescriptionTree → ℕ → ExprTree → Option (List ℕ)
+register_name known d o (exprs.Named n) = faulty (is_wrong_register known d (meaning d o n)) n
+register_name known d o (exprs.Input field) = input_name d o field
+register_name known d o _ = None
+
+abbrev pub root_name : Known → DescriptionTree → ℕ → ExprTree → List ℕ → Option (List ℕ)
+root_name known d o register group = option_or (register_name known d o register) (faulty (is_wrong_root_group known d (meaning d o group)) group)
+
+-- the stages round a boundary follow each other
+abbrev pub boundary_name : DescriptionTree → List ℕ → List ℕ → List ℕ → List ℕ → Option (List ℕ)
+boundary_name d pipe before after field = cond (is_pipeline d pipe) (faulty (are_apart (stage_at d before) (stage_at d after)) field) (Some pipe)
+
+-- where something is read
+abbrev pub misread_name : Known → DescriptionTree → ℕ → Region → Scope → Place → Option (List ℕ)
+misread_name known d o region scope (places.Reads n) = faulty (is_misread known d o n (local_named n scope)) n
+misread_name known d o region scope (places.ReadsElement n) = faulty (is_misindexed known d o n (local_named n scope)) n
+misread_name known d o region scope (places.ReadsInput field) = input_name d o field
+misread_name known d o region scope (places.ReadsOutput field) = Some field
+misread_name known d o region scope (places.ReadsBoundary pipe before after field) = boundary_name d pipe before after field
+misread_name known d o region scope places.ReadsDecoded = decoded_name d o region
+misread_name known d o region scope _ = None
+
+-- where something is assigned or done
+abbrev pub misused_name : Known → DescriptionTree → ℕ → Scope → Place → Option (List ℕ)
+misused_name known d o scope (places.Writes n) = faulty (is_miswritten known d o n (local_named n scope)) n
+misused_name known d o scope (places.WritesElement n) = faulty (is_misindexed known d o n (local_named n scope)) n
+misused_name known d o scope (places.WritesOutput field) = output_name d o field
+misused_name known d o scope (places.Calls n) = faulty (is_miscalled known d o n (local_named n scope)) n
+misused_name known d o scope (places.Stalls pipe stage) = pipe_name d pipe
+misused_name known d o scope (places.Flushes pipe stage) = pipe_name d pipe
+misused_name known d o scope (places.Executes pipe) = pipe_name d pipe
+misused_name known d o scope (places.Shifts pipe) = pipe_name d pipe
+misused_name known d o scope _ = None
+
+-- at the other places
+abbrev pub misplaced_name : Known → DescriptionTree → ℕ → Place → Option (List ℕ)
+misplaced_name known d o (places.Resource k resource) = resource_name d resource
+misplaced_name known d o (places.Head operation) = head_name d operation
+misplaced_name known d o (places.Declared k n) = faulty (is_misdeclared known d (declared_at d o n)) n
+misplaced_name known d o (places.Root register group) = root_name known d o register group
+misplaced_name known d o (places.Field n pattern) = faulty (is_wrong_field known d (is_free pattern) (meaning d o n)) n
+misplaced_name known d o (places.Operand n) = faulty (is_wrong_operand known d (meaning d o n)) n
+misplaced_name known d o (places.Number n format) = faulty (is_wrong_number known d (meaning d o n)) n
+misplaced_name known d o (places.Shown n) = faulty (is_wrong_shown known d (meaning d o n)) n
+misplaced_name known d o (places.Starts n) = faulty (is_misstarted known d (meaning d o n)) n
+misplaced_name known d o _ = None
+
+-- ---- faults
+
+abbrev pub told : List ℕ → Option (List ℕ) → Option DescFault
+told operation None = None
+told operation (Some n) = Some (faults.WrongKind operation n)
+
+-- the operation of a place; the resources have the empty name
+abbrev pub owner_name : DescriptionTree → ℕ → Region → List ℕ
+owner_name d o regions.Resources = []
+owner_name d o _ = name_at d o
+
+-- the name that is at fault at a place
+abbrev pub wrong_name : Known → DescriptionTree → ℕ → Region → Scope → Place → Option (List ℕ)
+wrong_name known d o region scope place = option_or (misread_name known d o region scope place) (option_or (misused_name known d o scope place) (misplaced_name known d o place))
+
+abbrev pub wrong_kind : Known → DescriptionTree → Condition DescFault
+wrong_kind known d o region scope place = told (owner_name d o region) (wrong_name known d o region scope place)
+
+-- the first name that is used against its declaration, by exactly what is known of the description's nodes
+pub record IsFirstWrongKind (d : DescriptionTree) (found : Option DescFault) : Type 0 where
+  pub known : Known
+  pub kinds : AreKinds d known
+  pub is : found ≡ first (wrong_kind known d) (description_places d)

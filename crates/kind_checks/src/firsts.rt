@@ -1,0 +1,72 @@
+//! The first fault of each of the two conditions.
+
+ghost use Rattle.std.specs.Prelude.{◌≡◌, IfOk};
+ghost use Rattle.description_places.specs.Places.{first, description_places};
+ghost use Rattle.description_types.specs.Tables.{known_by, AreKinds};
+ghost use Rattle.kind_checks.specs.Narrowings.{narrowing, IsFirstNarrowing};
+ghost use Rattle.kind_checks.specs.WrongKinds.{wrong_kind, IsFirstWrongKind};
+
+use crate::narrowings::Narrowing;
+use crate::wrong_kinds::WrongKind;
+use description_names::Names;
+use description_places::first_fault;
+use description_types::Kinds;
+use lisa_tree::DescFault;
+use lisa_words::NoMemory;
+use std::alloc::Global;
+
+// The same, by what is known of the description's nodes.
+fn wrong_kind<N: Names>(
+    alloc: Global,
+    names: &N,
+    kinds: &Kinds,
+) -> Result<Option<DescFault>, NoMemory>
+    ensures { IfOk result (λ found. found ≡ first (wrong_kind (known_by kinds.now) (N.tree names.now)) (description_places (N.tree names.now))) }
+{
+    let condition = WrongKind::new(alloc, names, kinds)?;
+    let found = first_fault(alloc, &condition, names.description())?;
+    Ok(found)
+}
+
+// The same, by what is known of the description's nodes.
+fn narrowing<N: Names>(
+    alloc: Global,
+    names: &N,
+    kinds: &Kinds,
+) -> Result<Option<DescFault>, NoMemory>
+    ensures { IfOk result (λ found. found ≡ first (narrowing (known_by kinds.now) (N.tree names.now)) (description_places (N.tree names.now))) }
+{
+    let condition = Narrowing {
+        alloc,
+        names,
+        kinds,
+    };
+    let found = first_fault(alloc, &condition, names.description())?;
+    Ok(found)
+}
+
+/// The first name that is used against its declaration.
+pub fn first_wrong_kind<N: Names>(
+    alloc: Global,
+    names: &N,
+    kinds: &Kinds,
+) -> Result<Option<DescFault>, NoMemory>
+    requires { AreKinds (N.tree names.now) (known_by kinds.now) }
+    ensures { IfOk result (λ found. IsFirstWrongKind (N.tree names.now) found) }
+{
+    let found = wrong_kind(alloc, names, kinds)?;
+    Ok(found)
+}
+
+/// The first value that is wider than the place that it is assigned to.
+pub fn first_narrowing<N: Names>(
+    alloc: Global,
+    names: &N,
+    kinds: &Kinds,
+) -> Result<Option<DescFault>, NoMemory>
+    requires { AreKinds (N.tree names.now) (known_by kinds.now) }
+    ensures { IfOk result (λ found. IsFirstNarrowing (N.tree names.now) found) }
+{
+    let found = narrowing(alloc, names, kinds)?;
+    Ok(found)
+}

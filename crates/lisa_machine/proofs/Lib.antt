@@ -1,0 +1,4 @@
+pub mod Steps
+pub mod Owners
+pub mod Unique
+pub mod Verdicts

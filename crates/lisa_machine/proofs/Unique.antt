@@ -1,0 +1,112 @@
+-- Each verdict is the only one.
+use Rattle.std.proofs.Common.{◌≡◌, ◌∙◌, ◌<◌, ◌↔◌, ℕ, Bool, true, false, Option, None, Some, refl, sym, ap, subst, arith, ⊎_elim, cond, length, nat_lt}
+use Rattle.std.proofs.Math.Path.{fun_ext}
+use Rattle.std.specs.Prelude.{option_map}
+use Rattle.std.proofs.lemmas.Bool.{cases_lt}
+use Rattle.lisa_tree.specs.declared.faults.DescFault.{DescFault}
+use Rattle.lisa_tree.specs.declared.faults.DescFault.TheVariants as faults
+use Rattle.lisa_tree.specs.Descriptions.{DescriptionTree}
+use Rattle.description_places.specs.Places.{Condition, first, description_places}
+use Rattle.description_names.specs.Paths.{Operation}
+use Rattle.description_graph.specs.Circles.{IsFirstCircularOperation}
+use Rattle.least_fixed_points.specs.Settles.{Settles}
+use Rattle.description_types.specs.Facts.{Fact, follows}
+use Rattle.description_types.specs.Tables.{AreValues, Known, AreKinds}
+use Rattle.kind_checks.specs.WrongKinds.{wrong_kind, IsFirstWrongKind}
+use Rattle.kind_checks.specs.Narrowings.{narrowing, IsFirstNarrowing}
+use Rattle.std.specs.Prelude.{not, ◌||◌}
+use Rattle.std.specs.Option.{is_some}
+use Rattle.description_places.specs.declared.sites.Region.{Region}
+use Rattle.description_places.specs.Scopes.{Scope}
+use Rattle.description_places.specs.Places.{Place}
+use Rattle.description_names.specs.Operations.{number_of}
+use Rattle.stage_checks.specs.Controls.{main_name}
+use Rattle.stage_checks.specs.Closing.{closes_well}
+use Rattle.stage_checks.specs.Running.{RunsIn, IsLatest, AreLatest, AreFree}
+use Rattle.stage_checks.specs.Backward.{backward, skipping, main_fits, IsBackwardVerdict, IsMainVerdict}
+use Rattle.lisa_machine.specs.Verdicts.{at_places, circular, IsCircleVerdict, IsBadMainVerdict, nothing}
+use Rattle.lisa_machine.proofs.Owners.{agree}
+use Rattle.lisa_machine.proofs.Steps.{IsOne}
+
+pub places_one : (d : DescriptionTree) (breaks : Condition DescFault) → IsOne (at_places d breaks)
+places_one d breaks a b x y = x ∙ sym y
+
+pub nothing_one : IsOne nothing
+nothing_one a b x y = x ∙ sym y
+
+-- ---- tables of values
+
+same_option : {T : Type 0} (x y : Option T) → ((t : T) → x ≡ Some t → y ≡ Some t) → ((t : T) → y ≡ Some t → x ≡ Some t) → x ≡ y
+same_option None None f g = refl
+same_option None (Some t) f g = g t refl
+same_option (Some t) y f g = sym (f t refl)
+
+one_table : {T : Type 0} (d : DescriptionTree) (fact : Fact T) (known other : ℕ → Option T) → AreValues d fact known → AreValues d fact other → known ≡ other
+one_table d fact known other w v = fun_ext (λ a. same_option (known a) (other a) (λ t e. (v a t).1 ((w a t).0 e)) (λ t e. (w a t).1 ((v a t).0 e)))
+
+one_known : (d : DescriptionTree) (known other : Known) → AreKinds d known → AreKinds d other → known ≡ other
+one_known d known other w v =
+    let types = one_table d _ known.types other.types w.types v.types in
+    let assignables = one_table d _ known.assignables other.assignables w.assignables v.assignables in
+    let traits = one_table d _ known.traits other.traits w.traits v.traits in
+    λ i. record { types = types i; assignables = assignables i; traits = traits i }
+
+pub wrong_kind_one : (d : DescriptionTree) → IsOne (IsFirstWrongKind d)
+wrong_kind_one d a b x y =
+    x.is ∙ ap (λ (k : Known). first (wrong_kind k d) (description_places d)) (one_known d x.known y.known x.kinds y.kinds) ∙ sym y.is
+
+pub narrowing_one : (d : DescriptionTree) → IsOne (IsFirstNarrowing d)
+narrowing_one d a b x y =
+    x.is ∙ ap (λ (k : Known). first (narrowing k d) (description_places d)) (one_known d x.known y.known x.kinds y.kinds) ∙ sym y.is
+
+-- ---- circles
+
+one_circle : (d : DescriptionTree) (a b : Option ℕ) → IsFirstCircularOperation d a → IsFirstCircularOperation d b → a ≡ b
+one_circle d None None x y = refl
+one_circle d None (Some o) x y = absurd (x o y.1)
+one_circle d (Some o) None x y = absurd (y o x.1)
+one_circle d (Some o) (Some p) x y = ⊎_elim
+    (λ h. absurd (y.2 o h x.1))
+    (λ h. ⊎_elim (λ k. absurd (x.2 p k y.1)) (λ k. ap Some (let same : o ≡ p = omega arith in same)) (cases_lt p o))
+    (cases_lt o p)
+
+pub circle_one : (d : DescriptionTree) → IsOne (IsCircleVerdict d)
+circle_one d a b x y = x.is ∙ ap (option_map (circular d)) (one_circle d x.circle y.circle x.first_circle y.first_circle) ∙ sym y.is
+
+-- ---- stages
+
+one_latest : (d : DescriptionTree) (o : ℕ) (x y : Option ℕ) → IsLatest d o x → IsLatest d o y → x ≡ y
+one_latest d o None None p q = refl
+one_latest d o None (Some t) p q = absurd (p t q.0)
+one_latest d o (Some s) None p q = absurd (q s p.0)
+one_latest d o (Some s) (Some t) p q = ap Some (let same : s ≡ t = omega (arith, p.1 t q.0, q.1 s p.0) in same)
+
+backward_alike : (d : DescriptionTree) (latest other : ℕ → Option ℕ) → AreLatest d latest → AreLatest d other → (o : ℕ) → o < length d.operations → (region : Region) (scope : Scope) (place : Place)
+    → backward d latest o region scope place ≡ backward d other o region scope place
+backward_alike d latest other p q o h region scope place =
+    ap (λ (late : Option ℕ). backward d (λ _. late) o region scope place) (one_latest d o (latest o) (other o) (p o h) (q o h))
+
+pub backward_one : (d : DescriptionTree) → IsOne (IsBackwardVerdict d)
+backward_one d a b x y =
+    x.first_fault ∙ agree d (backward d x.latest) (backward d y.latest) (λ k r region scope. refl) (backward_alike d x.latest y.latest x.are_latest y.are_latest) ∙ sym y.first_fault
+
+one_free : (a b : Bool) (P : Type 0) → ((a ≡ true) ↔ P) → ((b ≡ true) ↔ P) → a ≡ b
+one_free true true P p q = refl
+one_free true false P p q = absurd (cc (q.1 (p.0 refl)))
+one_free false true P p q = absurd (cc (p.1 (q.0 refl)))
+one_free false false P p q = refl
+
+skipping_alike : (d : DescriptionTree) (free other : ℕ → Bool) → AreFree d free → AreFree d other → (o : ℕ) → o < length d.operations → (region : Region) (scope : Scope) (place : Place)
+    → skipping d free o region scope place ≡ skipping d other o region scope place
+skipping_alike d free other p q o h region scope place =
+    ap (λ (runs : Bool). skipping d (λ _. runs) o region scope place) (one_free (free o) (other o) (RunsIn d o None) (p o h) (q o h))
+
+one_main : (d : DescriptionTree) (a b : Bool) → IsMainVerdict d a → IsMainVerdict d b → a ≡ b
+one_main d a b x y =
+    x.verdict
+    ∙ ap (λ (found : Option DescFault). not (main_fits d (number_of d main_name)) || (not (closes_well d) || is_some found))
+    (agree d (skipping d x.free) (skipping d y.free) (λ k r region scope. refl) (skipping_alike d x.free y.free x.are_free y.are_free))
+    ∙ sym y.verdict
+
+pub main_one : (d : DescriptionTree) → IsOne (IsBadMainVerdict d)
+main_one d a b x y = x.is ∙ ap (λ (bad : Bool). cond bad (Some faults.BadMain) None) (one_main d x.bad y.bad x.main y.main) ∙ sym y.is

@@ -1,0 +1,10 @@
+use Rattle.std.proofs.Common.{◌≡◌, false}
+use Rattle.std.specs.Option.{is_some}
+use Rattle.lisa_machine.specs.Verdicts.{IsCircleVerdict, from_backwards}
+use Rattle.lisa_machine.proofs.Steps.{past}
+use Rattle.lisa_machine.proofs.firsts.from_circles.Goals as goal
+
+pub returns : goal.returns
+returns g c =
+    let off : is_some c.in_ok-found.found ≡ false = cc in
+    past (IsCircleVerdict (g.N.Names.tree c.args.names.now)) (from_backwards (g.N.Names.tree c.args.names.now)) c.in_ok-found.found c.in_ok-found-2.found c.in_ok-found.ensures off c.in_ok-found-2.ensures

@@ -1,0 +1,11 @@
+use Rattle.std.proofs.Common.{◌≡◌, false}
+use Rattle.std.specs.Option.{is_some}
+use Rattle.stage_checks.specs.Controls.{control}
+use Rattle.lisa_machine.specs.Verdicts.{at_places, from_mains}
+use Rattle.lisa_machine.proofs.Steps.{past}
+use Rattle.lisa_machine.proofs.firsts.from_controls.Goals as goal
+
+pub returns : goal.returns
+returns g c =
+    let off : is_some c.in_ok-found.found ≡ false = cc in
+    past (at_places (g.N.Names.tree c.args.names.now) (control (g.N.Names.tree c.args.names.now))) (from_mains (g.N.Names.tree c.args.names.now)) c.in_ok-found.found c.in_ok-found-2.found c.in_ok-found.ensures off c.in_ok-found-2.ensures

@@ -1,0 +1,13 @@
+use Rattle.std.proofs.Common.{◌≡◌, ◌∙◌, ap, false}
+use Rattle.std.specs.Option.{is_some}
+use Rattle.lisa_tree.specs.Descriptions.{DescriptionTree}
+use Rattle.description_places.specs.Places.{first, description_places}
+use Rattle.shape_checks.specs.Shapes.{bad_depth}
+use Rattle.lisa_machine.specs.Verdicts.{at_places, from_narrowings}
+use Rattle.lisa_machine.proofs.Steps.{past}
+use Rattle.lisa_machine.proofs.firsts.from_depths.Goals as goal
+
+pub returns : goal.returns
+returns g c =
+    let off : is_some c.in_ok-found.found ≡ false = cc in
+    past (at_places (g.N.Names.tree c.args.names.now) bad_depth) (from_narrowings (g.N.Names.tree c.args.names.now)) c.in_ok-found.found c.in_ok-found-2.found (c.in_ok-found.ensures ∙ ap (λ (t : DescriptionTree). first bad_depth (description_places t)) c.description.ensures) off c.in_ok-found-2.ensures

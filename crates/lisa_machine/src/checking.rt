@@ -1,0 +1,40 @@
+//! Checking a description.
+
+ghost use Rattle.std.specs.Prelude.{◌≡◌, ◌⊎◌, IfOk, IfErr};
+ghost use Rattle.lisa_tree.specs.declared.faults.DescFault.TheVariants as faults;
+ghost use Rattle.lisa_tree.specs.Descriptions.{description_tree};
+ghost use Rattle.lisa_machine.specs.Verdicts.{conditions, IsAccepted, IsFirstFault};
+
+use crate::firsts::from_duplicates;
+use crate::machine::Machine;
+use description_tables::Tables;
+use lisa_tree::{DescFault, Description};
+use lisa_words::NoMemory;
+use std::alloc::Global;
+
+// The first fault of a description.
+fn first_fault(alloc: Global, description: &Description) -> Result<Option<DescFault>, NoMemory>
+    ensures { IfOk result (λ found. conditions (description_tree description.now) found) }
+{
+    let tables = Tables::make(alloc, description)?;
+    let found = from_duplicates(alloc, &tables)?;
+    Ok(found)
+}
+
+/// Checks a description: the machine that keeps it where no condition is broken, and else the first fault of the first condition that
+/// is. A refusal drops the description.
+pub fn check(alloc: Global, description: Description) -> Result<Machine, DescFault>
+    // What is accepted is kept.
+    ensures machine { IfOk result (λ m. m.description ≡ description) }
+
+    // No condition is broken in it.
+    ensures accepted { IfOk result (λ _. IsAccepted (description_tree description)) }
+
+    // A refusal is the first fault, or for want of memory.
+    ensures fault { IfErr result (λ f. (f ≡ faults.NoMemory) ⊎ IsFirstFault (description_tree description) f) }
+{
+    match first_fault(alloc, &description)? {
+        None => Ok(Machine { description }),
+        Some(fault) => Err(fault),
+    }
+}

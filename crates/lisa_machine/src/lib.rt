@@ -1,0 +1,9 @@
+//! Checked descriptions: which condition is broken first, and what an accepted description has.
+#![tactic(auto)]
+
+mod checking;
+mod firsts;
+mod machine;
+
+pub use checking::check;
+pub use machine::Machine;

@@ -1,0 +1,30 @@
+//! The first fault of each condition.
+
+ghost use Rattle.std.specs.Prelude.{◌≡◌, IfOk};
+ghost use Rattle.description_places.specs.Places.{first, description_places};
+ghost use Rattle.name_checks.specs.Doubled.{duplicate};
+ghost use Rattle.name_checks.specs.Unknown.{unknown};
+
+use crate::doubled::Doubled;
+use crate::unknown::Unknown;
+use description_names::Names;
+use description_places::first_fault;
+use lisa_tree::DescFault;
+use lisa_words::NoMemory;
+use std::alloc::Global;
+
+/// The first name that two things of one class share, or of what stands twice.
+pub fn first_duplicate<N: Names>(alloc: Global, names: &N) -> Result<Option<DescFault>, NoMemory>
+    ensures { IfOk result (λ found. found ≡ first (duplicate (N.tree names.now)) (description_places (N.tree names.now))) }
+{
+    let found = first_fault(alloc, &Doubled { alloc, names }, names.description())?;
+    Ok(found)
+}
+
+/// The first name that stands for nothing.
+pub fn first_unknown<N: Names>(alloc: Global, names: &N) -> Result<Option<DescFault>, NoMemory>
+    ensures { IfOk result (λ found. found ≡ first (unknown (N.tree names.now)) (description_places (N.tree names.now))) }
+{
+    let found = first_fault(alloc, &Unknown { alloc, names }, names.description())?;
+    Ok(found)
+}

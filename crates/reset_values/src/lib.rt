@@ -1,0 +1,14 @@
+//! What `reset` does: the first values of the registers, and how many statements it has once its loops are unrolled.
+#![tactic(auto)]
+
+mod counts;
+mod memories;
+mod running;
+
+pub use counts::{count_statement, count_statements};
+pub use running::reset_values;
+
+#[cfg(test)]
+mod sample;
+#[cfg(test)]
+mod tests;
