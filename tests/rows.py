@@ -14,6 +14,8 @@ import subprocess
 import sys
 import tempfile
 
+from descriptions import ALL as DESCRIPTIONS
+
 HERE = os.path.dirname(os.path.abspath(__file__))
 
 
@@ -203,6 +205,28 @@ row("vdebug of too long an input", {"V": V}, step(
 row("vdebug of the longest input", {"V": V}, step(
     "vdebug V - -", "edge 0\n" + "refused 1 BadCommand\n" * (1048576 - 6), input=LONG[:-1]))
 row("vdebug of a long input behind quit", {"V": V}, step("vdebug V - -", "edge 0\n", input="where\nquit\n" + LONG))
+
+# ---------------------------------------------------------------- checks of descriptions
+
+for name, count in (("a.lisa", 2), ("b.lisa", 2), ("c.lisa", 7), ("d.lisa", 3), ("e.lisa", 4), ("f.lisa", 4)):
+    row(f"check of the sample {name}", {"X": SAMPLES[name]}, step("check X", f"operations {count}\n"))
+for name, text, out, err in DESCRIPTIONS:
+    row(f"check: {name}", {"X": text}, step("check X", out, err))
+row("a value that is too wide for its register", {"B": swap(SAMPLES["b.lisa"], ("c = a + b; d = a < b;", "a = b;"))},
+    step("check B", err="lisa: description 11 Narrowing operation=main from=16 to=8\n"))
+row("a loop without bound", {"A": swap(A, ("n = n + 1;", "while (n) n = n + 1;"))},
+    step("check A", err="lisa: description 12 LoopWithoutBound operation=main\n"))
+row("a loop of 256 turns is accepted", {"A": swap(A, ("n = n + 1;", "for (uint8 i = 0; i < 256; i = i + 1) n = n + 1;"))},
+    step("check A", "operations 2\n"))
+row("a loop that is too long", {"A": swap(A, ("n = n + 1;", "for (uint16 i = 0; i < 257; i = i + 1) n = n + 1;"))},
+    step("check A", err="lisa: description 13 LoopTooLong operation=main turns=257\n"))
+row("a stall of the first stage in it", {"D": swap(SAMPLES["d.lisa"], ("{ M[0] = M[0] + 2;", "{ p.A.stall(); M[0] = M[0] + 2;"))},
+    step("check D", err="lisa: description 16 Control operation=a stage=A\n"))
+row("check of bytes that spell no description", {"X": "RESOURCE { } OPERATION"}, step("check X", err=up_to("lisa: description 5 NotADescription at=", 22)))
+row("check reads before it checks", {"X": "RESOURCE { REGISTER uint65 n; } @"}, step("check X", err="lisa: description 1 BadByte at=32\n"))
+row("check of no file", {}, step("check X", err="lisa: read fault\n", status=3))
+row("check of two words", {"A": A}, step("check A A", err=USAGE, status=2))
+row("check of too long a file", {"A": A + " " * 1048576}, step("check A", err="lisa: file 1 TooLong name=A\n"))
 
 # ---------------------------------------------------------------- running
 

@@ -15,11 +15,11 @@ use Rattle.lisa_outcomes.specs.Stages.{Finds}
 use Rattle.description_commands.specs.Unread.{unread_end}
 use Rattle.lisa_outcomes.proofs.Finding.{found_memory, found_refused}
 
-memory_is_no_refusal : (r : Refusal) → ends.NoMemory ≡ ends.Refused r → ⊥
+pub memory_is_no_refusal : (r : Refusal) → ends.NoMemory ≡ ends.Refused r → ⊥
 memory_is_no_refusal r e = cc
 
 -- the end is want of memory, or the fault is the refusal
-unread_is : (f : DescFault) → (unread_end f ≡ ends.NoMemory) ⊎ (unread_end f ≡ ends.Refused (refusals.Description f))
+pub unread_is : (f : DescFault) → (unread_end f ≡ ends.NoMemory) ⊎ (unread_end f ≡ ends.Refused (refusals.Description f))
 unread_is descriptions.NoMemory = inl refl
 unread_is _ = inr refl
 

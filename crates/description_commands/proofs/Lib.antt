@@ -4,3 +4,4 @@ mod Faulty
 mod PinCounts
 mod ThinTasks
 pub mod Stopped
+mod Accepting

@@ -5,3 +5,4 @@ pub mod ThinStates
 pub mod ThinRuns
 pub mod Tasks
 pub mod Unread
+pub mod Checks

@@ -22,7 +22,7 @@ use lisa_printer::print_description;
 use lisa_tree::Description;
 use std::alloc::Global;
 
-const DESCRIPTION_LIMIT: u64 = 1_048_576;
+pub(crate) const DESCRIPTION_LIMIT: u64 = 1_048_576;
 
 // Writes the canonical text of a description.
 fn format_tree<O: Sink>(alloc: Global, description: &Description, out: &mut O) -> Result<(), End>

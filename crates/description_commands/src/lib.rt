@@ -1,8 +1,9 @@
-//! The commands on a description: its canonical text, its state after some edges, and a session of the debugger over it.
+//! The commands on a description: its canonical text, whether it is accepted, its state after some edges, and a session of the debugger over it.
 //!
-//! `specs/Descriptions.antt` says what `fmt` gives, and `specs/ThinRuns.antt` what each task gives.
+//! `specs/Descriptions.antt` says what `fmt` gives, `specs/Checks.antt` what `check` gives, and `specs/ThinRuns.antt` what each task gives.
 #![tactic(auto)]
 
+mod checks;
 mod commands;
 mod parts;
 mod reading;
@@ -10,6 +11,7 @@ mod running;
 mod simulator;
 mod thin;
 
+pub use checks::check_file;
 pub use commands::{do_with_description, format_file};
 pub use reading::description_of;
 

@@ -11,8 +11,8 @@ use lisa_reader::read_description;
 use lisa_tree::{DescFault, Description};
 use std::alloc::Global;
 
-// The end of a command whose description wasn't read.
-fn unread(fault: DescFault) -> End
+// The end of a command whose description wasn't read, or was refused.
+pub(crate) fn unread(fault: DescFault) -> End
     ensures { result ≡ unread_end fault }
 {
     match fault {

@@ -14,7 +14,7 @@ use Rattle.description_commands.specs.Tasks as simulators
 use Rattle.description_commands.proofs.Stopped.{stopped_kept as simulator_kept}
 use Rattle.module_commands.specs.Clocks.{file_failed, input_failed}
 use Rattle.module_commands.proofs.Stopped.{stopped_kept}
-use Rattle.lisa_cli.specs.Requests.{Request, Format, Simulate, Clock, Asks}
+use Rattle.lisa_cli.specs.Requests.{Request, Format, Check, Simulate, Clock, Asks}
 use Rattle.lisa_outcomes.specs.Outcomes.{Finished, Refusing, Given}
 use Rattle.lisa_cli.specs.Gives.{Gives}
 use Rattle.lisa_outcomes.specs.Ends.{Ends}
@@ -35,6 +35,7 @@ pub record Ran {T : Type 0} (w : World) (words : List (List ℕ)) (request : Req
 -- what stands after a read fault names what failed
 blamed_blames : (r : Readings) (before after : Option (List ℕ)) (request : Request) → Blamed r before after request → Blames r request
 blamed_blames r before after (Format description) blamed = blamed.0
+blamed_blames r before after (Check description) blamed = blamed.0
 blamed_blames r before after (Simulate task description) (simulators.file_failed failed nothing) = inl failed
 blamed_blames r before after (Simulate task description) (simulators.input_failed failed cut) = inr failed
 blamed_blames r before after (Clock task names) (file_failed failed nothing) = inl failed
@@ -43,6 +44,7 @@ blamed_blames r before after (Clock task names) (input_failed failed cut) = inr 
 -- and what stands is kept where nothing more is put
 pub blamed_kept : (r : Readings) (before after sent : Option (List ℕ)) (request : Request) → Keeps after sent → Blamed r before after request → Blamed r before sent request
 blamed_kept r before after sent (Format description) keeps blamed = (blamed.0, appends_kept _ _ _ _ blamed.1 keeps)
+blamed_kept r before after sent (Check description) keeps blamed = (blamed.0, appends_kept _ _ _ _ blamed.1 keeps)
 blamed_kept r before after sent (Simulate task description) keeps blamed = simulator_kept keeps blamed
 blamed_kept r before after sent (Clock task names) keeps blamed = stopped_kept keeps blamed
 

@@ -10,6 +10,7 @@ use Rattle.engine_commands.specs.Tasks.{takes_input}
 pub data Request : Type 0 where
   -- description
   Format : List ℕ → Request
+  Check : List ℕ → Request
   -- what is to be done with the simulator of a description, and its file
   Simulate : Task → List ℕ → Request
   -- what is to be done with the clock of a module, and its files
@@ -44,6 +45,7 @@ run_words names counts = names.main ∷ file_word names.image ∷ file_word name
 
 abbrev pub request_words : Request → List (List ℕ)
 request_words (Format description) = codes "fmt" ∷ description ∷ []
+request_words (Check description) = codes "check" ∷ description ∷ []
 request_words (Simulate task description) = simulator_word task ∷ description ∷ codes "-" ∷ codes "-" ∷ count_words task
 request_words (Clock task names) = clock_word task ∷ run_words names (count_words task)
 
@@ -70,12 +72,14 @@ IsCounted tasks.Answers = Unit {0}
 -- each file has a name, and the number of edges is within its limit
 abbrev pub IsAllowed : Request → Type 0
 IsAllowed (Format description) = IsFileName description
+IsAllowed (Check description) = IsFileName description
 IsAllowed (Simulate task description) = IsFileName description × IsCounted task
 IsAllowed (Clock task names) = AreNames names × IsCounted task
 
 -- it takes the lines of the input
 abbrev pub reads_input : Request → Bool
 reads_input (Format description) = false
+reads_input (Check description) = false
 reads_input (Simulate task description) = takes_input task
 reads_input (Clock task names) = takes_input task
 

@@ -8,7 +8,7 @@ use Rattle.lisa_outcomes.specs.RunFiles.{SomeFailed}
 use Rattle.engine_commands.specs.Tasks.{HasFailed}
 use Rattle.description_commands.specs.Tasks as simulators
 use Rattle.module_commands.specs.Clocks.{IsStopped}
-use Rattle.lisa_cli.specs.Requests.{Request, Format, Simulate, Clock, reads_input}
+use Rattle.lisa_cli.specs.Requests.{Request, Format, Check, Simulate, Clock, reads_input}
 
 -- what the files held before, what the input had left before and after, and how often each had failed before and after
 pub record Readings : Type 0 where
@@ -39,6 +39,7 @@ pub record IsGiven (held : Held) (input : Option (List ℕ)) (request : Request)
 -- a file that the request names failed, or the input, where the request reads it
 abbrev pub Blames : Readings → Request → Type 0
 Blames r (Format description) = Rose (r.file_faults description) (r.file_faults_after description)
+Blames r (Check description) = Rose (r.file_faults description) (r.file_faults_after description)
 Blames r (Simulate task description) = Rose (r.file_faults description) (r.file_faults_after description) ⊎ HasFailed task r.input_faults r.input_faults_after
 Blames r (Clock task names) = SomeFailed names r.file_faults r.file_faults_after ⊎ HasFailed task r.input_faults r.input_faults_after
 
@@ -46,6 +47,7 @@ Blames r (Clock task names) = SomeFailed names r.file_faults r.file_faults_after
 -- are answered
 abbrev pub Blamed : Readings → (before after : Option (List ℕ)) → Request → Type 0
 Blamed r before after (Format description) = Blames r (Format description) × Appends before after []
+Blamed r before after (Check description) = Blames r (Check description) × Appends before after []
 Blamed r before after (Simulate task description) = simulators.IsStopped task description r.held (r.file_faults description) (r.file_faults_after description) r.input r.input_after r.input_faults r.input_faults_after before after
 Blamed r before after (Clock task names) = IsStopped task names r.held r.file_faults r.file_faults_after r.input r.input_after r.input_faults r.input_faults_after before after
 

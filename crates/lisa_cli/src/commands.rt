@@ -8,7 +8,7 @@ ghost use Rattle.lisa_cli.specs.Gives.{Gives};
 ghost use Rattle.lisa_cli.specs.Worlds.{readings, IsGiven, Blamed};
 
 use crate::requests::Command;
-use description_commands::{do_with_description, format_file};
+use description_commands::{check_file, do_with_description, format_file};
 use lisa_io::{Files, Flush, Source};
 use lisa_outcomes::End;
 use module_commands::do_with_module;
@@ -29,6 +29,7 @@ pub fn perform<F: Files, I: Source, O: Flush>(
 {
     match command {
         Command::Format { description } => format_file(alloc, description, files, out),
+        Command::Check { description } => check_file(alloc, description, files, out),
         Command::Simulate { description, task } => {
             do_with_description(alloc, description, *task, files, input, out)
         }

@@ -17,6 +17,8 @@ use lisa_words::canonical_decimal;
 pub enum Command<'a> {
     /// `fmt DESC`
     Format { description: &'a str },
+    /// `check DESC`
+    Check { description: &'a str },
     /// `run DESC - - N`, `trace DESC - - N` or `debug DESC - -`
     Simulate { description: &'a str, task: Task },
     /// `clock VFILE IMAGE SCHED N`, `clocktrace VFILE IMAGE SCHED N` or `vdebug VFILE IMAGE SCHED`
@@ -66,6 +68,18 @@ fn format_command(operands: &[String]) -> Option<Command<'_>>
     };
     let description = file_name(description.as_str())?;
     Some(Command::Format { description })
+}
+
+// The operands of `check`.
+fn check_command(operands: &[String]) -> Option<Command<'_>>
+    ensures found { IfSome result (λ c. Asks (codes "check" ∷ map string_bytes operands.now) (request_of c)) }
+    ensures only { (r : Request) → Asks (codes "check" ∷ map string_bytes operands.now) r → option_map request_of result ≡ Some r }
+{
+    let [description] = operands else {
+        return None;
+    };
+    let description = file_name(description.as_str())?;
+    Some(Command::Check { description })
 }
 
 // A word that names a file, or a dash where one is left out.
@@ -202,9 +216,10 @@ fn clock_command<'a>(command: &str, operands: &'a [String]) -> Option<Command<'a
     Some(Command::Clock { names, task })
 }
 
-// The operands of a command other than `fmt`.
+// The operands of a command other than `fmt` and `check`.
 fn task_command<'a>(command: &str, operands: &'a [String]) -> Option<Command<'a>>
-    requires { command.now ≢ codes "fmt" }
+    requires fmt { command.now ≢ codes "fmt" }
+    requires check { command.now ≢ codes "check" }
     ensures found { IfSome result (λ c. Asks (command.now ∷ map string_bytes operands.now) (request_of c)) }
     ensures only { (r : Request) → Asks (command.now ∷ map string_bytes operands.now) r → option_map request_of result ≡ Some r }
 {
@@ -225,6 +240,7 @@ pub fn request(words: &[String]) -> Option<Command<'_>>
     };
     match command.as_str() {
         "fmt" => format_command(operands),
+        "check" => check_command(operands),
         other => task_command(other, operands),
     }
 }

@@ -1,6 +1,7 @@
 use Rattle.lisa_outcomes.specs.Outcomes.{Given, FileMap}
 use Rattle.lisa_outcomes.proofs.Endings.{ends_within}
 use Rattle.description_commands.specs.Descriptions.{AfterDescription, Formats}
+use Rattle.description_commands.specs.Checks.{Checks}
 use Rattle.description_commands.specs.Tasks.{GivesDescription}
 use Rattle.lisa_outcomes.specs.RunViews.{names_of}
 use Rattle.module_commands.specs.Clocks.{GivesClocked}
@@ -9,6 +10,10 @@ use Rattle.lisa_cli.proofs.commands.perform.Goals as goal
 pub returns-in-Format-clause-ends : goal.returns-in-Format-clause-ends
 returns-in-Format-clause-ends g c =
     rw c.in-Format.is (ends_within {T = Unit {0}} {W = FileMap} {V = Given} _ _ (λ files. AfterDescription files c.in-Format.description.now Formats) _ _ (λ given. given.files) _ _ _ _ _ (λ given known. known.files) (λ b. b) c.format_file.ensures)
+
+pub returns-in-Check-clause-ends : goal.returns-in-Check-clause-ends
+returns-in-Check-clause-ends g c =
+    rw c.in-Check.is (ends_within {T = Unit {0}} {W = FileMap} {V = Given} _ _ (λ files. AfterDescription files c.in-Check.description.now Checks) _ _ (λ given. given.files) _ _ _ _ _ (λ given known. known.files) (λ b. b) c.check_file.ensures)
 
 pub returns-in-Simulate-clause-ends : goal.returns-in-Simulate-clause-ends
 returns-in-Simulate-clause-ends g c =

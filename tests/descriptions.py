@@ -1,0 +1,263 @@
+"""Small descriptions with what `check` says of each: the line of its first fault, or how many operations it has.
+
+Each way in which a condition can be broken stands here once, beside descriptions that only look like it."""
+
+ALL = []
+
+
+def refused(name, text, line):
+    ALL.append((name, text, "", f"lisa: description {line}\n"))
+
+
+def accepted(name, text, operations):
+    ALL.append((name, text, f"operations {operations}\n", ""))
+
+
+MAIN = "OPERATION main { }"
+REGS = "RESOURCE { REGISTER uint8 a; REGISTER uint16 b; REGISTER uint8 r[4]; MEMORY uint8 m[16]; PIN uint1 i; CLOCKED REGISTER uint8 c; } "
+PIPE = "RESOURCE { REGISTER uint8 a; PIPELINE p = { A; B; C }; PIPELINE_REGISTER IN p { uint8 f; }; } "
+
+
+def behavior(statements, resources=REGS):
+    return resources + "OPERATION main { BEHAVIOR { " + statements + " } }"
+
+
+def staged(stage, section, declares="", more=""):
+    """A description whose operation x of a stage has a section."""
+    return PIPE + f"{MAIN} OPERATION x IN p.{stage} {{ {declares} {section} }} {more}"
+
+
+# ---------------------------------------------------------------- 6: two things of one class share a name
+
+refused("two registers", "RESOURCE { REGISTER uint8 a; REGISTER uint4 a; } " + MAIN, "6 Duplicate name=a")
+refused("a pin named as a memory", "RESOURCE { MEMORY uint8 a[4]; PIN uint4 a; } " + MAIN, "6 Duplicate name=a")
+refused("a pipeline named as a register", "RESOURCE { REGISTER uint8 p; PIPELINE p = { A }; } " + MAIN, "6 Duplicate name=p")
+refused("two pipelines", "RESOURCE { PIPELINE p = { A }; PIPELINE q = { A }; } " + MAIN, "6 Duplicate name=q")
+refused("fields of boundaries twice", "RESOURCE { PIPELINE p = { A; B }; PIPELINE_REGISTER IN p { uint1 f; }; PIPELINE_REGISTER IN p { uint1 g; }; } " + MAIN, "6 Duplicate name=p")
+refused("two stages", "RESOURCE { PIPELINE p = { A; B; A }; } " + MAIN, "6 Duplicate name=A")
+refused("two fields", "RESOURCE { PIPELINE p = { A; B }; PIPELINE_REGISTER IN p { uint1 f; uint2 f; }; } " + MAIN, "6 Duplicate name=f")
+refused("two operations", "RESOURCE { } " + MAIN + " OPERATION x { } OPERATION x { }", "6 Duplicate name=x")
+refused("an operation named as a register", "RESOURCE { REGISTER uint8 x; } " + MAIN + " OPERATION x { }", "6 Duplicate name=x")
+refused("two behaviours", "RESOURCE { } OPERATION main { BEHAVIOR { } BEHAVIOR { } }", "6 Duplicate name=main")
+refused("two declarations of names", "RESOURCE { } OPERATION main { DECLARE { } } OPERATION x { DECLARE { LABEL a; } DECLARE { LABEL b; } }", "6 Duplicate name=x")
+refused("a label twice", "RESOURCE { } " + MAIN + " OPERATION x { DECLARE { LABEL a, b, a; } }", "6 Duplicate name=a")
+refused("a label named as an instance", "RESOURCE { } OPERATION main { DECLARE { INSTANCE a = x; LABEL a; } } OPERATION x { }", "6 Duplicate name=a")
+refused("two alternatives", "RESOURCE { } OPERATION main { DECLARE { GROUP g = { x || y || x }; } } OPERATION x { } OPERATION y { }", "6 Duplicate name=x")
+refused("a declared name of a register", REGS + MAIN + " OPERATION x { DECLARE { LABEL a; } }", "6 Duplicate name=a")
+refused("a local of a register's name", behavior("uint8 a;"), "6 Duplicate name=a")
+refused("a local of a declared name", "RESOURCE { } OPERATION main { DECLARE { LABEL l; } BEHAVIOR { uint8 l; } }", "6 Duplicate name=l")
+refused("a local twice", behavior("uint8 x; { uint4 x; }"), "6 Duplicate name=x")
+refused("a loop's variable of a local's name", behavior("uint8 x; for (uint8 x = 0; x < 2; x = x + 1) ;"), "6 Duplicate name=x")
+accepted("a local in two blocks", behavior("{ uint8 x; } { uint4 x; } if (a) uint8 x; uint8 x;"), 1)
+accepted("stages and operations share names", "RESOURCE { PIPELINE p = { main; x }; } " + MAIN + " OPERATION x { }", 2)
+
+# ---------------------------------------------------------------- 7: a name stands for nothing
+
+refused("an unknown register", behavior("a = zz;"), "7 Unknown operation=main name=zz")
+refused("an unknown target", behavior("zz = 1;"), "7 Unknown operation=main name=zz")
+refused("an unknown index", behavior("a = r[zz];"), "7 Unknown operation=main name=zz")
+refused("a local behind its block", behavior("{ uint8 x; } x = 1;"), "7 Unknown operation=main name=x")
+refused("a local in its own value", behavior("uint8 x = x;"), "7 Unknown operation=main name=x")
+refused("a loop's variable behind the loop", behavior("for (uint8 x = 0; x < 2; x = x + 1) ; a = x;"), "7 Unknown operation=main name=x")
+refused("a whole body's local", behavior("if (a) uint8 x; x = 1;"), "7 Unknown operation=main name=x")
+refused("an unknown call", behavior("zz();"), "7 Unknown operation=main name=zz")
+refused("an operation that isn't declared", "RESOURCE { } OPERATION main { BEHAVIOR { x(); } } OPERATION x { }", "7 Unknown operation=main name=x")
+refused("an unknown alternative", "RESOURCE { } OPERATION main { DECLARE { GROUP g = { x || zz }; } } OPERATION x { }", "7 Unknown operation=main name=zz")
+refused("an unknown instance", "RESOURCE { } OPERATION main { DECLARE { INSTANCE zz; } }", "7 Unknown operation=main name=zz")
+refused("an unknown pipeline of a stage", "RESOURCE { } " + MAIN + " OPERATION x IN q.A { }", "7 Unknown operation=x name=q")
+refused("an unknown stage", PIPE + MAIN + " OPERATION x IN p.D { }", "7 Unknown operation=x name=D")
+refused("a stage of a register", REGS + MAIN + " OPERATION x IN a.A { }", "7 Unknown operation=x name=A")
+refused("fields of no pipeline", "RESOURCE { PIPELINE_REGISTER IN q { uint8 f; }; } " + MAIN, "7 Unknown operation= name=q")
+refused("an unknown stalled stage", PIPE + "OPERATION main { BEHAVIOR { p.D.stall(); } }", "7 Unknown operation=main name=D")
+refused("an unknown field", staged("B", "BEHAVIOR { a = IN.g; }"), "7 Unknown operation=x name=g")
+refused("an unknown boundary", PIPE + "OPERATION main { BEHAVIOR { a = PIPELINE_REGISTER(p, A/D).f; } }", "7 Unknown operation=main name=D")
+refused("an unknown shifted pipeline", behavior("q.shift();"), "7 Unknown operation=main name=q")
+refused("an unknown item", "RESOURCE { } OPERATION main { ACTIVATION { zz } }", "7 Unknown operation=main name=zz")
+refused("an unknown field of a coding", "RESOURCE { } " + MAIN + " OPERATION x { CODING { zz=0bx } }", "7 Unknown operation=x name=zz")
+refused("an unknown child of a syntax", "RESOURCE { } " + MAIN + " OPERATION x { SYNTAX { zz } }", "7 Unknown operation=x name=zz")
+refused("a root over an unknown register", "RESOURCE { } " + MAIN + " OPERATION x { DECLARE { GROUP g = { y }; } CODING { zz == g } } OPERATION y { CODING { 0b1 } }", "7 Unknown operation=x name=zz")
+refused("a reference that one operation above lacks",
+        "RESOURCE { } OPERATION main { DECLARE { INSTANCE y, z; } } OPERATION y { DECLARE { INSTANCE x; LABEL l; } } OPERATION z { DECLARE { INSTANCE x; } } OPERATION x { DECLARE { REFERENCE l; } }",
+        "7 Unknown operation=x name=l")
+refused("a reference with nothing above", "RESOURCE { } " + MAIN + " OPERATION x { DECLARE { REFERENCE l; } }", "7 Unknown operation=x name=l")
+refused("a reference in main", "RESOURCE { } OPERATION main { DECLARE { REFERENCE l; } } OPERATION x { DECLARE { INSTANCE main; LABEL l; } }", "7 Unknown operation=main name=l")
+refused("a reference of which only an alias has the name",
+        "RESOURCE { } " + MAIN + " ALIAS OPERATION y { DECLARE { INSTANCE x; LABEL l; } CODING { x l=0bx } } OPERATION x { DECLARE { REFERENCE l; } CODING { 0b1 } }",
+        "7 Unknown operation=x name=l")
+
+# ---------------------------------------------------------------- 8: a name is used against its declaration
+
+refused("an array without its index", behavior("a = r;"), "8 WrongKind operation=main name=r")
+refused("a memory assigned without its index", behavior("m = 1;"), "8 WrongKind operation=main name=m")
+refused("an index behind a register", behavior("a = b[0];"), "8 WrongKind operation=main name=b")
+refused("an index behind a local", behavior("uint8 x; x[0] = 1;"), "8 WrongKind operation=main name=x")
+refused("a pin assigned", behavior("i = 1;"), "8 WrongKind operation=main name=i")
+refused("a loop's variable assigned", behavior("for (uint8 x = 0; x < 2; x = x + 1) x = 0;"), "8 WrongKind operation=main name=x")
+refused("a pipeline as a value", PIPE + "OPERATION main { BEHAVIOR { a = p; } }", "8 WrongKind operation=main name=p")
+refused("IN without a stage", PIPE + "OPERATION main { BEHAVIOR { a = IN.f; } }", "8 WrongKind operation=main name=f")
+refused("IN in the first stage", staged("A", "BEHAVIOR { a = IN.f; }"), "8 WrongKind operation=x name=f")
+refused("OUT without a stage", PIPE + "OPERATION main { BEHAVIOR { OUT.f = 1; } }", "8 WrongKind operation=main name=f")
+refused("OUT in the last stage", staged("C", "BEHAVIOR { OUT.f = 1; }"), "8 WrongKind operation=x name=f")
+accepted("IN and OUT in the middle", staged("B", "BEHAVIOR { OUT.f = IN.f; }"), 2)
+refused("a boundary of stages apart", PIPE + "OPERATION main { BEHAVIOR { a = PIPELINE_REGISTER(p, A/C).f; } }", "8 WrongKind operation=main name=f")
+accepted("a boundary of neighbours", PIPE + "OPERATION main { BEHAVIOR { a = PIPELINE_REGISTER(p, B/C).f; } }", 1)
+refused("decoded outside of the root", behavior("a = decoded;"), "8 WrongKind operation=main name=decoded")
+refused("shift of a register", behavior("a.shift();"), "8 WrongKind operation=main name=a")
+refused("fields of a register", "RESOURCE { REGISTER uint8 a; PIPELINE_REGISTER IN a { uint8 f; }; } " + MAIN, "8 WrongKind operation= name=a")
+refused("a call of a register", behavior("a();"), "8 WrongKind operation=main name=a")
+refused("a call of a label", "RESOURCE { } OPERATION main { DECLARE { LABEL l; } BEHAVIOR { l(); } }", "8 WrongKind operation=main name=l")
+refused("an activated register", REGS + "OPERATION main { ACTIVATION { a } }", "8 WrongKind operation=main name=a")
+refused("a label without field", REGS + "OPERATION main { DECLARE { LABEL l; } BEHAVIOR { a = l; } }", "8 WrongKind operation=main name=l")
+refused("a number of a label without field", "RESOURCE { } " + MAIN + " OPERATION x { DECLARE { LABEL l; } SYNTAX { l=#U } }", "8 WrongKind operation=x name=l")
+refused("a field with a digit", "RESOURCE { } " + MAIN + " OPERATION x { DECLARE { LABEL l; } CODING { l=0bx1 } }", "8 WrongKind operation=x name=l")
+refused("a field of an instance", "RESOURCE { } " + MAIN + " OPERATION x { DECLARE { INSTANCE y; } CODING { y=0bx } } OPERATION y { CODING { 0b1 } }", "8 WrongKind operation=x name=y")
+refused("a label as a child of a coding", "RESOURCE { } " + MAIN + " OPERATION x { DECLARE { LABEL l; } CODING { l } }", "8 WrongKind operation=x name=l")
+refused("a register as a child of a syntax", REGS + MAIN + " OPERATION x { SYNTAX { a } }", "8 WrongKind operation=x name=a")
+refused("a label assigned", REGS + MAIN + " OPERATION x { DECLARE { LABEL l; } CODING { l=0bx } SYNTAX { l=#U } BEHAVIOR { l = 1; } }", "8 WrongKind operation=x name=l")
+
+GROUPED = REGS + "OPERATION main { DECLARE { GROUP g = { x || y }; } CODING { g } BEHAVIOR { %s } } "
+refused("a child without expression", GROUPED % "a = g;" + "OPERATION x { CODING { 0b0 } EXPRESSION { a } } OPERATION y { CODING { 0b1 } }", "8 WrongKind operation=main name=g")
+refused("alternatives of two types", GROUPED % "a = g;" + "OPERATION x { CODING { 0b0 } EXPRESSION { a } } OPERATION y { CODING { 0b1 } EXPRESSION { b } }", "8 WrongKind operation=main name=g")
+refused("an alternative that can't be assigned", GROUPED % "g = 1;" + "OPERATION x { CODING { 0b0 } EXPRESSION { a } } OPERATION y { CODING { 0b1 } EXPRESSION { a + c } }", "8 WrongKind operation=main name=g")
+refused("a group outside of the coding that is read",
+        REGS + "OPERATION main { DECLARE { GROUP g = { x || y }; } BEHAVIOR { a = g; } } OPERATION x { EXPRESSION { a } } OPERATION y { EXPRESSION { c } }", "8 WrongKind operation=main name=g")
+refused("a group outside of the coding that is called", "RESOURCE { } OPERATION main { DECLARE { GROUP g = { x || y }; } BEHAVIOR { g(); } } OPERATION x { } OPERATION y { }", "8 WrongKind operation=main name=g")
+refused("a group outside of the coding that is activated", "RESOURCE { } OPERATION main { DECLARE { GROUP g = { x || y }; } ACTIVATION { g } } OPERATION x { } OPERATION y { }", "8 WrongKind operation=main name=g")
+accepted("a group of one", "RESOURCE { } OPERATION main { DECLARE { GROUP g = { x }; } ACTIVATION { g } } OPERATION x { }", 2)
+refused("a call into a stage", PIPE + "OPERATION main { DECLARE { INSTANCE x; } BEHAVIOR { x(); } } OPERATION x IN p.A { }", "8 WrongKind operation=main name=x")
+refused("a staged operand", PIPE + MAIN + " OPERATION x { DECLARE { INSTANCE y; } CODING { y } } OPERATION y IN p.B { CODING { 0b1 } }", "8 WrongKind operation=x name=y")
+refused("a coded operation outside of the coding", "RESOURCE { } OPERATION main { DECLARE { INSTANCE x; } } OPERATION x { CODING { 0b1 } }", "8 WrongKind operation=main name=x")
+
+ROOT = "RESOURCE { REGISTER uint4 ir; REGISTER uint4 t; } OPERATION main { DECLARE { INSTANCE d; } ACTIVATION { d } } OPERATION d { DECLARE { GROUP g = { x || y }; } CODING { %s } %s } OPERATION x { CODING { 0b0000 } } OPERATION y { CODING { 0b1111 } }"
+accepted("decoded in the root", ROOT % ("ir == g", "BEHAVIOR { t = decoded; } ACTIVATION { if (decoded) { g } }"), 4)
+refused("decoded in the root's expression", ROOT % ("ir == g", "EXPRESSION { decoded }"), "8 WrongKind operation=d name=decoded")
+refused("the root's group called", ROOT % ("ir == g", "BEHAVIOR { g(); }"), "8 WrongKind operation=d name=g")
+refused("the root's group in a syntax", ROOT % ("ir == g", "SYNTAX { g }"), "8 WrongKind operation=d name=g")
+refused("a root over a register array", "RESOURCE { REGISTER uint4 ir[2]; } " + MAIN + " OPERATION d { DECLARE { GROUP g = { x }; } CODING { ir == g } } OPERATION x { CODING { 0b0000 } }", "8 WrongKind operation=d name=ir")
+refused("a root of an instance", "RESOURCE { REGISTER uint4 ir; } " + MAIN + " OPERATION d { DECLARE { INSTANCE x; } CODING { ir == x } } OPERATION x { CODING { 0b0000 } }", "8 WrongKind operation=d name=x")
+refused("a root over IN without a stage", PIPE + MAIN + " OPERATION d { DECLARE { GROUP g = { x }; } CODING { IN.f == g } } OPERATION x { CODING { 0b00000000 } }", "8 WrongKind operation=d name=f")
+refused("a root that is called", "RESOURCE { REGISTER uint4 ir; } OPERATION main { DECLARE { INSTANCE d; } BEHAVIOR { d(); } } OPERATION d { DECLARE { GROUP g = { x }; } CODING { ir == g } } OPERATION x { CODING { 0b0000 } }", "8 WrongKind operation=main name=d")
+
+ABOVE = REGS + "OPERATION main { DECLARE { INSTANCE y, z; } ACTIVATION { y, z } } OPERATION y { DECLARE { INSTANCE x; %s } ACTIVATION { x } } OPERATION z { DECLARE { INSTANCE x; %s } ACTIVATION { x } } OPERATION x { DECLARE { REFERENCE n; } %s } OPERATION u { EXPRESSION { a } } OPERATION v { EXPRESSION { c } } OPERATION w { EXPRESSION { b } } OPERATION k { EXPRESSION { a + c } } "
+accepted("a reference to children of one type", ABOVE % ("INSTANCE n = u;", "INSTANCE n = v;", "BEHAVIOR { a = n; }"), 8)
+refused("a reference of two types", ABOVE % ("INSTANCE n = u;", "INSTANCE n = w;", ""), "8 WrongKind operation=x name=n")
+refused("a reference to a label or a child", ABOVE % ("INSTANCE n = u;", "LABEL n;", ""), "8 WrongKind operation=x name=n")
+refused("a reference of which one can be assigned", ABOVE % ("INSTANCE n = u;", "INSTANCE n = k;", ""), "8 WrongKind operation=x name=n")
+refused("a reference that is activated", ABOVE % ("INSTANCE n = u;", "INSTANCE n = v;", "ACTIVATION { n }"), "8 WrongKind operation=x name=n")
+
+ALIASED = "RESOURCE { REGISTER uint4 ir; PIPELINE p = { A; B }; } OPERATION main { } OPERATION d { DECLARE { GROUP g = { x || y }; } CODING { ir == g } } OPERATION x { CODING { 0b0000 } SYNTAX { \"X\" } } "
+accepted("an alias", ALIASED + "ALIAS OPERATION y { CODING { 0b0000 } SYNTAX { \"Y\" } }", 4)
+refused("an alias of a stage", ALIASED + "ALIAS OPERATION y IN p.B { CODING { 0b0000 } }", "8 WrongKind operation=y name=y")
+refused("an alias with a behaviour", ALIASED + "ALIAS OPERATION y { CODING { 0b0000 } BEHAVIOR { } }", "8 WrongKind operation=y name=y")
+refused("an alias without a coding", ALIASED + "ALIAS OPERATION y { SYNTAX { \"Y\" } }", "8 WrongKind operation=y name=y")
+refused("main as an alias", "RESOURCE { } ALIAS OPERATION main { CODING { 0b1 } }", "8 WrongKind operation=main name=main")
+refused("an instance of an alias", "RESOURCE { } " + MAIN + " OPERATION x { DECLARE { INSTANCE y; } CODING { y } } ALIAS OPERATION y { CODING { 0b1 } }", "8 WrongKind operation=x name=y")
+refused("a group of aliases alone", "RESOURCE { } " + MAIN + " OPERATION x { DECLARE { GROUP g = { y || z }; } CODING { g } } ALIAS OPERATION y { CODING { 0b1 } } ALIAS OPERATION z { CODING { 0b0 } }", "8 WrongKind operation=x name=g")
+
+refused("an alias with an expression", ALIASED + "ALIAS OPERATION y { CODING { 0b0000 } EXPRESSION { ir } }", "8 WrongKind operation=y name=y")
+refused("an alias with an activation", ALIASED + "ALIAS OPERATION y { CODING { 0b0000 } ACTIVATION { } }", "8 WrongKind operation=y name=y")
+refused("an alias with a root", ALIASED + "ALIAS OPERATION y { DECLARE { GROUP h = { x }; } CODING { ir == h } }", "8 WrongKind operation=y name=y")
+refused("an alias with a reference", ALIASED + "ALIAS OPERATION y { DECLARE { REFERENCE g; } CODING { 0b0000 } }", "8 WrongKind operation=y name=y")
+accepted("a group of one operation and an alias", REGS + MAIN + " OPERATION w { DECLARE { GROUP g = { x || y }; } CODING { g } BEHAVIOR { a = g; } } OPERATION x { CODING { 0b0 } EXPRESSION { a } } ALIAS OPERATION y { CODING { 0b0 } }", 4)
+refused("the root's group called through a reference",
+        "RESOURCE { REGISTER uint4 ir; } OPERATION main { } OPERATION d { DECLARE { GROUP g = { x }; } CODING { ir == g } } OPERATION x { DECLARE { REFERENCE g; } CODING { 0b0000 } BEHAVIOR { g(); } }",
+        "8 WrongKind operation=x name=g")
+refused("execute of a register", behavior("a.execute();"), "8 WrongKind operation=main name=a")
+refused("a boundary of a register", PIPE + "OPERATION main { BEHAVIOR { a = PIPELINE_REGISTER(a, A/B).f; } }", "7 Unknown operation=main name=A")
+refused("a call into a stage through a reference",
+        "RESOURCE { PIPELINE p = { A; B }; } OPERATION main { DECLARE { INSTANCE x, n = y; } ACTIVATION { x } } OPERATION x { DECLARE { REFERENCE n; } BEHAVIOR { n(); } } OPERATION y IN p.A { }",
+        "8 WrongKind operation=x name=n")
+
+# ---------------------------------------------------------------- 9, 10: widths and depths
+
+refused("a register of 65 bits", "RESOURCE { REGISTER uint65 n; } " + MAIN, "9 BadWidth name=n width=65")
+refused("a local of 99 bits", behavior("int99 x;"), "9 BadWidth name=x width=99")
+refused("a cast to 70 bits", behavior("a = (uint8)(uint70)b;"), "9 BadWidth name= width=70")
+refused("a field of 65 bits", "RESOURCE { } " + MAIN + " OPERATION x { DECLARE { LABEL l; } CODING { l=0bx[65] } }", "9 BadWidth name=l width=65")
+refused("a loop's variable that is too narrow", behavior("for (uint4 x = 0; x < 17; x = x + 1) ;"), "9 BadWidth name=x width=4")
+refused("a signed loop's variable that is too narrow", behavior("for (int8 x = 0; x < 129; x = x + 1) ;"), "9 BadWidth name=x width=8")
+accepted("a signed loop's variable that just fits", behavior("for (int8 x = 0; x < 128; x = x + 1) ;"), 1)
+accepted("a loop's variable that just fits", behavior("for (uint4 x = 0; x < 16; x = x + 1) ;"), 1)
+accepted("a loop without turns", behavior("for (uint1 x = 9; x < 9; x = x + 1) ;"), 1)
+refused("three registers", "RESOURCE { REGISTER uint8 r[3]; } " + MAIN, "10 BadDepth name=r depth=3")
+refused("a memory of one cell", "RESOURCE { MEMORY uint8 m[1]; } " + MAIN, "10 BadDepth name=m depth=1")
+refused("a memory that is too deep", "RESOURCE { MEMORY uint8 m[2097152]; } " + MAIN, "10 BadDepth name=m depth=2097152")
+accepted("the deepest memory", "RESOURCE { MEMORY uint8 m[1048576]; } " + MAIN, 1)
+
+# ---------------------------------------------------------------- 11: a value wider than its place
+
+refused("a wide value", behavior("a = b;"), "11 Narrowing operation=main from=16 to=8")
+refused("a wide sum", behavior("a = a + b;"), "11 Narrowing operation=main from=16 to=8")
+refused("a wide literal", behavior("a = 256;"), "11 Narrowing operation=main from=9 to=8")
+refused("a wide first value", behavior("uint4 x = a;"), "11 Narrowing operation=main from=8 to=4")
+refused("a literal that wants a sign bit", behavior("int8 x = 128;"), "11 Narrowing operation=main from=9 to=8")
+refused("a literal beside a signed word", behavior("int8 x; int8 y; y = x + 128;"), "11 Narrowing operation=main from=9 to=8")
+refused("a literal that would need 65 bits in the signed kind", behavior("int8 x = 0xffffffffffffffff;"), "11 Narrowing operation=main from=64 to=8")
+accepted("a literal that fits", behavior("int8 x = 127; a = 255; a = (uint8)b; b = a; a = b == a; a = 300 < b;"), 1)
+accepted("a literal shifted", behavior("a = 1 << b;"), 1)
+refused("a wide field", staged("B", "BEHAVIOR { OUT.f = IN.f * 512; }"), "11 Narrowing operation=x from=10 to=8")
+refused("a wide value of a child", REGS + "OPERATION main { DECLARE { INSTANCE x; } BEHAVIOR { a = x; } } OPERATION x { EXPRESSION { b } }", "11 Narrowing operation=main from=16 to=8")
+refused("a wide value for a child", REGS + "OPERATION main { DECLARE { INSTANCE x; } BEHAVIOR { x = b; } } OPERATION x { EXPRESSION { r[0] } }", "11 Narrowing operation=main from=16 to=8")
+
+# ---------------------------------------------------------------- 12, 13: loops
+
+refused("a while", behavior("while (a) ;"), "12 LoopWithoutBound operation=main")
+refused("a loop without a type", behavior("for (a = 0; a < 2; a = a + 1) ;"), "12 LoopWithoutBound operation=main")
+refused("a loop to a register", behavior("for (uint8 x = 0; x < a; x = x + 1) ;"), "12 LoopWithoutBound operation=main")
+refused("a loop up to and with its limit", behavior("for (uint8 x = 0; x <= 2; x = x + 1) ;"), "12 LoopWithoutBound operation=main")
+refused("a loop that steps another register", behavior("for (uint8 x = 0; x < 2; a = x + 1) ;"), "12 LoopWithoutBound operation=main")
+refused("a loop with a step of 0", behavior("for (uint8 x = 0; x < 2; x = x + 0) ;"), "12 LoopWithoutBound operation=main")
+refused("a loop of 257 turns", behavior("for (uint16 x = 0; x < 257; x = x + 1) ;"), "13 LoopTooLong operation=main turns=257")
+refused("a loop of 257 turns by threes", behavior("for (uint16 x = 0; x < 769; x = x + 3) ;"), "13 LoopTooLong operation=main turns=257")
+refused("the longest loop", behavior("for (uint64 x = 0; x < 0xffffffffffffffff; x = x + 1) ;"), "13 LoopTooLong operation=main turns=18446744073709551615")
+accepted("a loop of 256 turns", behavior("for (uint16 x = 0; x < 256; x = x + 1) ; for (uint16 x = 1; x < 0x300; x = x + 0b11) ;"), 1)
+
+# ---------------------------------------------------------------- 14, 15: operations that reach themselves, and stages
+
+refused("an operation in itself", "RESOURCE { } " + MAIN + " OPERATION x { DECLARE { INSTANCE x; } }", "14 Circular operation=x")
+refused("two operations in each other", "RESOURCE { } OPERATION main { DECLARE { INSTANCE a; } ACTIVATION { a } } OPERATION a { DECLARE { INSTANCE main; } }", "14 Circular operation=main")
+refused("a circle through a reference",
+        "RESOURCE { } " + MAIN + " OPERATION x { DECLARE { INSTANCE y; INSTANCE n = z; } } OPERATION y { DECLARE { REFERENCE n; } } OPERATION z { DECLARE { INSTANCE y; INSTANCE n = k; } } OPERATION k { }",
+        "14 Circular operation=y")
+refused("an earlier stage", PIPE + "OPERATION main { DECLARE { INSTANCE y; } ACTIVATION { y } } OPERATION y IN p.B { DECLARE { INSTANCE x; } ACTIVATION { x } } OPERATION x IN p.A { }", "15 Backward activator=y activated=x")
+refused("an earlier stage through an operation without a stage",
+        PIPE + "OPERATION main { DECLARE { INSTANCE z, y; } ACTIVATION { z, y } } OPERATION z { DECLARE { INSTANCE x; } ACTIVATION { if (a) { x } } } OPERATION y IN p.C { DECLARE { INSTANCE z; } ACTIVATION { z } } OPERATION x IN p.A { }",
+        "15 Backward activator=z activated=x")
+accepted("an earlier stage that isn't activated", PIPE + MAIN + " OPERATION y IN p.B { DECLARE { INSTANCE x; } ACTIVATION { x } } OPERATION x IN p.A { }", 3)
+accepted("the own stage", PIPE + "OPERATION main { DECLARE { INSTANCE y; } ACTIVATION { y } } OPERATION y IN p.A { DECLARE { INSTANCE x; } ACTIVATION { x } } OPERATION x IN p.A { }", 3)
+
+# ---------------------------------------------------------------- 16, 17, 18: stalls, main and reset
+
+refused("a stall of the own stage", staged("B", "BEHAVIOR { p.B.stall(); }"), "16 Control operation=x stage=B")
+refused("a flush of a later stage", staged("B", "BEHAVIOR { p.C.flush(); }"), "16 Control operation=x stage=C")
+refused("a stall without a stage", PIPE + MAIN + " OPERATION x { BEHAVIOR { p.A.stall(); } }", "16 Control operation=x stage=A")
+accepted("stalls of earlier stages", PIPE + "OPERATION main { BEHAVIOR { p.C.stall(); } } OPERATION x IN p.C { BEHAVIOR { p.A.stall(); p.B.flush(); } }", 2)
+refused("no main", "RESOURCE { } OPERATION x { }", "17 BadMain")
+refused("main in a stage", PIPE + "OPERATION main IN p.A { }", "17 BadMain")
+refused("main with a coding", "RESOURCE { } OPERATION main { CODING { 0b1 } }", "17 BadMain")
+refused("execute outside of main", PIPE + MAIN + " OPERATION x { BEHAVIOR { p.execute(); } }", "17 BadMain")
+refused("execute in a block", PIPE + "OPERATION main { BEHAVIOR { { p.execute(); } } }", "17 BadMain")
+refused("a statement behind shift", PIPE + "OPERATION main { BEHAVIOR { p.shift(); a = 1; } }", "17 BadMain")
+refused("an empty statement behind shift", PIPE + "OPERATION main { BEHAVIOR { p.shift(); ; } }", "17 BadMain")
+accepted("execute and shift", PIPE + "OPERATION main { BEHAVIOR { a = 1; p.execute(); p.shift(); } }", 1)
+refused("a later stage than the first from none", PIPE + "OPERATION main { DECLARE { INSTANCE x; } ACTIVATION { x } } OPERATION x IN p.B { }", "17 BadMain")
+refused("reset in a stage", PIPE + MAIN + " OPERATION reset IN p.B { }", "18 BadReset")
+refused("reset with declarations", "RESOURCE { } " + MAIN + " OPERATION reset { DECLARE { } }", "18 BadReset")
+refused("reset that reads a pin", REGS + MAIN + " OPERATION reset { BEHAVIOR { a = i; } }", "18 BadReset")
+refused("reset that writes an array", REGS + MAIN + " OPERATION reset { BEHAVIOR { r[0] = 1; } }", "18 BadReset")
+refused("reset that reads a boundary", PIPE + MAIN + " OPERATION reset { BEHAVIOR { a = PIPELINE_REGISTER(p, A/B).f; } }", "18 BadReset")
+accepted("reset of registers and locals", REGS + MAIN + " OPERATION reset { BEHAVIOR { uint8 x = 3; for (uint8 k = 0; k < 4; k = k + 1) { x = (uint8)(x + k); } a = x; c = a; } }", 2)
+
+refused("an earlier stage through operations without one",
+        PIPE + "OPERATION main { DECLARE { INSTANCE x; } ACTIVATION { x } } OPERATION x IN p.A { DECLARE { INSTANCE u, c; } ACTIVATION { u, c } } OPERATION c IN p.C { DECLARE { INSTANCE u; } ACTIVATION { u } } OPERATION u { DECLARE { INSTANCE b; } ACTIVATION { b } } OPERATION b IN p.B { BEHAVIOR { a = 1; } }",
+        "15 Backward activator=u activated=b")
+refused("a stall in what isn't activated", PIPE + MAIN + " OPERATION b IN p.B { BEHAVIOR { p.B.stall(); } }", "16 Control operation=b stage=B")
+refused("a later stage from none through an operation without one",
+        PIPE + "OPERATION main { DECLARE { INSTANCE u; } ACTIVATION { u } } OPERATION u { DECLARE { INSTANCE x; } ACTIVATION { x } } OPERATION x IN p.B { }", "17 BadMain")
+
+# ---------------------------------------------------------------- the order of faults
+
+refused("the lower number first", behavior("a = b; zz = 1;"), "7 Unknown operation=main name=zz")
+refused("the earlier place first", behavior("a = yy; a = zz;"), "7 Unknown operation=main name=yy")
+refused("resources before operations", "RESOURCE { PIPELINE_REGISTER IN q { uint8 f; }; } OPERATION main { BEHAVIOR { zz(); } }", "7 Unknown operation= name=q")
+refused("sections as they stand", REGS + "OPERATION main { ACTIVATION { yy } BEHAVIOR { zz(); } }", "7 Unknown operation=main name=yy")
