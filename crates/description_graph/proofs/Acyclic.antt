@@ -9,11 +9,11 @@ use Rattle.graph_paths.specs.Paths.{is_in, IsAcyclic}
 use Rattle.lisa_tree.specs.Descriptions.{DescriptionTree}
 use Rattle.description_names.specs.Operations.{numbers_of, is_alias}
 use Rattle.description_names.specs.Declarations.{Entry, Choice, entries, choices, listings, above_in, above, owner_at, declared_at}
-use Rattle.description_names.specs.Paths.{Node, Operation, Choosing, Declaring, node_at, leads}
+use Rattle.description_names.specs.Paths.{Node, Operation, Choosing, Declaring, refers, node_at, leads}
 use Rattle.description_graph.specs.Graph.{IsGraph, is_at}
 use Rattle.description_graph.specs.Circles.{Reaches, edge, more, IsFirstCircularOperation}
 use Rattle.description_graph.proofs.Hits.{found, at_is}
-use Rattle.description_graph.proofs.Meant.{next_of, refers}
+use Rattle.description_graph.proofs.Meant.{next_of}
 use Rattle.description_graph.proofs.Steps.{to_nodes}
 
 -- ---- the operations above one lead to it
@@ -162,7 +162,7 @@ module _ (d : DescriptionTree) (none : (o : ℕ) → Reaches d (Operation o) (Op
       let same : j ≡ i = cc is in
       none (owner_at d i) (subst (λ (k : ℕ). Reaches d (Operation (owner_at d k)) (Operation (owner_at d i))) same s)
 
-  no_circle : (x : Node) → Reaches d x x → ⊥
+  pub no_circle : (x : Node) → Reaches d x x → ⊥
   no_circle (Operation o) r = none o r
   no_circle (Choosing c) r = no_choice c (Choosing c) refl (after c (Choosing c) r)
   no_circle (Declaring i) r = no_entry i (Declaring i) refl (from i (Declaring i) r)

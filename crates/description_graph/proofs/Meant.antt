@@ -12,13 +12,9 @@ use Rattle.description_names.specs.Same.{same_name}
 use Rattle.description_names.specs.declared.declared.What.{What}
 use Rattle.description_names.specs.declared.declared.What.TheVariants as whats
 use Rattle.description_names.specs.Declarations.{Entry, entries, owner_at, entry_name_at, declared_at, above}
-use Rattle.description_names.specs.Paths.{Declaring, leads}
+use Rattle.description_names.specs.Paths.{Declaring, refers, leads}
 use Rattle.description_graph.specs.Graph.{is_at, is_first, hits, hit_named, means, is_reference_at, shifted, first_entry, to_meanings_of}
 use Rattle.description_graph.proofs.Hits.{found, at_is, is_at-Some, first_named, declared_below, of_name}
-
-abbrev pub refers : What → Bool
-refers whats.Reference = true
-refers _ = false
 
 abbrev pub next_of : DescriptionTree → Option Entry → ℕ → Bool
 next_of d None j = false

@@ -13,7 +13,7 @@ use Rattle.description_names.specs.declared.declared.What.{What}
 use Rattle.description_names.specs.declared.declared.What.TheVariants as whats
 use Rattle.description_names.specs.Operations.{declares_in}
 use Rattle.description_names.specs.Declarations.{Choice, Entry, entry, choice, instances, choices, entries, choices_of, choices_in, choices_from, entries_of, entries_in, entries_from, what_at, owner_at}
-use Rattle.description_names.specs.Paths.{Operation, Choosing, Declaring, leads}
+use Rattle.description_names.specs.Paths.{Operation, Choosing, Declaring, refers, chooses, leads}
 use Rattle.description_graph.specs.Graph.{owners, ranged, to_choices, to_chosen_by, first_choice}
 
 pub eq_swap : (a b : ℕ) → nat_eq a b ≡ nat_eq b a
@@ -192,10 +192,6 @@ module _ (d : DescriptionTree) (i k b : ℕ) where
   pub instance_chooses : what_at d i ≡ Some (whats.Instance k) → to_chosen_by d i b ≡ nat_eq b (first_choice d + k)
   instance_chooses w = let g = instance_at (slice_get (entries d) i) refl w in ranged_one (first_choice d) (length (choices d)) k b (λ c. leads d (Declaring i) (Choosing c)) g.0 g.1
 
-abbrev refers : What → Bool
-refers whats.Reference = true
-refers _ = false
-
 abbrev refers_from : ℕ → Option Entry → Bool
 refers_from a None = false
 refers_from a (Some e) = nat_eq e.operation a && refers e.what
@@ -225,16 +221,11 @@ each_reference d a i h = by (slice_get (entries d) i) refl
         at x e n
 
 -- what a declared name chooses among is a choice
-abbrev picks : What → ℕ → Bool
-picks (whats.Group k) c = nat_eq k c
-picks (whats.Instance k) c = nat_eq k c
-picks _ c = false
-
 abbrev picked_by : Option Entry → ℕ → Bool
 picked_by None c = false
-picked_by (Some e) c = picks e.what c
+picked_by (Some e) c = chooses e.what c
 
-picked_within : (n c : ℕ) (w : What) → is_within n w ≡ true → picks w c ≡ true → c < n
+picked_within : (n c : ℕ) (w : What) → is_within n w ≡ true → chooses w c ≡ true → c < n
 picked_within n c (whats.Group k) w t = subst (λ (x : ℕ). x < n) (eqb-true k c t) (ltb-true k n w)
 picked_within n c (whats.Instance k) w t = subst (λ (x : ℕ). x < n) (eqb-true k c t) (ltb-true k n w)
 picked_within n c whats.Label w t = absurd (cc t)

@@ -1,12 +1,10 @@
 -- The graph of nodes, and what its edges are made of.
-use Rattle.std.specs.Prelude.{ℕ, ◌+◌, ◌-◌, ◌<◌, ◌≡◌, Bool, true, false, not, ◌&&◌, nat_eq, nat_lt, List, length, map, Option, None, Some}
+use Rattle.std.specs.Prelude.{ℕ, ◌+◌, ◌-◌, ◌<◌, ◌≡◌, Bool, false, not, ◌&&◌, nat_eq, nat_lt, List, length, map, Option, None, Some}
 use Rattle.std.specs.List.{list_any}
 use Rattle.std.specs.Global.{Vec}
 use Rattle.lisa_tree.specs.Descriptions.{DescriptionTree}
 use Rattle.graph_paths.specs.Paths.{targets, is_in, AreNodes}
-use Rattle.description_names.specs.declared.declared.What.{What}
-use Rattle.description_names.specs.declared.declared.What.TheVariants as whats
-use Rattle.description_names.specs.Declarations.{Choice, choices, entries, what_at, owner_at, entry_name_at, declared_at, alternatives_at, above}
+use Rattle.description_names.specs.Declarations.{Choice, choices, entries, what_at, is_reference, owner_at, entry_name_at, declared_at, alternatives_at, above}
 use Rattle.description_names.specs.Paths.{Operation, Choosing, Declaring, node_at, node_count, leads}
 
 -- next has the edges between all nodes, by their numbers
@@ -55,10 +53,6 @@ abbrev pub to_meanings : DescriptionTree → ℕ → ℕ → ℕ → Bool
 to_meanings d k a b = ranged (first_entry d) k (λ i. to_meanings_of d i b) a
 
 -- ---- declared names by their numbers
-
-abbrev pub is_reference : Option What → Bool
-is_reference (Some whats.Reference) = true
-is_reference _ = false
 
 abbrev pub is_reference_at : DescriptionTree → ℕ → Bool
 is_reference_at d i = is_reference (what_at d i)

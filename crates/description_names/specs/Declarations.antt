@@ -76,6 +76,10 @@ what_of (Some e) = Some e.what
 abbrev pub what_at : DescriptionTree → ℕ → Option What
 what_at d i = what_of (slice_get (entries d) i)
 
+abbrev pub is_reference : Option What → Bool
+is_reference (Some whats.Reference) = true
+is_reference _ = false
+
 -- the operations that a choice has, by their numbers, and those of them that are no aliases
 abbrev numbers_in_choice : DescriptionTree → Option Choice → List ℕ
 numbers_in_choice d None = []

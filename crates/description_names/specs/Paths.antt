@@ -32,15 +32,15 @@ abbrev owns_choice : ℕ → Option Choice → Bool
 owns_choice o None = false
 owns_choice o (Some c) = nat_eq c.operation o
 
-abbrev is_reference : What → Bool
-is_reference whats.Reference = true
-is_reference _ = false
+abbrev pub refers : What → Bool
+refers whats.Reference = true
+refers _ = false
 
 abbrev owns_reference : ℕ → Option Entry → Bool
 owns_reference o None = false
-owns_reference o (Some e) = nat_eq e.operation o && is_reference e.what
+owns_reference o (Some e) = nat_eq e.operation o && refers e.what
 
-abbrev chooses : What → ℕ → Bool
+abbrev pub chooses : What → ℕ → Bool
 chooses (whats.Group k) c = nat_eq k c
 chooses (whats.Instance k) c = nat_eq k c
 chooses _ c = false
@@ -56,7 +56,7 @@ is_entry (Some i) j = nat_eq i j
 -- the reference may mean the declared name by an operation above its own
 abbrev means_next : DescriptionTree → Option Entry → ℕ → Bool
 means_next d None j = false
-means_next d (Some e) j = is_reference e.what && list_any (λ p. is_entry (declared_at d p e.name) j) (above d e.operation)
+means_next d (Some e) j = refers e.what && list_any (λ p. is_entry (declared_at d p e.name) j) (above d e.operation)
 
 -- An operation leads to its groups and instances and to its references, these to their alternatives, a declared group or instance to
 -- what it chooses among, and a reference to what each operation above declares or references by its name.

@@ -1,5 +1,6 @@
 -- The resources of a description by their names: registers, memories, pins, the pipeline's stages and the fields of its boundaries.
 use Rattle.std.specs.Prelude.{ℕ, Bool, true, false, List, [], ◌∷◌, Option, None, Some, cond, position, slice_get}
+use Rattle.std.specs.Option.{option_map_or}
 use Rattle.lisa_tree.specs.declared.tokens.Shape.{Shape}
 use Rattle.lisa_tree.specs.Descriptions as trees
 use Rattle.lisa_tree.specs.Descriptions.{ResourceTree, DescriptionTree}
@@ -48,14 +49,18 @@ shape_in n (field ∷ rest) = cond (same_name n field.1) (Some field.0) (shape_i
 abbrev pub field_shape : DescriptionTree → List ℕ → Option Shape
 field_shape d n = shape_in n (fields d)
 
-abbrev is_pipe : Option ResourceTree → Bool
-is_pipe (Some (trees.Pipeline name stages)) = true
+abbrev pub is_pipe : ResourceTree → Bool
+is_pipe (trees.Pipeline name stages) = true
 is_pipe _ = false
 
-abbrev resource_is_pipe : List ResourceTree → Option ℕ → Bool
-resource_is_pipe all None = false
-resource_is_pipe all (Some k) = is_pipe (slice_get all k)
+-- the resource of a number is a pipeline
+abbrev pub is_pipe_at : DescriptionTree → ℕ → Bool
+is_pipe_at d k = option_map_or is_pipe (slice_get d.resources k) false
+
+abbrev number_is_pipe : DescriptionTree → Option ℕ → Bool
+number_is_pipe d None = false
+number_is_pipe d (Some k) = is_pipe_at d k
 
 -- the name is that of a pipeline
 abbrev pub is_pipeline : DescriptionTree → List ℕ → Bool
-is_pipeline d n = resource_is_pipe d.resources (resource_at d n)
+is_pipeline d n = number_is_pipe d (resource_at d n)

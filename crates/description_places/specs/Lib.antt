@@ -1,3 +1,4 @@
+pub mod Literals
 pub mod Scopes
 pub mod Places
 pub mod Doubles

@@ -1,11 +1,8 @@
 -- The locals that are in scope.
-use Rattle.std.specs.Prelude.{ℕ, Bool, List, [], ◌∷◌, ◌++◌, Option, None, Some, cond, nat_eq}
+use Rattle.std.specs.Prelude.{ℕ, List, [], ◌∷◌, ◌++◌, Option, None, Some, cond}
 use Rattle.std.specs.Option.{is_some}
-use Rattle.std.specs.Cmp.Lexicographic.{pointwise}
+use Rattle.description_names.specs.Same.{same_name}
 use Rattle.description_places.specs.declared.scopes.Local.{Local}
-
-abbrev pub same_name : List ℕ → List ℕ → Bool
-same_name = pointwise nat_eq
 
 -- the locals in scope by their names, the first one that was declared first
 abbrev pub Scope : Type 0

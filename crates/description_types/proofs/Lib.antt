@@ -1,3 +1,4 @@
 pub mod ByNumber
 pub mod Merging
+pub mod Associating
 pub mod EachCoding

@@ -1,5 +1,7 @@
 -- Facts about operations, choices and declared names that rest on each other.
-use Rattle.std.specs.Prelude.{ℕ, ◌≡◌, List, [], ◌∷◌, Option, None, Some, option_map}
+use Rattle.std.specs.Prelude.{ℕ, Bool, ◌≡◌, List, [], ◌∷◌, Option, None, Some, option_map}
+use Rattle.std.specs.Option.{is_none}
+use Rattle.std.specs.List.{list_any}
 use Rattle.lisa_tree.specs.Descriptions.{DescriptionTree}
 use Rattle.description_names.specs.declared.declared.What.{What}
 use Rattle.description_names.specs.declared.declared.What.TheVariants as whats
@@ -31,6 +33,21 @@ merged_from f value so_far (a ∷ rest) = merged_from f value (together f so_far
 abbrev pub merged : {T : Type 0} → (T → T → T) → (ℕ → Option T) → List ℕ → Option T
 merged f value [] = None
 merged f value (a ∷ rest) = merged_from f value (value a) rest
+
+-- what one value makes of what others make; where it isn't known, nothing else
+abbrev pub added : {T : Type 0} → (T → T → T) → Option T → Option T → Option T
+added f None others = others
+added f (Some x) None = Some x
+added f (Some x) (Some y) = Some (f x y)
+
+-- what those values of a list that are known make together
+abbrev pub known_together : {T : Type 0} → (T → T → T) → (ℕ → Option T) → List ℕ → Option T
+known_together f value [] = None
+known_together f value (a ∷ rest) = added f (value a) (known_together f value rest)
+
+-- some value of a list isn't known
+abbrev pub any_open : {T : Type 0} → (ℕ → Option T) → List ℕ → Bool
+any_open value all = list_any (λ a. is_none (value a)) all
 
 abbrev pub at_entry : {T : Type 0} → DescriptionTree → (ℕ → Option T) → Option ℕ → Option T
 at_entry d known None = None

@@ -23,7 +23,7 @@ use Rattle.description_types.specs.Types.{Types, type_of, meant_element}
 use Rattle.coded_names.specs.Codings.{is_coding}
 use Rattle.description_types.specs.declared.values.CodedName.{CodedName}
 use Rattle.description_types.specs.Codings.{coding_at}
-use Rattle.description_types.specs.Facts.{Fact, merged}
+use Rattle.description_types.specs.Facts.{Fact, known_together, any_open}
 
 -- ---- types
 
@@ -41,6 +41,13 @@ abbrev pub both_types : TypeOf → TypeOf → TypeOf
 both_types (types.Typed s) (types.Typed t) = cond (same_shape s t) (types.Typed s) types.NoType
 both_types _ _ = types.NoType
 
+-- The type of a choice, by whether some alternative is open and by what the others make together: these already decide where they have no
+-- type together.
+abbrev pub choice_type : Bool → Option TypeOf → Option TypeOf
+choice_type some_open (Some types.NoType) = Some types.NoType
+choice_type true _ = None
+choice_type false others = others
+
 -- some declaration that is meant has no type
 abbrev pub lacks_type : TypeOf → Bool
 lacks_type types.NoType = true
@@ -56,7 +63,7 @@ either_type x y = types.Mixed (lacks_type x || lacks_type y)
 abbrev pub type_fact : DescriptionTree → Fact TypeOf
 type_fact d = record {
   of_operation = λ known o. expression_type known d o (expression_in (sections_at d o));
-  of_choice = λ known c. merged both_types known (plain_at d c);
+  of_choice = λ known c. choice_type (any_open known (plain_at d c)) (known_together both_types known (plain_at d c));
   of_label = λ i. (coding_at d i).label;
   of_child = λ i value. value;
   either = either_type;
@@ -71,9 +78,9 @@ resource_assignable (Some (trees.Clocked word shape name)) = Some assigns.Yes
 resource_assignable (Some (trees.Pin shape name)) = Some assigns.No
 resource_assignable _ = None
 
--- of declarations that differ not all may be assigned
+-- declarations that differ are refused where the reference to them is declared; elsewhere it is open
 abbrev pub settled_assignable : Option Assignable → Option Assignable
-settled_assignable (Some assigns.Mixed) = Some assigns.No
+settled_assignable (Some assigns.Mixed) = None
 settled_assignable value = value
 
 abbrev pub meant_assignable : (ℕ → Option Assignable) → DescriptionTree → Meaning → Option Assignable
@@ -100,6 +107,12 @@ abbrev pub both_assignable : Assignable → Assignable → Assignable
 both_assignable assigns.Yes assigns.Yes = assigns.Yes
 both_assignable _ _ = assigns.No
 
+-- of a choice, in the same way: one alternative that may not be assigned decides
+abbrev pub choice_assignable : Bool → Option Assignable → Option Assignable
+choice_assignable some_open (Some assigns.No) = Some assigns.No
+choice_assignable true _ = None
+choice_assignable false others = others
+
 abbrev pub either_assignable : Assignable → Assignable → Assignable
 either_assignable assigns.Yes assigns.Yes = assigns.Yes
 either_assignable assigns.No assigns.No = assigns.No
@@ -108,7 +121,7 @@ either_assignable _ _ = assigns.Mixed
 abbrev pub assignable_fact : DescriptionTree → Fact Assignable
 assignable_fact d = record {
   of_operation = λ known o. expression_assignable known d o (expression_in (sections_at d o));
-  of_choice = λ known c. merged both_assignable known (plain_at d c);
+  of_choice = λ known c. choice_assignable (any_open known (plain_at d c)) (known_together both_assignable known (plain_at d c));
   of_label = λ i. assigns.No;
   of_child = λ i value. value;
   either = either_assignable;

@@ -9,6 +9,7 @@ use Rattle.lisa_tree.specs.Expressions.{ExprTree}
 use Rattle.lisa_tree.specs.Descriptions as trees
 use Rattle.lisa_tree.specs.Descriptions.{ResourceTree, DescriptionTree}
 use Rattle.description_places.specs.declared.scopes.Local.{Local}
+use Rattle.description_places.specs.Literals.{literal}
 use Rattle.description_places.specs.Scopes.{Scope, local_named}
 use Rattle.description_names.specs.declared.declared.Meaning.{Meaning}
 use Rattle.description_names.specs.declared.declared.Meaning.TheVariants as meanings
@@ -64,11 +65,6 @@ or_meant_element d o n None = meant_element d (meaning d o n)
 -- the type of an array's elements, by its name
 abbrev pub element_type : DescriptionTree → ℕ → Scope → List ℕ → Option Shape
 element_type d o scope n = or_meant_element d o n (local_named n scope)
-
--- the number that a literal is
-abbrev pub literal : ExprTree → Option ℕ
-literal (exprs.Number v base) = Some v
-literal _ = None
 
 -- the type of what an operator gives: of the left operand for a shift, a truth value for comparisons and connectives, else of both
 abbrev pub two_type : Operator → Option ℕ → Option ℕ → Option Shape → Option Shape → Option Shape

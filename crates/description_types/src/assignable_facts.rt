@@ -4,13 +4,13 @@ ghost use Rattle.std.specs.Prelude.{◌≡◌, option_map};
 ghost use Rattle.lisa_tree.specs.Expressions.{expr_tree};
 ghost use Rattle.lisa_tree.specs.Descriptions.{resource_tree};
 ghost use Rattle.least_fixed_points.specs.Settles.{entry};
-ghost use Rattle.description_types.specs.Facts.{merged, merged_from, together};
-ghost use Rattle.description_types.specs.Kinds.{resource_assignable, settled_assignable, meant_assignable, array_assignable, value_assignable, expression_assignable, both_assignable, either_assignable, assignable_fact};
+ghost use Rattle.description_types.specs.Facts.{added, known_together};
+ghost use Rattle.description_types.specs.Kinds.{resource_assignable, settled_assignable, meant_assignable, array_assignable, value_assignable, expression_assignable, both_assignable, choice_assignable, either_assignable, assignable_fact};
 ghost use Rattle.description_types.specs.Steady.{assignables_steady};
 
 use crate::bases::add_named;
 use crate::facts::Facts;
-use crate::lookups::{known_entry, known_operation, resource, sections};
+use crate::lookups::{any_open, known_entry, known_operation, resource, sections};
 use crate::types::meant_element;
 use crate::values::Assignable;
 use description_names::{Meaning, Names, expression};
@@ -35,12 +35,12 @@ fn resource_assignable(resource: Option<&Resource>) -> Option<Assignable>
     }
 }
 
-// Of declarations that differ not all may be assigned.
+// Declarations that differ are refused where the reference is declared; elsewhere it is open.
 fn settled_assignable(value: Option<Assignable>) -> Option<Assignable>
     ensures { result ≡ settled_assignable value }
 {
     match value {
-        Some(Assignable::Mixed) => Some(Assignable::No),
+        Some(Assignable::Mixed) => None,
         value => value,
     }
 }
@@ -122,37 +122,36 @@ fn either_assignable(left: Assignable, right: Assignable) -> Assignable
     }
 }
 
-fn both_known(left: Option<Assignable>, right: Option<Assignable>) -> Option<Assignable>
-    ensures { result ≡ together both_assignable left right }
+// Whether an alternative and others may be assigned, as far as they are known.
+fn added(value: Option<Assignable>, others: Option<Assignable>) -> Option<Assignable>
+    ensures { result ≡ added both_assignable value others }
 {
-    match (left, right) {
-        (Some(left), Some(right)) => Some(both_assignable(left, right)),
-        _ => None,
+    match (value, others) {
+        (None, others) => others,
+        (value, None) => value,
+        (Some(value), Some(others)) => Some(both_assignable(value, others)),
     }
 }
 
-// Whether some operations may be assigned, together with what is known so far.
-fn merged_from(
-    table: &[Option<Assignable>],
-    first: Option<Assignable>,
-    operations: &[usize],
-) -> Option<Assignable>
-    ensures { result ≡ merged_from both_assignable (entry table.now) first operations.now }
+// Whether all those of some operations that are known may be assigned.
+fn known_together(table: &[Option<Assignable>], operations: &[usize]) -> Option<Assignable>
+    ensures { result ≡ known_together both_assignable (entry table.now) operations.now }
 {
-    let mut so_far = first;
+    let mut so_far = None;
     for &operation in operations {
-        so_far = both_known(so_far, known_operation(table, operation));
+        so_far = added(so_far, known_operation(table, operation));
     }
     so_far
 }
 
-// Whether all of some operations may be assigned.
-fn merged(table: &[Option<Assignable>], operations: &[usize]) -> Option<Assignable>
-    ensures { result ≡ merged both_assignable (entry table.now) operations.now }
+// Whether a choice may be assigned, by whether an alternative is open and by the others.
+fn choice_assignable(some_open: bool, others: Option<Assignable>) -> Option<Assignable>
+    ensures { result ≡ choice_assignable some_open others }
 {
-    match operations {
-        [] => None,
-        [operation, rest @ ..] => merged_from(table, known_operation(table, *operation), rest),
+    match others {
+        Some(Assignable::No) => Some(Assignable::No),
+        _ if some_open => None,
+        others => others,
     }
 }
 
@@ -165,7 +164,8 @@ impl<'a, N: Names> Facts<Assignable> for AssignableFacts<'a, N> {
     }
 
     fn of_choice(&self, table: &[Option<Assignable>], choice: usize) -> Option<Assignable> {
-        merged(table, self.names.plain_at(choice))
+        let plain = self.names.plain_at(choice);
+        choice_assignable(any_open(table, plain), known_together(table, plain))
     }
 
     fn of_label(&self, _entry: usize) -> Assignable {

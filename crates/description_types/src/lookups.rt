@@ -5,6 +5,7 @@ ghost use Rattle.lisa_tree.specs.Descriptions.{resource_tree, section_tree};
 ghost use Rattle.description_names.specs.Operations.{name_at, sections_at};
 ghost use Rattle.description_names.specs.Paths.{choice_node, entry_node};
 ghost use Rattle.least_fixed_points.specs.Settles.{entry};
+ghost use Rattle.description_types.specs.Facts.{any_open};
 
 use description_names::Names;
 use lisa_tree::{Resource, Section};
@@ -90,6 +91,18 @@ pub fn known_operation<T: Copy>(table: &[Option<T>], operation: usize) -> Option
     } else {
         None
     }
+}
+
+/// Whether something isn't known of some operations.
+pub fn any_open<T: Copy>(table: &[Option<T>], operations: &[usize]) -> bool
+    ensures { result ≡ any_open (entry table.now) operations.now }
+{
+    for &operation in operations {
+        if known_operation(table, operation).is_none() {
+            return true;
+        }
+    }
+    false
 }
 
 /// What is known of a choice.

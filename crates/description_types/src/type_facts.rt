@@ -3,15 +3,15 @@
 ghost use Rattle.std.specs.Prelude.{◌≡◌, [], option_map};
 ghost use Rattle.lisa_tree.specs.Expressions.{expr_tree};
 ghost use Rattle.least_fixed_points.specs.Settles.{entry};
-ghost use Rattle.description_types.specs.Facts.{merged, merged_from, together};
-ghost use Rattle.description_types.specs.Kinds.{as_type, expression_type, both_types, lacks_type, either_type, type_fact};
+ghost use Rattle.description_types.specs.Facts.{added, known_together};
+ghost use Rattle.description_types.specs.Kinds.{as_type, expression_type, both_types, choice_type, lacks_type, either_type, type_fact};
 ghost use Rattle.description_types.specs.Codings.{AreCodings};
 ghost use Rattle.description_types.specs.Steady.{types_steady};
 
 use crate::bases::add_typed;
 use crate::codings::coding_at;
 use crate::facts::Facts;
-use crate::lookups::{known_operation, sections};
+use crate::lookups::{any_open, known_operation, sections};
 use crate::shapes::same_shape;
 use crate::types::type_of;
 use crate::values::{CodedName, TypeOf};
@@ -102,37 +102,36 @@ fn either_type(left: TypeOf, right: TypeOf) -> TypeOf
     }
 }
 
-fn both_known(left: Option<TypeOf>, right: Option<TypeOf>) -> Option<TypeOf>
-    ensures { result ≡ together both_types left right }
+// The type that an alternative and others have together, as far as they are known.
+fn added(value: Option<TypeOf>, others: Option<TypeOf>) -> Option<TypeOf>
+    ensures { result ≡ added both_types value others }
 {
-    match (left, right) {
-        (Some(left), Some(right)) => Some(both_types(left, right)),
-        _ => None,
+    match (value, others) {
+        (None, others) => others,
+        (value, None) => value,
+        (Some(value), Some(others)) => Some(both_types(value, others)),
     }
 }
 
-// The type that some operations have together with what is known so far.
-fn merged_from(
-    table: &[Option<TypeOf>],
-    first: Option<TypeOf>,
-    operations: &[usize],
-) -> Option<TypeOf>
-    ensures { result ≡ merged_from both_types (entry table.now) first operations.now }
+// The type that those of some operations that are known have together.
+fn known_together(table: &[Option<TypeOf>], operations: &[usize]) -> Option<TypeOf>
+    ensures { result ≡ known_together both_types (entry table.now) operations.now }
 {
-    let mut so_far = first;
+    let mut so_far = None;
     for &operation in operations {
-        so_far = both_known(so_far, known_operation(table, operation));
+        so_far = added(so_far, known_operation(table, operation));
     }
     so_far
 }
 
-// The type that all of some operations have.
-fn merged(table: &[Option<TypeOf>], operations: &[usize]) -> Option<TypeOf>
-    ensures { result ≡ merged both_types (entry table.now) operations.now }
+// The type of a choice, by whether an alternative is open and by the type that the others have together.
+fn choice_type(some_open: bool, others: Option<TypeOf>) -> Option<TypeOf>
+    ensures { result ≡ choice_type some_open others }
 {
-    match operations {
-        [] => None,
-        [operation, rest @ ..] => merged_from(table, known_operation(table, *operation), rest),
+    match others {
+        Some(TypeOf::NoType) => Some(TypeOf::NoType),
+        _ if some_open => None,
+        others => others,
     }
 }
 
@@ -151,7 +150,8 @@ impl<'a, N: Names> Facts<TypeOf> for TypeFacts<'a, N> {
     }
 
     fn of_choice(&self, table: &[Option<TypeOf>], choice: usize) -> Option<TypeOf> {
-        merged(table, self.names.plain_at(choice))
+        let plain = self.names.plain_at(choice);
+        choice_type(any_open(table, plain), known_together(table, plain))
     }
 
     fn of_label(&self, entry: usize) -> TypeOf {

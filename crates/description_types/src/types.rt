@@ -5,7 +5,8 @@ ghost use Rattle.lisa_tree.specs.Expressions.{expr_tree};
 ghost use Rattle.lisa_tree.specs.Descriptions.{resource_tree};
 ghost use Rattle.least_fixed_points.specs.Settles.{entry};
 ghost use Rattle.description_types.specs.Shapes.{bit};
-ghost use Rattle.description_types.specs.Types.{word_shape, element_shape, typed, meant_type, name_type, meant_element, element_type, literal, two_type, type_of};
+ghost use Rattle.description_places.specs.Literals.{literal};
+ghost use Rattle.description_types.specs.Types.{word_shape, element_shape, typed, meant_type, name_type, meant_element, element_type, two_type, type_of};
 
 use crate::lookups::{known_entry, resource};
 use crate::shapes::{number_shape, paired};

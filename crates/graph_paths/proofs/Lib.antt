@@ -2,5 +2,6 @@ pub mod Seen
 pub mod Search
 pub mod Long
 pub mod Edges
-pub mod Peels
+pub mod Listed
+pub mod Rising
 pub mod Rows

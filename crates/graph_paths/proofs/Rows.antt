@@ -4,7 +4,7 @@ use Rattle.std.specs.List.{list_all}
 use Rattle.std.specs.Global.{Vec}
 use Rattle.std.proofs.lemmas.Bool.{ltb-true}
 use Rattle.graph_paths.specs.Paths.{targets, is_in, AreNodes}
-use Rattle.graph_paths.proofs.Peels.{all_of, on_left, on_right}
+use Rattle.graph_paths.proofs.Listed.{all_of, on_left, on_right}
 
 row_below : (n : ℕ) (next : List (Vec ℕ)) → list_all (λ (v : Vec ℕ). list_all (λ b. nat_lt b n) v.items) next ≡ true → (a b : ℕ) → is_in b (targets next a) ≡ true → b < n
 row_below n [] all a b e = absurd (cc e)

@@ -1,3 +1,4 @@
 pub mod Paths
 pub mod Going
-pub mod Peeled
+pub mod Ranks
+pub mod Below

@@ -2,11 +2,10 @@
 
 ghost use Rattle.std.specs.Prelude.{◌≡◌, ◌<◌, ◌↔◌, IfOk, length, true};
 ghost use Rattle.graph_paths.specs.Paths.{AreNodes, IsFirstCircular, Reaches};
-ghost use Rattle.graph_paths.specs.Peeled.{AreFree};
+ghost use Rattle.graph_paths.specs.Ranks.{AreRanks};
 
-use crate::peeling::peeled;
-use crate::reaching::{reached_from, was_seen};
-use crate::reversing::reversed;
+use crate::ranking::{are_higher, rank, ranks};
+use crate::reaching::{reached_from, row, was_seen};
 use std::alloc::{AllocError, Global};
 
 // Whether a node reaches itself, by a search from it.
@@ -19,44 +18,37 @@ fn is_circular(alloc: Global, next: &[Vec<usize>], node: usize) -> Result<bool, 
     Ok(was_seen(&seen, node))
 }
 
-// Whether a node reaches itself, where these don't.
-fn is_circular_beside(
+// Whether a node reaches itself: it doesn't where each of its edges raises the rank, and else a search from it tells.
+fn is_circular_among(
     alloc: Global,
     next: &[Vec<usize>],
-    free: &[bool],
-    also: &[bool],
+    ranks: &[usize],
     node: usize,
 ) -> Result<bool, AllocError>
     requires node { node < length next.now }
     requires nodes { AreNodes next.now }
-    requires free { AreFree next.now free.now }
-    requires also { AreFree next.now also.now }
+    requires ranks { AreRanks next.now ranks.now }
     ensures { IfOk result (λ found. (found ≡ true) ↔ Reaches next.now node node) }
 {
-    if was_seen(free, node) {
-        return Ok(false);
-    }
-    if was_seen(also, node) {
+    if are_higher(ranks, rank(ranks, node), row(next, node)) {
         return Ok(false);
     }
     let found = is_circular(alloc, next, node)?;
     Ok(found)
 }
 
-// The first node that reaches itself, where these don't.
-fn first_beside(
+// The first node that reaches itself, by ranks that no edge lowers.
+fn first_among(
     alloc: Global,
     next: &[Vec<usize>],
-    free: &[bool],
-    also: &[bool],
+    ranks: &[usize],
 ) -> Result<Option<usize>, AllocError>
     requires nodes { AreNodes next.now }
-    requires free { AreFree next.now free.now }
-    requires also { AreFree next.now also.now }
+    requires ranks { AreRanks next.now ranks.now }
     ensures { IfOk result (λ found. IsFirstCircular next.now found) }
 {
     for node in 0..next.len() {
-        let found = is_circular_beside(alloc, next, free, also, node)?;
+        let found = is_circular_among(alloc, next, ranks, node)?;
         if found {
             return Ok(Some(node));
         }
@@ -64,14 +56,12 @@ fn first_beside(
     Ok(None)
 }
 
-/// The first node that reaches itself, if any does. Where none does, the time is in proportion to the nodes and edges; a search is made
-/// only from nodes that a circle reaches and that reach a circle.
+/// The first node that reaches itself, if any does. The time is in proportion to the nodes and edges: a search is made only from a node
+/// that leads to one of its own rank, and such a node reaches itself.
 pub fn first_circular(alloc: Global, next: &[Vec<usize>]) -> Result<Option<usize>, AllocError>
     requires { AreNodes next.now }
     ensures { IfOk result (λ found. IsFirstCircular next.now found) }
 {
-    let back = reversed(alloc, next)?;
-    let free = peeled(alloc, next, &back)?;
-    let also = peeled(alloc, &back, next)?;
-    first_beside(alloc, next, &free, &also)
+    let ranks = ranks(alloc, next)?;
+    first_among(alloc, next, &ranks)
 }

@@ -2,9 +2,11 @@
 #![tactic(auto)]
 
 mod circles;
+mod components;
 mod laws;
 mod ordering;
 mod peeling;
+mod ranking;
 mod reaching;
 mod reversing;
 

@@ -2,7 +2,7 @@
 
 ghost use Rattle.std.specs.Prelude.{IfOk, OnOk, length};
 ghost use Rattle.graph_paths.specs.Paths.{AreNodes};
-ghost use Rattle.graph_paths.specs.Peeled.{AreBelow};
+ghost use Rattle.graph_paths.specs.Below.{AreBelow};
 
 use crate::peeling::{edge_counts, lower_all, mark_ends};
 use crate::reaching::row;

@@ -1,34 +1,11 @@
-//! Nodes are taken out of a graph as long as all that they lead to is out. None of these reaches itself.
+//! Nodes from which no edge goes out, as edges are taken out of a graph.
 
 ghost use Rattle.std.specs.Prelude.{◌≡◌, ◌<◌, ◌+◌, IfOk, OnOk, length};
-ghost use Rattle.graph_paths.specs.Paths.{AreNodes, saw, unseen};
-ghost use Rattle.std.specs.List.{list_all};
-ghost use Rattle.graph_paths.specs.Peeled.{IsPeeled, AreBelow};
+ghost use Rattle.graph_paths.specs.Paths.{unseen};
+ghost use Rattle.graph_paths.specs.Below.{AreBelow};
 
-use crate::reaching::{mark, row, was_seen};
+use crate::reaching::mark;
 use std::alloc::{AllocError, Global};
-
-// Whether all of the nodes are out.
-fn are_out(out: &[bool], nodes: &[usize]) -> bool
-    ensures { result ≡ list_all (saw out.now) nodes.now }
-{
-    nodes.iter().all(|node| was_seen(out, *node))
-}
-
-// Takes a node out, if all that it leads to is out.
-#[tactic(auto, using(crate::proofs::Peels::taken))]
-fn take_out(next: &[Vec<usize>], node: usize, out: &mut Vec<bool>)
-    requires node { node < length next.now }
-    requires peeled { IsPeeled next.now out.old.items }
-    ensures peeled { IsPeeled next.now out.new.items }
-{
-    if was_seen(out, node) {
-        return;
-    }
-    if are_out(out, row(next, node)) {
-        out[node] = true;
-    }
-}
 
 // How many edges go out from each node.
 pub(crate) fn edge_counts(alloc: Global, next: &[Vec<usize>]) -> Result<Vec<usize>, AllocError>
@@ -101,27 +78,4 @@ pub(crate) fn lower_all(
         lower(*node, counts, seen, work)?;
     }
     Ok(())
-}
-
-/// The nodes that can be taken out one by one, each after all that it leads to, where `back` has the edges the other way round. Each edge
-/// is looked at twice.
-pub fn peeled(
-    alloc: Global,
-    next: &[Vec<usize>],
-    back: &[Vec<usize>],
-) -> Result<Vec<bool>, AllocError>
-    requires length { length back.now ≡ length next.now }
-    requires back { AreNodes back.now }
-    ensures { IfOk result (λ out. IsPeeled next.now out.items) }
-{
-    let mut out = vec![in alloc; false; next.len()]?;
-    let mut seen = vec![in alloc; false; next.len()]?;
-    let mut counts = edge_counts(alloc, next)?;
-    let mut work = Vec::new(alloc);
-    mark_ends(&counts, &mut seen, &mut work)?;
-    'going: while let Some(node) = work.pop() {
-        take_out(next, node, &mut out);
-        lower_all(row(back, node), &mut counts, &mut seen, &mut work)?;
-    }
-    Ok(out)
 }

@@ -66,6 +66,17 @@ fn the_first_node_on_a_circle_is_found(rt: HostRuntime) -> Result<(), Fail> {
     assert_eq!(rt; circular(alloc, &circle)?, Some(1));
     let itself = [b"1".as_slice(), b"".as_slice(), b"2".as_slice()];
     assert_eq!(rt; circular(alloc, &itself)?, Some(2));
+    // a chain from a circle to another one
+    let chain = [
+        b"1".as_slice(),
+        b"2".as_slice(),
+        b"5".as_slice(),
+        b"4".as_slice(),
+        b"30".as_slice(),
+        b"6".as_slice(),
+        b"5".as_slice(),
+    ];
+    assert_eq!(rt; circular(alloc, &chain)?, Some(3));
     Ok(())
 }
 

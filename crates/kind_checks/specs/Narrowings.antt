@@ -10,7 +10,8 @@ use Rattle.description_places.specs.Places as places
 use Rattle.description_places.specs.Places.{Condition, first, description_places}
 use Rattle.description_names.specs.Operations.{name_at}
 use Rattle.description_types.specs.Shapes.{beside}
-use Rattle.description_types.specs.Types.{literal, type_of}
+use Rattle.description_places.specs.Literals.{literal}
+use Rattle.description_types.specs.Types.{type_of}
 use Rattle.description_types.specs.Tables.{Known, AreKinds}
 
 -- what has no type, or an open one, is not at fault

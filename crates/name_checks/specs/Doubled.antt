@@ -12,7 +12,7 @@ use Rattle.description_places.specs.declared.sites.Region.TheVariants as regions
 use Rattle.description_places.specs.Scopes.{Scope, local_named}
 use Rattle.description_places.specs.Places.{Condition, Resource, Head, Section, Declared, Alternatives, Local, Counts}
 use Rattle.description_names.specs.Same.{same_name}
-use Rattle.description_names.specs.Resources.{resource_at}
+use Rattle.description_names.specs.Resources.{resource_at, is_pipe}
 use Rattle.description_names.specs.Operations.{number_of, name_at}
 use Rattle.description_names.specs.Declarations.{declared_at, entries_before}
 
@@ -33,10 +33,6 @@ abbrev pub list_fault : List (List ℕ) → Option DescFault
 list_fault names = option_map faults.Duplicate (again_in [] names)
 
 -- ---- resources
-
-abbrev pub is_pipe : ResourceTree → Bool
-is_pipe (trees.Pipeline n stages) = true
-is_pipe _ = false
 
 abbrev pub is_fields : ResourceTree → Bool
 is_fields (trees.Fields pipe fields) = true

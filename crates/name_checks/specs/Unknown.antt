@@ -1,5 +1,5 @@
 -- Names that stand for nothing.
-use Rattle.std.specs.Prelude.{ℕ, Bool, true, false, List, [], ◌∷◌, length, codes, Option, None, Some, cond, nat_eq, not, ◌&&◌, ◌||◌, slice_get}
+use Rattle.std.specs.Prelude.{ℕ, Bool, true, false, List, [], ◌∷◌, length, codes, Option, None, Some, cond, nat_eq, not, ◌&&◌, ◌||◌}
 use Rattle.std.specs.List.{list_any}
 use Rattle.std.specs.Option.{option_or, is_some}
 use Rattle.lisa_tree.specs.declared.tokens.Shape.{Shape}
@@ -13,13 +13,12 @@ use Rattle.description_places.specs.Scopes.{Scope, local_named}
 use Rattle.description_places.specs.Places as places
 use Rattle.description_places.specs.Places.{Condition}
 use Rattle.description_names.specs.declared.declared.What.{What}
-use Rattle.description_names.specs.declared.declared.What.TheVariants as whats
 use Rattle.description_names.specs.declared.declared.Meaning.{Meaning}
 use Rattle.description_names.specs.declared.declared.Meaning.TheVariants as meanings
 use Rattle.description_names.specs.Same.{same_name}
 use Rattle.description_names.specs.Resources.{resource_at, stage_at, field_shape, is_pipeline}
 use Rattle.description_names.specs.Operations.{number_of, name_at}
-use Rattle.description_names.specs.Declarations.{declared_at, what_at, above}
+use Rattle.description_names.specs.Declarations.{declared_at, what_at, is_reference, above}
 use Rattle.description_names.specs.Meanings.{meaning}
 
 abbrev pub unknown_fault : (operation : List ℕ) → Bool → List ℕ → Option DescFault
@@ -42,14 +41,6 @@ is_known d o scope n = is_some (local_named n scope) || stands d o n
 
 abbrev pub is_field : DescriptionTree → List ℕ → Bool
 is_field d n = is_some (field_shape d n)
-
-abbrev is_pipe : Option ResourceTree → Bool
-is_pipe (Some (trees.Pipeline n stages)) = true
-is_pipe _ = false
-
--- the resource of a number is a pipeline
-abbrev pub is_pipe_at : DescriptionTree → ℕ → Bool
-is_pipe_at d k = is_pipe (slice_get d.resources k)
 
 -- the name is that of a stage of the pipeline that is named
 abbrev pub is_stage : DescriptionTree → (pipe stage : List ℕ) → Bool
@@ -95,10 +86,6 @@ is_loose d o n = is_main d o || nat_eq (length (above d o)) 0 || list_any (lacks
 abbrev pub what_of : DescriptionTree → Option ℕ → Option What
 what_of d None = None
 what_of d (Some i) = what_at d i
-
-abbrev pub is_reference : Option What → Bool
-is_reference (Some whats.Reference) = true
-is_reference _ = false
 
 abbrev pub reference_unknown : DescriptionTree → ℕ → List ℕ → Option DescFault
 reference_unknown d o n = unknown_fault (name_at d o) (not (is_reference (what_of d (declared_at d o n)) && is_loose d o n)) n

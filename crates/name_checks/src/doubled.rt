@@ -3,7 +3,8 @@
 ghost use Rattle.std.specs.Prelude.{◌≡◌, ◌||◌, List, ℕ, Bool, map, take, IfOk};
 ghost use Rattle.lisa_tree.specs.Statements.{head_tree};
 ghost use Rattle.lisa_tree.specs.Descriptions.{resource_tree, section_tree};
-ghost use Rattle.name_checks.specs.Doubled.{duplicate_fault, named_fault, resource_fault, section_fault, is_head_taken, head_fault, is_declared_before, declared_fault, local_fault, counter_fault, duplicate, is_pipe, is_fields};
+ghost use Rattle.description_names.specs.Resources.{is_pipe};
+ghost use Rattle.name_checks.specs.Doubled.{duplicate_fault, named_fault, resource_fault, section_fault, is_head_taken, head_fault, is_declared_before, declared_fault, local_fault, counter_fault, duplicate, is_fields};
 ghost use Rattle.std.specs.List.{list_any};
 
 use crate::lookups::{is_earlier, is_taken, name_at};

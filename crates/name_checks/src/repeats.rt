@@ -4,7 +4,8 @@ ghost use Rattle.std.specs.Prelude.{◌≡◌, [], ◌∷◌, ◌++◌, false, t
 ghost use Rattle.std.specs.List.{list_any};
 ghost use Rattle.lisa_tree.specs.Descriptions.{resource_tree, section_tree};
 ghost use Rattle.description_names.specs.Same.{same_name};
-ghost use Rattle.name_checks.specs.Doubled.{again_in, field_names, is_pipe, is_fields, is_of, list_fault};
+ghost use Rattle.description_names.specs.Resources.{is_pipe};
+ghost use Rattle.name_checks.specs.Doubled.{again_in, field_names, is_fields, is_of, list_fault};
 
 use description_places::Region;
 use indexmap::IndexSet;

@@ -9,13 +9,9 @@ use Rattle.lisa_tree.specs.declared.expressions.Operator.TheVariants as operator
 use Rattle.lisa_tree.specs.Expressions as exprs
 use Rattle.lisa_tree.specs.Expressions.{ExprTree}
 use Rattle.lisa_tree.specs.Statements.{HeadTree}
-use Rattle.description_places.specs.Scopes.{same_name}
+use Rattle.description_names.specs.Same.{same_name}
+use Rattle.description_places.specs.Literals.{literal}
 use Rattle.shape_checks.specs.declared.bounds.Bounds.{Bounds}
-
--- a number that is written as a literal
-abbrev pub literal : ExprTree → Option ℕ
-literal (exprs.Number value base) = Some value
-literal _ = None
 
 -- the literal that stands behind the variable
 abbrev pub beside : List ℕ → ExprTree → ExprTree → Option ℕ

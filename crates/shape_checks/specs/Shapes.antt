@@ -1,14 +1,15 @@
 -- The conditions on widths, depths and loops, at each place.
-use Rattle.std.specs.Prelude.{ℕ, ◌-◌, ◌^◌, Bool, List, [], ◌∷◌, length, min, Option, None, Some, cond, nat_le, nat_lt, ◌&&◌, slice_get}
+use Rattle.std.specs.Prelude.{ℕ, ◌-◌, ◌^◌, Bool, List, [], ◌∷◌, length, min, Option, None, Some, cond, nat_le, nat_lt, ◌&&◌}
 use Rattle.std.specs.Int.{is_power_of_two}
-use Rattle.std.specs.Option.{option_or, option_map_or}
+use Rattle.std.specs.Option.{option_or}
 use Rattle.lisa_tree.specs.declared.tokens.Shape.{Shape}
 use Rattle.lisa_tree.specs.declared.descriptions.Pattern.{Pattern}
 use Rattle.lisa_tree.specs.declared.faults.DescFault.{DescFault}
 use Rattle.lisa_tree.specs.declared.faults.DescFault.TheVariants as faults
 use Rattle.lisa_tree.specs.Statements.{HeadTree}
 use Rattle.lisa_tree.specs.Descriptions as trees
-use Rattle.lisa_tree.specs.Descriptions.{ResourceTree, OperationTree, DescriptionTree}
+use Rattle.lisa_tree.specs.Descriptions.{ResourceTree, DescriptionTree}
+use Rattle.description_names.specs.Operations.{name_at}
 use Rattle.description_places.specs.Places.{Condition, Resource, Field, Casts, Local, Loops, Counts}
 use Rattle.shape_checks.specs.declared.bounds.Bounds.{Bounds}
 use Rattle.shape_checks.specs.Bounds.{bounds_of, turns, holds_values}
@@ -79,10 +80,6 @@ bad_depth o region scope (Resource k r) = resource_depth r
 bad_depth o region scope _ = None
 
 -- ---- loops
-
--- the name of an operation, the empty one where there is none
-abbrev pub name_at : DescriptionTree → ℕ → List ℕ
-name_at d o = option_map_or (λ (operation : OperationTree). operation.name) (slice_get d.operations o) []
 
 abbrev pub open_fault : List ℕ → Option Bounds → Option DescFault
 open_fault n None = Some (faults.LoopWithoutBound n)

@@ -3,7 +3,8 @@
 ghost use Rattle.std.specs.Prelude.{◌≡◌, ◌<◌, ◌≤◌, ◌+◌, ◌*◌, ◌↔◌, ℕ, IfSome};
 ghost use Rattle.lisa_tree.specs.Expressions.{expr_tree};
 ghost use Rattle.lisa_tree.specs.Statements.{head_tree};
-ghost use Rattle.shape_checks.specs.Bounds.{literal, beside, limit_of, step_of, bounds_of, turns, last_value, holds, holds_values};
+ghost use Rattle.description_places.specs.Literals.{literal};
+ghost use Rattle.shape_checks.specs.Bounds.{beside, limit_of, step_of, bounds_of, turns, last_value, holds, holds_values};
 
 use lisa_tree::{Expr, ForHead, Operator, Shape};
 use lisa_words::{Kind, Name};

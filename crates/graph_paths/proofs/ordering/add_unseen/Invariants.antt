@@ -1,5 +1,5 @@
 use Rattle.std.proofs.Common.{length}
-use Rattle.graph_paths.specs.Peeled.{AreBelow}
+use Rattle.graph_paths.specs.Below.{AreBelow}
 use Rattle.graph_paths.proofs.ordering.add_unseen.Given as goal
 
 abbrev pub invariant-loop-node : goal.invariant-loop-node

@@ -3,7 +3,7 @@ use Rattle.std.specs.Global.{Vec}
 use Rattle.graph_paths.specs.Paths.{is_in, AreNodes}
 use Rattle.graph_paths.proofs.Seen.{in-push}
 use Rattle.graph_paths.proofs.Search.{popped}
-use Rattle.graph_paths.proofs.Peels.{back_nodes, one_below}
+use Rattle.graph_paths.proofs.Listed.{back_nodes, one_below}
 use Rattle.graph_paths.proofs.ordering.order.Goals as goal
 
 pub row-requires : goal.row-requires

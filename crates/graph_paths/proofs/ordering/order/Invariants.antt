@@ -1,6 +1,6 @@
 use Rattle.std.proofs.Common.{◌≡◌, ◌+◌, length}
 use Rattle.graph_paths.specs.Paths.{unseen}
-use Rattle.graph_paths.specs.Peeled.{AreBelow}
+use Rattle.graph_paths.specs.Below.{AreBelow}
 use Rattle.graph_paths.proofs.ordering.order.Given as goal
 
 abbrev pub invariant-going : goal.invariant-going

@@ -1,6 +1,6 @@
 use Rattle.std.proofs.Common.{◌≡◌, ◌+◌, length}
 use Rattle.graph_paths.specs.Paths.{unseen}
-use Rattle.graph_paths.specs.Peeled.{AreBelow}
+use Rattle.graph_paths.specs.Below.{AreBelow}
 use Rattle.graph_paths.proofs.peeling.lower_all.Given as goal
 
 abbrev pub invariant-loop-node : goal.invariant-loop-node
