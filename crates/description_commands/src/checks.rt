@@ -39,7 +39,7 @@ fn put_operations<O: Sink>(out: &mut O, count: u64) -> Result<(), Failed>
 
 // The machine of a description, or its first fault.
 fn machine_of(alloc: Global, description: Description) -> Result<Machine, End>
-    ensures { Finds (λ m. description_tree m.description) (IsSound (description_tree description)) (IsFaulty (description_tree description)) result }
+    ensures { Finds description_tree (IsSound (description_tree description)) (IsFaulty (description_tree description)) result }
 {
     match check(alloc, description) {
         Ok(machine) => Ok(machine),
@@ -49,7 +49,7 @@ fn machine_of(alloc: Global, description: Description) -> Result<Machine, End>
 
 // Writes how many operations a machine has.
 fn count_operations<O: Sink>(machine: &Machine, out: &mut O) -> Result<(), End>
-    ensures { Writes (O.written out.old) (O.written out.new) (O.faults out.old) (O.faults out.new) result (operations_text (length (description_tree machine.now.description).operations)) }
+    ensures { Writes (O.written out.old) (O.written out.new) (O.faults out.old) (O.faults out.new) result (operations_text (length (description_tree machine.now).operations)) }
 {
     let count = machine.description().operations.len();
     match put_operations(out, count as u64) {

@@ -1,8 +1,8 @@
 -- One condition and the rest.
-use Rattle.std.proofs.Common.{◌≡◌, ◌∙◌, true, false, Option, None, Some, refl, sym, subst, inl, inr, ⊎_elim}
+use Rattle.std.proofs.Common.{◌≡◌, ◌∙◌, true, false, Option, None, Some, refl, sym, inl, inr, ⊎_elim}
 use Rattle.std.specs.Option.{is_some}
 use Rattle.lisa_tree.specs.declared.faults.DescFault.{DescFault}
-use Rattle.lisa_machine.specs.Verdicts.{Verdict, Broken, before}
+use Rattle.lisa_machine.specs.Verdicts.{Broken, before}
 
 -- the condition is broken
 pub here : (verdict rest : Option DescFault → Type 0) (found : Option DescFault) → verdict found → is_some found ≡ true → before verdict rest found

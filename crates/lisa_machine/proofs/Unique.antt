@@ -1,5 +1,5 @@
 -- Each verdict is the only one.
-use Rattle.std.proofs.Common.{◌≡◌, ◌∙◌, ◌<◌, ◌↔◌, ℕ, Bool, true, false, Option, None, Some, refl, sym, ap, subst, arith, ⊎_elim, cond, length, nat_lt}
+use Rattle.std.proofs.Common.{◌≡◌, ◌∙◌, ◌<◌, ◌↔◌, ℕ, Bool, true, false, Option, None, Some, refl, sym, ap, arith, ⊎_elim, cond, length}
 use Rattle.std.proofs.Math.Path.{fun_ext}
 use Rattle.std.specs.Prelude.{option_map}
 use Rattle.std.proofs.lemmas.Bool.{cases_lt}
@@ -7,10 +7,8 @@ use Rattle.lisa_tree.specs.declared.faults.DescFault.{DescFault}
 use Rattle.lisa_tree.specs.declared.faults.DescFault.TheVariants as faults
 use Rattle.lisa_tree.specs.Descriptions.{DescriptionTree}
 use Rattle.description_places.specs.Places.{Condition, first, description_places}
-use Rattle.description_names.specs.Paths.{Operation}
 use Rattle.description_graph.specs.Circles.{IsFirstCircularOperation}
-use Rattle.least_fixed_points.specs.Settles.{Settles}
-use Rattle.description_types.specs.Facts.{Fact, follows}
+use Rattle.description_types.specs.Facts.{Fact}
 use Rattle.description_types.specs.Tables.{AreValues, Known, AreKinds}
 use Rattle.kind_checks.specs.WrongKinds.{wrong_kind, IsFirstWrongKind}
 use Rattle.kind_checks.specs.Narrowings.{narrowing, IsFirstNarrowing}

@@ -1,5 +1,5 @@
 -- A description has one first fault, or none.
-use Rattle.std.proofs.Common.{◌≡◌, Option, None, Some}
+use Rattle.std.proofs.Common.{◌≡◌, None, Some}
 use Rattle.lisa_tree.specs.declared.faults.DescFault.{DescFault}
 use Rattle.lisa_tree.specs.Descriptions.{DescriptionTree}
 use Rattle.name_checks.specs.Doubled.{duplicate}

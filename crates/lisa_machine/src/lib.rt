@@ -4,6 +4,7 @@
 mod checking;
 mod firsts;
 mod machine;
+mod parts;
 
 pub use checking::check;
 pub use machine::Machine;

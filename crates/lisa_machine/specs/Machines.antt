@@ -1,0 +1,16 @@
+-- What a machine keeps beside its description.
+use Rattle.std.specs.Prelude.{◌≡◌, ◌≤◌}
+use Rattle.lisa_tree.specs.Descriptions.{DescriptionTree}
+use Rattle.machine_parts.specs.Parts.{arrays_of, memories_of, pins_of, first_values, reset_count}
+use Rattle.lisa_machine.specs.declared.parts.Parts.{Parts}
+
+-- `reset` has few enough statements to be evaluated
+abbrev pub IsResetShort : DescriptionTree → Type 0
+IsResetShort d = reset_count d ≤ 4096
+
+-- the parts are the description's
+pub record AreParts (d : DescriptionTree) (parts : Parts) : Type 0 where
+  pub of_arrays : parts.arrays.items ≡ arrays_of d
+  pub of_memories : parts.memories.items ≡ memories_of d
+  pub of_pins : parts.pins.items ≡ pins_of d
+  pub of_registers : IsResetShort d → parts.firsts.items ≡ first_values d

@@ -1,0 +1,54 @@
+//! What a machine shows beside its description.
+
+ghost use Rattle.std.specs.Prelude.{◌≡◌, IfOk};
+ghost use Rattle.machine_parts.specs.Parts.{first_values};
+ghost use Rattle.lisa_machine.specs.Machines.{IsResetShort, AreParts};
+
+use description_names::Names;
+use lisa_engine::{ArrayItem, Item};
+use lisa_words::NoMemory;
+use machine_parts::{arrays, count_reset, first_values, memories, pins};
+use std::alloc::Global;
+
+// A `reset` with more statements isn't evaluated.
+const RESET_LIMIT: u64 = 4096;
+
+/// Arrays, for each whether it is a memory, pins, and the first values of registers, which are left out where `reset` is too long.
+#[derive(Drop)]
+pub struct Parts {
+    pub arrays: Vec<ArrayItem>,
+    pub memories: Vec<bool>,
+    pub pins: Vec<Item>,
+    pub firsts: Vec<u64>,
+}
+
+// What registers hold first, where `reset` is short.
+fn short_firsts<N: Names>(alloc: Global, names: &N) -> Result<Vec<u64>, NoMemory>
+    ensures { IfOk result (λ firsts. IsResetShort (N.tree names.now) → firsts.items ≡ first_values (N.tree names.now)) }
+{
+    let count = count_reset(alloc, names)?;
+    if count > RESET_LIMIT {
+        return Ok(Vec::new(alloc));
+    }
+    let firsts = first_values(alloc, names)?;
+    Ok(firsts)
+}
+
+impl Parts {
+    /// The parts of a description.
+    pub fn make<N: Names>(alloc: Global, names: &N) -> Result<Parts, NoMemory>
+        ensures { IfOk result (λ parts. AreParts (N.tree names.now) parts) }
+    {
+        let description = names.description();
+        let arrays = arrays(alloc, description)?;
+        let memories = memories(alloc, description)?;
+        let pins = pins(alloc, description)?;
+        let firsts = short_firsts(alloc, names)?;
+        Ok(Parts {
+            arrays,
+            memories,
+            pins,
+            firsts,
+        })
+    }
+}

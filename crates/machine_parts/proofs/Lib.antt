@@ -1,0 +1,5 @@
+pub mod Steps
+pub mod Pairs
+pub mod Kept
+pub mod Lengths
+pub mod Fitting

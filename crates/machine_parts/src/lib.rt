@@ -1,0 +1,10 @@
+//! What a machine shows of its description: arrays, pins, memories, and what its registers hold first.
+#![tactic(auto)]
+
+mod firsts;
+mod laws;
+mod listing;
+
+pub use firsts::{count_reset, first_values};
+pub use laws::{arrays_are_told, first_values_fit, registers_have_first_values};
+pub use listing::{arrays, memories, pins};
