@@ -1,0 +1,10 @@
+pub mod Freedom
+pub mod Soundness
+pub mod Ranks
+pub mod Declaring
+pub mod Codings
+pub mod Running
+pub mod Distinctness
+pub mod Resolving
+pub mod Values
+pub mod Assigning
