@@ -1,0 +1,3 @@
+pub mod Differing
+pub mod Counted
+pub mod Tabled

@@ -1,0 +1,4 @@
+pub mod Widths
+pub mod Steady
+pub mod Uneven
+pub mod Written
