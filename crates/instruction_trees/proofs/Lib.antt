@@ -1,0 +1,11 @@
+pub mod Numbers
+pub mod Trees
+pub mod Relabelled
+pub mod Listing
+pub mod Numbering
+pub mod Words
+pub mod Weighed
+pub mod Placing
+pub mod FormWords
+pub mod Samples
+pub mod Covering

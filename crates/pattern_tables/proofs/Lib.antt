@@ -1,0 +1,11 @@
+pub mod Halving
+pub mod Masks
+pub mod Clashing
+pub mod Entering
+pub mod Ordered
+pub mod Grouping
+pub mod Decoding
+pub mod Bounded
+pub mod Weighing
+pub mod Treed
+pub mod Samples

@@ -1,0 +1,9 @@
+pub mod Patterns
+pub mod Overlaps
+pub mod Clashes
+pub mod Rising
+pub mod Entries
+pub mod Tables
+pub mod Probes
+pub mod Places
+pub mod Instructions
