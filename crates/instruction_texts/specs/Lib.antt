@@ -1,0 +1,12 @@
+pub mod Runs
+pub mod Shapes
+pub mod Leads
+pub mod Lines
+pub mod Fronts
+pub mod Written
+pub mod Moves
+pub mod Meetings
+pub mod Symbols
+pub mod Texts
+pub mod Once
+pub mod Starts
