@@ -1,0 +1,6 @@
+use Rattle.std.proofs.Common.{◌≡◌, drop}
+use Rattle.activation_trees.specs.Items.{root_stage}
+use Rattle.activation_trees.proofs.listing.root_stage.Given as goal
+
+abbrev pub invariant-loop-occurrence : goal.invariant-loop-occurrence
+invariant-loop-occurrence g l = root_stage (g.N.Names.tree l.names) (drop l.occurrence-index l.occurrences) ≡ root_stage (g.N.Names.tree l.names) l.occurrences

@@ -1,0 +1,20 @@
+//! The tree of activations: the occurrences of a description's operations, how many there are, and the items of its machine.
+#![tactic(auto)]
+
+mod counting;
+mod laws;
+mod listing;
+mod parts;
+mod starts;
+mod unfolding;
+
+pub use counting::{count_occurrences, first_root_twice};
+pub use laws::{activators_come_first, further_levels_unfold_nothing, occurrences_run};
+pub use listing::{count_items, items};
+pub use parts::Occurrence;
+pub use unfolding::occurrences;
+
+#[cfg(test)]
+mod sample;
+#[cfg(test)]
+mod tests;
