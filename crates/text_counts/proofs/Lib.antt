@@ -1,0 +1,7 @@
+pub mod Rows
+pub mod Adding
+pub mod Leading
+pub mod Sources
+pub mod Order
+pub mod Visits
+pub mod Entries

@@ -1,0 +1,15 @@
+use Rattle.std.proofs.Common.{◌≡◌, ◌<◌, ℕ, true, Some}
+use Rattle.graph_paths.specs.Paths.{saw}
+use Rattle.description_names.specs.declared.declared.What.TheVariants as whats
+use Rattle.description_names.specs.Declarations.{what_at}
+use Rattle.text_counts.specs.Gathering.{IsGathered}
+use Rattle.text_counts.proofs.references.Meanings.make.Given as goal
+
+abbrev pub invariant-loop-node : goal.invariant-loop-node
+invariant-loop-node g l = IsGathered (g.N.Names.tree l.names) l.lists.items l.done.items
+
+abbrev pub invariant-loop-number : goal.invariant-loop-number
+invariant-loop-number g l = record {
+  gathered : IsGathered (g.N.Names.tree l.names) l.lists.items l.done.items;
+  done : (i : ℕ) → i < l.number → what_at (g.N.Names.tree l.names) i ≡ Some whats.Reference → saw l.done.items i ≡ true;
+}

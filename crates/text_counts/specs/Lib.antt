@@ -1,0 +1,10 @@
+pub mod References
+pub mod Gathering
+pub mod Sums
+pub mod Expressions
+pub mod Behaviors
+pub mod Activations
+pub mod Steps
+pub mod Larger
+pub mod Ends
+pub mod Tables

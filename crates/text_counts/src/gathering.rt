@@ -1,0 +1,219 @@
+//! What references may choose, gathered one reference after another.
+
+ghost use Rattle.std.specs.Prelude.{◌≡◌, ◌↔◌, ◌<◌, ℕ, Some, [], length, IfOk, OnOk, true, ◌++◌};
+ghost use Rattle.std.specs.List.{list_all};
+ghost use Rattle.std.specs.List.Sorted.{IsStrictlyIncreasing};
+ghost use Rattle.lisa_tree.specs.Descriptions.{DescriptionTree};
+ghost use Rattle.graph_paths.specs.Paths.{targets, is_in, saw, Reaches, AreNodes};
+ghost use Rattle.description_names.specs.declared.declared.What.TheVariants as whats;
+ghost use Rattle.description_names.specs.Declarations.{entries, what_at};
+ghost use Rattle.description_graph.specs.Graph.{IsGraph, first_entry};
+ghost use Rattle.text_counts.specs.References.{MayMean, chosen_by};
+ghost use Rattle.text_counts.specs.Gathering.{IsGathered, is_node_ready, gathered_at, gathered, AreSources, late_row};
+
+use description_names::{Names, What};
+use graph_paths::{reached_from, row};
+use std::alloc::{AllocError, Global};
+
+/// A description's graph, and where its declared names begin among the nodes.
+#[derive(Drop)]
+pub(crate) struct Graph<'a, N: Names> {
+    pub names: &'a N,
+    pub next: &'a [Vec<usize>],
+    pub base: usize,
+    ghost graph: { IsGraph (N.tree names.now) next.now },
+    ghost first: { base ≡ first_entry (N.tree names.now) },
+}
+
+// The edges from a node, if it stands behind so many others.
+fn late_row(
+    alloc: Global,
+    base: usize,
+    next: &[Vec<usize>],
+    node: usize,
+) -> Result<Vec<usize>, AllocError>
+    requires { node < length next.now }
+    ensures { IfOk result (λ nodes. nodes.items ≡ late_row base next.now node) }
+{
+    if node < base {
+        Ok(Vec::new(alloc))
+    } else {
+        let nodes = Vec::from_slice(alloc, row(next, node))?;
+        Ok(nodes)
+    }
+}
+
+// The edges from all nodes behind so many others.
+fn late_edges(
+    alloc: Global,
+    base: usize,
+    next: &[Vec<usize>],
+) -> Result<Vec<Vec<usize>>, AllocError>
+    ensures length { IfOk result (λ edges. length edges.items ≡ length next.now) }
+    ensures rows { IfOk result (λ edges. (a : ℕ) → targets edges.items a ≡ late_row base next.now a) }
+{
+    let mut edges = Vec::new(alloc);
+    for node in 0..next.len() {
+        edges.push(late_row(alloc, base, next, node)?)?;
+    }
+    Ok(edges)
+}
+
+// The nodes that were seen.
+fn nodes_seen(alloc: Global, seen: &[bool]) -> Result<Vec<usize>, AllocError>
+    ensures { IfOk result (λ nodes. (b : ℕ) → is_in b nodes.items ≡ saw seen.now b) }
+{
+    let mut nodes = Vec::new(alloc);
+    for node in 0..seen.len() {
+        if seen[node] {
+            nodes.push(node)?;
+        }
+    }
+    Ok(nodes)
+}
+
+// All declared names to which a reference leads, over any number of references. Only in a description with a circle a reference is searched
+// so.
+fn reached<N: Names>(
+    alloc: Global,
+    graph: &Graph<'_, N>,
+    reference: usize,
+) -> Result<Vec<usize>, AllocError>
+    requires { what_at (N.tree graph.now.names.now) reference ≡ Some whats.Reference }
+    ensures { IfOk result (λ nodes. AreSources (N.tree graph.now.names.now) [] reference nodes.items) }
+{
+    let edges = late_edges(alloc, graph.base, graph.next)?;
+    let seen = reached_from(alloc, &edges, graph.base + reference)?;
+    let nodes = nodes_seen(alloc, &seen)?;
+    Ok(nodes)
+}
+
+// Whether a reference is done.
+#[tactic(auto, using(graph_paths::proofs::Seen::saw_at, graph_paths::proofs::Seen::saw_past))]
+fn is_done(done: &[bool], number: usize) -> bool
+    ensures { result ≡ saw done.now number }
+{
+    if number < done.len() {
+        done[number]
+    } else {
+        false
+    }
+}
+
+// Whether what a node may choose is known.
+fn is_ready<N: Names>(graph: &Graph<'_, N>, done: &[bool], node: usize) -> bool
+    ensures { result ≡ is_node_ready (N.tree graph.now.names.now) done.now node }
+{
+    match node.checked_sub(graph.base) {
+        None => true,
+        Some(number) => match graph.names.what_at(number) {
+            Some(What::Reference) => is_done(done, number),
+            _ => true,
+        },
+    }
+}
+
+fn are_ready<N: Names>(graph: &Graph<'_, N>, done: &[bool], nodes: &[usize]) -> bool
+    ensures { result ≡ list_all (is_node_ready (N.tree graph.now.names.now) done.now) nodes.now }
+{
+    for &node in nodes {
+        if !is_ready(graph, done, node) {
+            return false;
+        }
+    }
+    true
+}
+
+// The nodes from which what a reference may choose is gathered: those to which it leads, where all of them are known.
+fn sources<N: Names>(
+    alloc: Global,
+    graph: &Graph<'_, N>,
+    done: &[bool],
+    reference: usize,
+) -> Result<Vec<usize>, AllocError>
+    requires { what_at (N.tree graph.now.names.now) reference ≡ Some whats.Reference }
+    ensures { IfOk result (λ nodes. AreSources (N.tree graph.now.names.now) done.now reference nodes.items) }
+{
+    let next = row(graph.next, graph.base + reference);
+    if are_ready(graph, done, next) {
+        let nodes = Vec::from_slice(alloc, next)?;
+        return Ok(nodes);
+    }
+    let searched = reached(alloc, graph, reference)?;
+    Ok(searched)
+}
+
+// What a declared name chooses among, as far as it is known.
+fn chosen_by<'a, N: Names>(names: &'a N, lists: &'a [Vec<usize>], number: usize) -> &'a [usize]
+    ensures { result.now ≡ chosen_by (N.tree names.now) (targets lists.now) number (what_at (N.tree names.now) number) }
+{
+    match names.what_at(number) {
+        Some(What::Group(choice)) | Some(What::Instance(choice)) => names.plain_at(choice),
+        Some(What::Reference) => list_at(lists, number),
+        _ => &[],
+    }
+}
+
+/// A list by its number, the empty one where there is none.
+#[tactic(auto, using(crate::proofs::Rows::row_past))]
+pub(crate) fn list_at(lists: &[Vec<usize>], number: usize) -> &[usize]
+    ensures { result.now ≡ targets lists.now number }
+{
+    if number < lists.len() {
+        row(lists, number)
+    } else {
+        &[]
+    }
+}
+
+// What the declared names among some nodes choose together, as far as it is known.
+fn gathered<N: Names>(
+    alloc: Global,
+    graph: &Graph<'_, N>,
+    lists: &[Vec<usize>],
+    nodes: &[usize],
+) -> Result<Vec<usize>, AllocError>
+    ensures { IfOk result (λ all. all.items ≡ gathered (N.tree graph.now.names.now) (targets lists.now) nodes.now) }
+{
+    let mut all = Vec::new(alloc);
+    for &node in nodes {
+        if let Some(number) = node.checked_sub(graph.base) {
+            all.extend_from_slice(chosen_by(graph.names, lists, number))?;
+        }
+    }
+    Ok(all)
+}
+
+// The numbers of a list, each once and in their order.
+fn in_order(numbers: Vec<usize>) -> Vec<usize>
+    ensures rising { IsStrictlyIncreasing result.items }
+    ensures same { (a : ℕ) → is_in a result.items ≡ is_in a numbers.items }
+{
+    let mut all = numbers;
+    all.sort_unstable();
+    all.dedup();
+    all
+}
+
+/// Gathers what a reference may choose, if that wasn't done.
+pub(crate) fn visit<N: Names>(
+    alloc: Global,
+    graph: &Graph<'_, N>,
+    lists: &mut Vec<Vec<usize>>,
+    done: &mut Vec<bool>,
+    number: usize,
+) -> Result<(), AllocError>
+    requires { IsGathered (N.tree graph.now.names.now) lists.old.items done.old.items }
+    ensures gathered { OnOk result (IsGathered (N.tree graph.now.names.now) lists.new.items done.new.items) }
+    ensures kept { OnOk result ((i : ℕ) → saw done.old.items i ≡ true → saw done.new.items i ≡ true) }
+    ensures done { OnOk result (what_at (N.tree graph.now.names.now) number ≡ Some whats.Reference → saw done.new.items number ≡ true) }
+{
+    if graph.names.what_at(number) != Some(What::Reference) || is_done(done, number) {
+        return Ok(());
+    }
+    let nodes = sources(alloc, graph, done, number)?;
+    let list = in_order(gathered(alloc, graph, lists, &nodes)?);
+    lists[number] = list;
+    done[number] = true;
+    Ok(())
+}

@@ -1,0 +1,80 @@
+//! The operations that references may choose.
+
+ghost use Rattle.std.specs.Prelude.{◌≡◌, ◌<◌, ◌-◌, ℕ, List, [], IfOk, OnOk, Some, length, true, false};
+ghost use Rattle.std.specs.Global.{Vec};
+ghost use Rattle.graph_paths.specs.Paths.{targets, saw};
+ghost use Rattle.graph_paths.specs.Below.{AreBelow};
+ghost use Rattle.description_names.specs.declared.declared.What.TheVariants as whats;
+ghost use Rattle.description_names.specs.Declarations.{what_at};
+ghost use Rattle.description_graph.specs.Graph.{IsGraph};
+ghost use Rattle.text_counts.specs.References.{AreMeanings};
+ghost use Rattle.text_counts.specs.Gathering.{IsGathered};
+
+use crate::gathering::{Graph, list_at, visit};
+use description_names::Names;
+use lisa_words::NoMemory;
+use std::alloc::{AllocError, Global};
+use std::marker::Model;
+
+/// What each reference of a description may choose: operations that are no aliases, each once, in the order of their numbers.
+#[derive(Drop)]
+pub struct Meanings {
+    lists: Vec<Vec<usize>>,
+}
+
+impl Model for Meanings {
+    ghost Value = { List (Vec ℕ) };
+
+    ghost view = { λ m. m.lists.items };
+}
+
+// An empty list for each of so many.
+fn no_lists(alloc: Global, count: usize) -> Result<Vec<Vec<usize>>, AllocError>
+    ensures length { IfOk result (λ lists. length lists.items ≡ count) }
+    ensures none { IfOk result (λ lists. (i : ℕ) → targets lists.items i ≡ []) }
+{
+    let mut lists = Vec::new(alloc);
+    for _number in 0..count {
+        lists.push(Vec::new(alloc))?;
+    }
+    Ok(lists)
+}
+
+impl Meanings {
+    /// Finds them out, from the description's graph. References are gone over in an order of the nodes, in which each should stand behind
+    /// those to which it leads; any order is right.
+    pub fn make<N: Names>(
+        alloc: Global,
+        names: &N,
+        next: &[Vec<usize>],
+        order: &[usize],
+    ) -> Result<Meanings, NoMemory>
+        requires { IsGraph (N.tree names.now) next.now }
+        ensures { IfOk result (λ meanings. AreMeanings (N.tree names.now) (targets meanings)) }
+    {
+        let count = names.entry_count();
+        let graph = Graph {
+            names,
+            next,
+            base: next.len() - count,
+        };
+        let mut lists = no_lists(alloc, count)?;
+        let mut done = vec![in alloc; false; count]?;
+        for &node in order {
+            if let Some(number) = node.checked_sub(graph.base) {
+                visit(alloc, &graph, &mut lists, &mut done, number)?;
+            }
+        }
+        for number in 0..count {
+            visit(alloc, &graph, &mut lists, &mut done, number)?;
+        }
+        Ok(Meanings { lists })
+    }
+
+    /// What a reference may choose, by its number among the declared names; of other names nothing is told.
+    pub fn of_reference(&self, reference: usize) -> &[usize]
+        ensures { result.now ≡ targets self.now reference }
+    {
+        list_at(&self.lists, reference)
+    }
+}
