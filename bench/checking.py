@@ -142,6 +142,23 @@ def many_stages(size):
             + f"OPERATION t{count - 1} IN p.s{count - 1} {{ }}\n" + chain + f"OPERATION u{count} {{ }}\n")
 
 
+def between_circles(size):
+    """A chain of operations between two that reach themselves."""
+    count = size // 60
+    chain = "".join(f"OPERATION o{k} {{ DECLARE {{ INSTANCE o{k + 1}; }} }}\n" for k in range(count))
+    return HEAD + MAIN + chain + f"OPERATION o{count} {{ DECLARE {{ INSTANCE o{count}; }} }}\nOPERATION x {{ DECLARE {{ INSTANCE x, o0; }} }}\n"
+
+
+def listed_often(size):
+    """One operation that another lists under many names, and that refers to many names of it."""
+    count = size // 48
+    instances = ", ".join(f"i{k} = below" for k in range(count))
+    meant = ", ".join(f"n{k} = leaf" for k in range(count))
+    references = ", ".join(f"n{k}" for k in range(count))
+    return (HEAD + MAIN + "OPERATION top { DECLARE { INSTANCE " + instances + ", " + meant + "; } }\nOPERATION below { DECLARE { REFERENCE " + references
+            + "; } }\nOPERATION leaf { EXPRESSION { a } }\n")
+
+
 SHAPES = {
     "many operations": many_operations,
     "many statements": many_statements,
@@ -158,6 +175,8 @@ SHAPES = {
     "a chain of activations": activation_chain,
     "a chain of activations, backward": lambda size: activation_chain(size, True),
     "many stages": many_stages,
+    "a chain between two circles": between_circles,
+    "one operation listed often": listed_often,
 }
 
 

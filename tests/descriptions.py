@@ -119,6 +119,18 @@ GROUPED = REGS + "OPERATION main { DECLARE { GROUP g = { x || y }; } CODING { g 
 refused("a child without expression", GROUPED % "a = g;" + "OPERATION x { CODING { 0b0 } EXPRESSION { a } } OPERATION y { CODING { 0b1 } }", "8 WrongKind operation=main name=g")
 refused("alternatives of two types", GROUPED % "a = g;" + "OPERATION x { CODING { 0b0 } EXPRESSION { a } } OPERATION y { CODING { 0b1 } EXPRESSION { b } }", "8 WrongKind operation=main name=g")
 refused("an alternative that can't be assigned", GROUPED % "g = 1;" + "OPERATION x { CODING { 0b0 } EXPRESSION { a } } OPERATION y { CODING { 0b1 } EXPRESSION { a + c } }", "8 WrongKind operation=main name=g")
+# what is open hides nothing of what the other alternatives break
+OPEN = "OPERATION %s { DECLARE { INSTANCE n = k; } CODING { 0b%s } EXPRESSION { n } } OPERATION k { DECLARE { INSTANCE n = k; } EXPRESSION { n } }"
+THREE = REGS + "OPERATION main { DECLARE { GROUP g = { x || y || z }; } CODING { g } BEHAVIOR { a = g; } } "
+refused("a missing expression beside an open alternative", GROUPED % "a = g;" + "OPERATION x { CODING { 0b0 } } " + OPEN % ("y", "1"), "8 WrongKind operation=main name=g")
+refused("a missing expression behind an open alternative", GROUPED % "a = g;" + "OPERATION y { CODING { 0b0 } } " + OPEN % ("x", "1"), "8 WrongKind operation=main name=g")
+refused("two types before an open alternative",
+        THREE + "OPERATION x { CODING { 0b00 } EXPRESSION { a } } OPERATION y { CODING { 0b01 } EXPRESSION { b } } " + OPEN % ("z", "10"), "8 WrongKind operation=main name=g")
+refused("two types on both sides of an open alternative",
+        THREE + "OPERATION x { CODING { 0b00 } EXPRESSION { a } } OPERATION z { CODING { 0b01 } EXPRESSION { b } } " + OPEN % ("y", "10"), "8 WrongKind operation=main name=g")
+refused("a number assigned beside an open alternative", GROUPED % "g = 1;" + "OPERATION x { CODING { 0b0 } EXPRESSION { 1 } } " + OPEN % ("y", "1"), "8 WrongKind operation=main name=g")
+refused("an open alternative that is read", GROUPED % "a = g;" + "OPERATION x { CODING { 0b0 } EXPRESSION { a } } " + OPEN % ("y", "1"), "14 Circular operation=k")
+refused("an open alternative that is assigned", GROUPED % "g = 1;" + "OPERATION x { CODING { 0b0 } EXPRESSION { a } } " + OPEN % ("y", "1"), "14 Circular operation=k")
 refused("a group outside of the coding that is read",
         REGS + "OPERATION main { DECLARE { GROUP g = { x || y }; } BEHAVIOR { a = g; } } OPERATION x { EXPRESSION { a } } OPERATION y { EXPRESSION { c } }", "8 WrongKind operation=main name=g")
 refused("a group outside of the coding that is called", "RESOURCE { } OPERATION main { DECLARE { GROUP g = { x || y }; } BEHAVIOR { g(); } } OPERATION x { } OPERATION y { }", "8 WrongKind operation=main name=g")
@@ -143,6 +155,9 @@ accepted("a reference to children of one type", ABOVE % ("INSTANCE n = u;", "INS
 refused("a reference of two types", ABOVE % ("INSTANCE n = u;", "INSTANCE n = w;", ""), "8 WrongKind operation=x name=n")
 refused("a reference to a label or a child", ABOVE % ("INSTANCE n = u;", "LABEL n;", ""), "8 WrongKind operation=x name=n")
 refused("a reference of which one can be assigned", ABOVE % ("INSTANCE n = u;", "INSTANCE n = k;", ""), "8 WrongKind operation=x name=n")
+refused("an expression by a reference of which one can be assigned",
+        REGS + "OPERATION main { DECLARE { INSTANCE y, h = x, n = u; } BEHAVIOR { h = 1; } } OPERATION y { DECLARE { INSTANCE x, n = k; } } OPERATION x { DECLARE { REFERENCE n; } EXPRESSION { n } } OPERATION u { EXPRESSION { a } } OPERATION k { EXPRESSION { a + c } }",
+        "8 WrongKind operation=x name=n")
 refused("a reference that is activated", ABOVE % ("INSTANCE n = u;", "INSTANCE n = v;", "ACTIVATION { n }"), "8 WrongKind operation=x name=n")
 
 ALIASED = "RESOURCE { REGISTER uint4 ir; PIPELINE p = { A; B }; } OPERATION main { } OPERATION d { DECLARE { GROUP g = { x || y }; } CODING { ir == g } } OPERATION x { CODING { 0b0000 } SYNTAX { \"X\" } } "
@@ -216,6 +231,9 @@ accepted("a loop of 256 turns", behavior("for (uint16 x = 0; x < 256; x = x + 1)
 
 refused("an operation in itself", "RESOURCE { } " + MAIN + " OPERATION x { DECLARE { INSTANCE x; } }", "14 Circular operation=x")
 refused("two operations in each other", "RESOURCE { } OPERATION main { DECLARE { INSTANCE a; } ACTIVATION { a } } OPERATION a { DECLARE { INSTANCE main; } }", "14 Circular operation=main")
+refused("a chain between two circles",
+        "RESOURCE { } " + MAIN + " OPERATION a { DECLARE { INSTANCE b; } } OPERATION b { DECLARE { INSTANCE y; } } OPERATION x { DECLARE { INSTANCE x, a; } } OPERATION y { DECLARE { INSTANCE y; } }",
+        "14 Circular operation=x")
 refused("a circle through a reference",
         "RESOURCE { } " + MAIN + " OPERATION x { DECLARE { INSTANCE y; INSTANCE n = z; } } OPERATION y { DECLARE { REFERENCE n; } } OPERATION z { DECLARE { INSTANCE y; INSTANCE n = k; } } OPERATION k { }",
         "14 Circular operation=y")
