@@ -15,6 +15,3 @@ pub use laws::paths_are_short;
 pub use ordering::order;
 pub use reaching::{reached_from, row};
 pub use reversing::{add_edge, no_edges, reversed};
-
-#[cfg(test)]
-mod tests;

@@ -4,6 +4,3 @@
 mod rounds;
 
 pub use rounds::{Rule, settle, settle_along};
-
-#[cfg(test)]
-mod tests;

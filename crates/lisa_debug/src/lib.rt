@@ -15,6 +15,3 @@ pub use ends::SessionEnd;
 pub use input::answer_input;
 pub use lisa_engine::TraceEnd;
 pub use session::{Session, Standing};
-
-#[cfg(test)]
-mod tests;

@@ -18,6 +18,3 @@ pub use running::run_edges;
 pub use schedule::{Schedule, ScheduleFault, ScheduleLine, read_number, read_schedule};
 pub use text::{put_cell_text, put_edge_line, put_item_line, write_state};
 pub use trace::{TraceEnd, write_trace};
-
-#[cfg(test)]
-mod tests;

@@ -19,6 +19,3 @@ pub use host::{HostFiles, HostSink, HostSource};
 pub use memory::{MemSink, MemSource};
 pub use outside::{Failed, Files, Flush, Sink, Source};
 pub use whole::{ReadEnd, put_all, read_whole};
-
-#[cfg(test)]
-mod tests;

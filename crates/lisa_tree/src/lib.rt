@@ -18,6 +18,3 @@ pub use expressions::{BoundaryField, Expr, Operator};
 pub use faults::DescFault;
 pub use statements::{ForHead, Stmt};
 pub use tokens::{Base, Keyword, Shape, Sign, Token, TokenPart};
-
-#[cfg(test)]
-mod tests;

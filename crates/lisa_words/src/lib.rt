@@ -17,6 +17,3 @@ pub use digits::{decimal, hex};
 pub use names::{Name, NoMemory};
 pub use numerals::{canonical_decimal, canonical_hex, decimal_value, hex_value};
 pub use words::{Kind, Word};
-
-#[cfg(test)]
-mod tests;

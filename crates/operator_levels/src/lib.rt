@@ -7,6 +7,3 @@ mod operands;
 
 pub use laws::grouped_by_levels;
 pub use operands::{JoinFault, Joined, Operands, level};
-
-#[cfg(test)]
-mod tests;

@@ -11,6 +11,3 @@ mod programs;
 pub use expressions::{OneOp, StepExpr, TwoOp};
 pub use forming::well_formed;
 pub use programs::{Step, StepProgram, Target};
-
-#[cfg(test)]
-mod tests;

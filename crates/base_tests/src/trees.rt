@@ -1,4 +1,4 @@
-use super::*;
+use lisa_tree::{Description, Expr, Operation, Section, Stmt, depth};
 use lisa_words::Name;
 use std::alloc::Global;
 use std::test::Fail;

@@ -1,8 +1,8 @@
-use super::*;
 use lisa_engine::{ArrayItem, Item};
 use lisa_words::{Name, Word};
 use std::alloc::Global;
 use std::test::Fail;
+use step_program::{Step, StepExpr, StepProgram, Target, TwoOp, well_formed};
 
 fn always() -> StepExpr {
     StepExpr::Const(Word { bits: 1, width: 1 })

@@ -1,5 +1,5 @@
 // Sessions over the engine in memory.
-use crate::{Go, Session, SessionEnd, answer_input};
+use lisa_debug::{Go, Session, SessionEnd, answer_input};
 use lisa_engine::{Engine, MemEngine, read_schedule};
 use lisa_io::{Buffered, MemSink, MemSource};
 use std::alloc::Global;

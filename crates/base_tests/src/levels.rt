@@ -1,8 +1,8 @@
 ghost use Rattle.std.specs.Prelude.{ℕ, suc, max, refl};
 
-use crate::{JoinFault, Joined, Operands, grouped_by_levels};
 use lisa_tree::Operator;
 use lisa_words::NoMemory;
+use operator_levels::{JoinFault, Joined, Operands, grouped_by_levels};
 use std::alloc::Global;
 use std::test::Fail;
 

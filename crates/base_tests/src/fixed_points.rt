@@ -1,7 +1,7 @@
 ghost use Rattle.std.specs.Prelude.{ℕ, Option, Some, None, cond, nat_lt};
 ghost use Rattle.std.proofs.Common.{arith};
 
-use crate::{Rule, settle, settle_along};
+use least_fixed_points::{Rule, settle, settle_along};
 use std::test::Fail;
 
 // Each node has the same value, whatever is known.

@@ -1,4 +1,7 @@
-use super::*;
+use lisa_engine::{
+    Engine, Image, ImageMemory, Item, MakeFault, MemEngine, ScheduleFault, first_cells,
+    read_schedule, write_state, write_trace,
+};
 use lisa_io::MemSink;
 use lisa_words::Name;
 use std::alloc::Global;

@@ -3,7 +3,7 @@ ghost use Rattle.std.specs.List.{list_all};
 ghost use Rattle.std.specs.Global.{Vec};
 ghost use Rattle.graph_paths.specs.Paths.{AreNodes};
 
-use crate::{first_circular, reached_from, reversed};
+use graph_paths::{first_circular, reached_from, reversed};
 use std::alloc::Global;
 use std::test::Fail;
 

@@ -1,4 +1,7 @@
-use super::*;
+use lisa_io::{
+    Buffered, Failed, Files, Flush, HostFiles, HostSink, HostSource, MemFile, MemFiles, MemSink,
+    MemSource, ReadEnd, Sink, Source, put_all, read_whole,
+};
 use std::alloc::{AllocError, Global};
 use std::process::Abort;
 use std::test::Fail;

@@ -1,7 +1,10 @@
 // Values that were worked out by hand.
 ghost use Rattle.std.specs.Prelude.{◌≡◌, ◌^◌, ◌<◌, ◌≤◌};
 
-use super::*;
+use lisa_words::{
+    Kind, Name, Word, add, and, canonical_decimal, canonical_hex, cut, decimal, decimal_value, hex,
+    hex_value, less, mul, not, or, shl, shr, sub, widen, xor,
+};
 use std::test::Fail;
 
 fn word(bits: u64, width: u32) -> Word
