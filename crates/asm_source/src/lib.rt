@@ -15,6 +15,3 @@ pub use bytes::is_name;
 pub use flaw::SourceFault;
 pub use parts::{CellValue, LineToken, Part, SourceLine, Sum, Term};
 pub use reader::read_source;
-
-#[cfg(test)]
-mod tests;

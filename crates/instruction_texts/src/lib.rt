@@ -25,6 +25,3 @@ pub use operands::Operand;
 pub use shapes::{Ending, Shape, Token};
 pub use starts::Start;
 pub use writing::text_of;
-
-#[cfg(test)]
-mod tests;

@@ -19,6 +19,3 @@ pub use image_text::print_image;
 pub use object_reader::read_object;
 pub use object_text::print_object;
 pub use parts::{FixKind, Object, ObjectLine, Stamped};
-
-#[cfg(test)]
-mod tests;

@@ -23,6 +23,3 @@ pub use fields::{Place, encode, field};
 pub use overlaps::{Overlap, first_overlap};
 pub use steps::Steps;
 pub use table::PatternTable;
-
-#[cfg(test)]
-mod tests;

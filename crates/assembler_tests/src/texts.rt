@@ -1,9 +1,9 @@
 // Texts of some forms, worked out by hand.
-use crate::{
+use asm_source::{LineToken, Part, SourceLine, read_source};
+use instruction_texts::{
     Operand, Shape, Start, are_sized, common_text, first_start, holds, matches, negative_start,
     starts_of, text_of,
 };
-use asm_source::{LineToken, Part, SourceLine, read_source};
 use lisa_words::Name;
 use std::alloc::Global;
 

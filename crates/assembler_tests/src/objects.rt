@@ -1,4 +1,4 @@
-use crate::{ImageFault, ObjectFault, print_image, print_object, read_image, read_object};
+use lisa_object::{ImageFault, ObjectFault, print_image, print_object, read_image, read_object};
 use std::alloc::Global;
 use std::test::Fail;
 

@@ -2,7 +2,7 @@
 //! free bits; BR is `10` and a number of six; and INC, an alias, is ADDI with the number 1.
 ghost use Rattle.std.specs.Prelude.{◌≡◌, ◌<◌, ◌^◌, length};
 
-use crate::{
+use pattern_tables::{
     BitPattern, Decoder, Overlap, Place, common_word, covers, encode, field, first_overlap,
     first_uncovered,
 };

@@ -1,4 +1,4 @@
-use crate::{CellValue, LineToken, Part, SourceFault, SourceLine, read_source};
+use asm_source::{CellValue, LineToken, Part, SourceFault, SourceLine, read_source};
 use std::alloc::Global;
 use std::test::Fail;
 

@@ -1,0 +1,11 @@
+//! Tests of sources, objects and images, and of the patterns and texts of instructions.
+#![tactic(auto)]
+
+#[cfg(test)]
+mod objects;
+#[cfg(test)]
+mod patterns;
+#[cfg(test)]
+mod sources;
+#[cfg(test)]
+mod texts;
