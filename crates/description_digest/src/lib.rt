@@ -28,6 +28,3 @@ pub fn digest(alloc: Global, d: &Description) -> Result<[u8; 32], NoMemory>
     let text = print_description(alloc, d)?;
     Ok(hashed(&text))
 }
-
-#[cfg(test)]
-mod tests;

@@ -12,6 +12,3 @@ mod rows;
 pub use circles::{first_circular_among, first_circular_operation};
 pub use graph::edges;
 pub use laws::nodes_are_acyclic;
-
-#[cfg(test)]
-mod tests;

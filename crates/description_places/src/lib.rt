@@ -16,6 +16,3 @@ pub use laws::no_place_is_at_fault;
 pub use scopes::{Local, Scope};
 pub use sites::{Condition, Region, Site};
 pub use walks::first_fault;
-
-#[cfg(test)]
-mod tests;

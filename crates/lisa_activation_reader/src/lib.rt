@@ -8,6 +8,3 @@ mod laws;
 
 pub use items::activation;
 pub use laws::activations_are_read;
-
-#[cfg(test)]
-mod tests;

@@ -19,6 +19,3 @@ pub use misses::Missed;
 pub use reading::{fault, read_expression, read_statements};
 pub use signs::{name, number, past};
 pub use stmts::statements;
-
-#[cfg(test)]
-mod tests;

@@ -9,6 +9,3 @@ mod words;
 
 pub use brackets::too_deep;
 pub use reading::{tokens, tokens_are_unique, written_tokens_are_read};
-
-#[cfg(test)]
-mod tests;

@@ -53,6 +53,3 @@ fn put_description(alloc: Global, page: &mut Page, d: &Description) -> Result<()
     put_sign(page, Sign::CloseBrace)?;
     put_operations(alloc, page, &d.operations)
 }
-
-#[cfg(test)]
-mod tests;

@@ -11,8 +11,3 @@ mod skipping;
 
 pub use laws::descriptions_are_unique;
 pub use reading::read_description;
-
-#[cfg(test)]
-mod samples;
-#[cfg(test)]
-mod tests;

@@ -14,6 +14,3 @@ pub use laws::{codings_are_read, declares_are_read, resources_are_read, syntaxes
 pub use lists::{fields, names, typed, without};
 pub use resources::{all_resources, ends};
 pub use syntaxes::syntax;
-
-#[cfg(test)]
-mod tests;

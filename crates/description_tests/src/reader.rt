@@ -1,6 +1,7 @@
 //! Descriptions and faults of small texts and of the samples.
 
-use crate::{descriptions_are_unique, read_description, samples};
+use crate::samples;
+use lisa_reader::{descriptions_are_unique, read_description};
 use lisa_tree::{DescFault, Description, Resource, Section};
 use std::alloc::Global;
 use std::test::Fail;

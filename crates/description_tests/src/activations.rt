@@ -1,4 +1,4 @@
-use crate::{activation, activations_are_read};
+use lisa_activation_reader::{activation, activations_are_read};
 use lisa_tree::{Act, Keyword, Sign, Token, TokenPart};
 use lisa_words::Name;
 use std::alloc::{AllocError, Global};

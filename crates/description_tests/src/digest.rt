@@ -1,6 +1,6 @@
 // The digest of a small description.
-use super::*;
-use lisa_tree::{RegisterWord, Resource, Shape};
+use description_digest::digest;
+use lisa_tree::{Description, RegisterWord, Resource, Shape};
 use lisa_words::{Kind, Name};
 use std::test::Fail;
 

@@ -1,4 +1,4 @@
-use crate::{
+use lisa_section_reader::{
     all_declares, all_resources, coding, codings_are_read, declares_are_read, resources_are_read,
     syntax, syntaxes_are_read,
 };

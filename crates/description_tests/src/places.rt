@@ -1,6 +1,6 @@
 ghost use Rattle.description_places.specs.Doubles.{doubled};
 
-use crate::{Condition, Region, Scope, Site, first_fault};
+use description_places::{Condition, Region, Scope, Site, first_fault};
 use lisa_tree::{DescFault, Description, Expr, ForHead, Operation, Section, Shape, Stmt};
 use lisa_words::{Kind, Name, NoMemory};
 use std::alloc::Global;

@@ -1,4 +1,4 @@
-use crate::{edges, first_circular_operation};
+use description_graph::{edges, first_circular_operation};
 use description_names::{Meaning, Names, What};
 use description_tables::Tables;
 use lisa_tree::{Declare, Description, Operation, Resource, Section, Shape};

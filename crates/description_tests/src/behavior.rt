@@ -1,4 +1,4 @@
-use crate::{one_behavior, one_expression, read_expression, read_statements};
+use lisa_behav_reader::{one_behavior, one_expression, read_expression, read_statements};
 use lisa_tree::{DescFault, Expr, Keyword, Operator, Sign, Stmt, Token, TokenPart};
 use lisa_words::Name;
 use std::alloc::{AllocError, Global};

@@ -1,8 +1,10 @@
-use super::*;
+use lisa_printer::print_description;
 use lisa_tree::{
-    Base, Declare, Expr, Operation, Operator, RegisterWord, Resource, Section, Shape, Stmt,
+    Base, Declare, Description, Expr, Operation, Operator, RegisterWord, Resource, Section, Shape,
+    Stmt,
 };
 use lisa_words::{Kind, Name};
+use std::alloc::Global;
 use std::test::Fail;
 
 const BYTE: Shape = Shape {

@@ -2,7 +2,7 @@
 
 ghost use Rattle.std.specs.Prelude.{◌<◌, ◌^◌, length};
 
-use crate::{tokens, too_deep};
+use lisa_lexer::{tokens, too_deep};
 use lisa_tree::{DescFault, TokenPart};
 use std::alloc::Global;
 use std::test::Fail;
