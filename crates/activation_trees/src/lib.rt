@@ -13,8 +13,3 @@ pub use laws::{activators_come_first, further_levels_unfold_nothing, occurrences
 pub use listing::{count_items, items};
 pub use parts::Occurrence;
 pub use unfolding::occurrences;
-
-#[cfg(test)]
-mod sample;
-#[cfg(test)]
-mod tests;

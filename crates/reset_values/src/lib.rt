@@ -7,8 +7,3 @@ mod running;
 
 pub use counts::{count_statement, count_statements};
 pub use running::reset_values;
-
-#[cfg(test)]
-mod sample;
-#[cfg(test)]
-mod tests;

@@ -9,6 +9,3 @@ mod widths;
 
 pub use bounds::{Bounds, bounds_of};
 pub use firsts::{first_bad_depth, first_bad_width, first_long_loop, first_unbounded_loop};
-
-#[cfg(test)]
-mod tests;

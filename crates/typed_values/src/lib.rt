@@ -9,6 +9,3 @@ mod values;
 pub use expressions::{Reads, evaluate};
 pub use operators::{chosen, two};
 pub use values::Value;
-
-#[cfg(test)]
-mod tests;

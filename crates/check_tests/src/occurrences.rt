@@ -2,8 +2,10 @@
 ghost use Rattle.std.specs.Prelude.{None, OnOk};
 ghost use Rattle.description_graph.specs.Circles.{IsFirstCircularOperation};
 
-use crate::sample::{alias, choosing, description, instances, leaf, name, root};
-use crate::{Occurrence, count_items, count_occurrences, first_root_twice, items, occurrences};
+use crate::samples::{alias, choosing, description, instances, leaf, name, root};
+use activation_trees::{
+    Occurrence, count_items, count_occurrences, first_root_twice, items, occurrences,
+};
 use description_graph::first_circular_operation;
 use description_names::Names;
 use description_tables::Tables;

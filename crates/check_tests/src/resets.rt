@@ -1,8 +1,11 @@
 // Values that were worked out by hand.
-use super::*;
-use crate::sample::Sample;
-use lisa_tree::{Base, Expr, ForHead, Operator, Shape, Stmt};
+use description_tables::Tables;
+use lisa_tree::{
+    Base, Description, Expr, ForHead, Operation, Operator, RegisterWord, Resource, Section, Shape,
+    Stmt,
+};
 use lisa_words::{Kind, Name, NoMemory};
+use reset_values::{count_statement, count_statements, reset_values};
 use std::alloc::Global;
 use std::test::Fail;
 use typed_values::Value;
@@ -93,11 +96,34 @@ fn parts(value: Value) -> (Kind, u32, u64) {
     (value.kind, value.word.width, value.word.bits)
 }
 
+fn register(alloc: Global, kind: Kind, width: u32, name: &[u8]) -> Result<Resource, NoMemory> {
+    let shape = Shape { kind, width };
+    let name = Name::from_bytes(alloc, name)?;
+    Ok(Resource::Register(RegisterWord::Register, shape, name, None))
+}
+
+// Registers `int16 a` and `uint8 b`, and a `reset`.
+fn description(alloc: Global, statements: Vec<Stmt>) -> Result<Description, NoMemory> {
+    let a = register(alloc, Kind::Signed, 16, b"a")?;
+    let b = register(alloc, Kind::Unsigned, 8, b"b")?;
+    let reset = Operation {
+        name: Name::from_bytes(alloc, b"reset")?,
+        alias: false,
+        stage: None,
+        sections: vec![in alloc; Section::Behavior(statements)]?,
+    };
+    Ok(Description {
+        resources: vec![in alloc; a, b]?,
+        operations: vec![in alloc; reset]?,
+    })
+}
+
 #[test]
 fn reset_gives_registers_their_values(rt: HostRuntime) -> Result<(), Fail> {
     let alloc = rt.alloc();
-    let sample = Sample::new(alloc, statements(alloc)?)?;
-    let values = reset_values(alloc, &sample)?;
+    let description = description(alloc, statements(alloc)?)?;
+    let names = Tables::make(alloc, &description)?;
+    let values = reset_values(alloc, &names)?;
     assert_eq!(rt; values.len(), 2);
     assert_eq!(rt; parts(values[0]), (Kind::Signed, 16, 0xffc8));
     assert_eq!(rt; parts(values[1]), (Kind::Unsigned, 8, 50));

@@ -5,11 +5,11 @@ ghost use Rattle.lisa_words.specs.declared.words.Kind.TheVariants as kinds;
 ghost use Rattle.description_types.specs.Shapes.{shape_of};
 ghost use Rattle.typed_values.specs.Expressions.{Reader};
 
-use super::*;
 use lisa_tree::{Base, BoundaryField, Expr, Operator, Shape};
 use lisa_words::{Kind, Name};
 use std::alloc::Global;
 use std::test::Fail;
+use typed_values::{Reads, Value, chosen, evaluate, two};
 
 fn shape(kind: Kind, width: u32) -> Shape {
     Shape { kind, width }

@@ -1,9 +1,11 @@
-use super::*;
 use lisa_tree::{
     Base, DescFault, Description, Expr, ForHead, MemoryWord, Operation, Operator, Resource,
     Section, Shape, Stmt,
 };
 use lisa_words::{Kind, Name};
+use shape_checks::{
+    bounds_of, first_bad_depth, first_bad_width, first_long_loop, first_unbounded_loop,
+};
 use std::alloc::Global;
 use std::test::Fail;
 
