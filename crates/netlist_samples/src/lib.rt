@@ -1,12 +1,10 @@
-//! Step programs whose states are worked out by hand, and tests that clock their modules.
+//! Step programs whose states are worked out by hand, and their modules.
 #![tactic(auto)]
 
 mod modules;
 mod naming;
 mod parts;
 mod samples;
-#[cfg(test)]
-mod tests;
 
 pub use modules::{clocked, is_buildable, read_back, written};
 pub use naming::named_apart;

@@ -11,6 +11,3 @@ mod names;
 pub use actions::{action, plain};
 pub use laws::actions_are_read;
 pub use names::name;
-
-#[cfg(test)]
-mod tests;

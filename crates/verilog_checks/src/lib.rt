@@ -10,6 +10,3 @@ mod tables;
 mod uses;
 
 pub use checks::check_names;
-
-#[cfg(test)]
-mod tests;

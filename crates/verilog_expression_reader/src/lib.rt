@@ -9,8 +9,6 @@ mod expressions;
 mod laws;
 mod misses;
 mod signs;
-#[cfg(test)]
-mod tests;
 
 pub use depths::Measured;
 pub use expressions::expression;

@@ -10,6 +10,3 @@ mod settings;
 
 pub use laws::{lexed_tokens_fit, one_module};
 pub use reading::read_placed;
-
-#[cfg(test)]
-mod tests;

@@ -9,6 +9,3 @@ mod stripping;
 pub use expressions::PlacedExpr;
 pub use modules::{PlacedAction, PlacedInput, PlacedMember, PlacedModule};
 pub use stripping::strip;
-
-#[cfg(test)]
-mod tests;

@@ -8,8 +8,3 @@ mod reading;
 
 pub use laws::modules_are_unique;
 pub use reading::read_module;
-
-#[cfg(test)]
-mod samples;
-#[cfg(test)]
-mod tests;

@@ -14,6 +14,3 @@ mod tables;
 mod widths;
 
 pub use check::check_sizes;
-
-#[cfg(test)]
-mod tests;

@@ -1,10 +1,10 @@
-use crate::{
-    Lines, clocked, double_sum, guarded_writes, is_buildable, long_chain, mixed_steps, named_apart,
-    narrow_and_wide, printable_bytes, printable_names, read_back, swap, through_a_cell, written,
-};
 use lisa_engine::{Engine, Image, Item, read_schedule, write_trace};
 use lisa_io::MemSink;
 use lisa_words::Name;
+use netlist_samples::{
+    Lines, clocked, double_sum, guarded_writes, is_buildable, long_chain, mixed_steps, named_apart,
+    narrow_and_wide, printable_bytes, printable_names, read_back, swap, through_a_cell, written,
+};
 use std::alloc::Global;
 use std::test::Fail;
 use step_program::StepProgram;

@@ -1,8 +1,8 @@
-use crate::check_names;
 use lisa_engine::{ArrayItem, Item};
 use lisa_words::{Name, NoMemory, Word};
 use std::alloc::Global;
 use std::test::Fail;
+use verilog_checks::check_names;
 use verilog_places::{PlacedAction, PlacedExpr, PlacedInput, PlacedMember, PlacedModule};
 use verilog_text::VerilogFault;
 

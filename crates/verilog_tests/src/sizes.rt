@@ -1,9 +1,9 @@
-use crate::check_sizes;
 use lisa_engine::{ArrayItem, Item};
 use lisa_words::Name;
 use std::alloc::Global;
 use std::test::Fail;
 use verilog_places::{PlacedAction, PlacedExpr, PlacedInput, PlacedMember, PlacedModule};
+use verilog_size_checks::check_sizes;
 use verilog_text::VerilogFault;
 
 fn name(alloc: Global, bytes: &[u8]) -> Result<Name, Fail> {

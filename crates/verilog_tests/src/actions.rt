@@ -1,7 +1,7 @@
-use crate::{action, actions_are_read};
 use lisa_words::{Name, Word};
 use std::alloc::Global;
 use std::test::Fail;
+use verilog_action_reader::{action, actions_are_read};
 use verilog_expression_reader::Missed;
 use verilog_places::PlacedAction;
 use verilog_text::{VKeyword, VSign, VToken, VTokenPart};

@@ -1,8 +1,8 @@
-use crate::{PlacedAction, PlacedExpr, PlacedInput, PlacedMember, PlacedModule, strip};
 use lisa_engine::Item;
 use lisa_words::Name;
 use std::alloc::Global;
 use std::test::Fail;
+use verilog_places::{PlacedAction, PlacedExpr, PlacedInput, PlacedMember, PlacedModule, strip};
 use verilog_text::{Action, Member, VExpr};
 
 fn item(alloc: Global, name: &[u8], width: u32) -> Result<Item, Fail> {

@@ -1,8 +1,8 @@
-use crate::sample;
 use lisa_engine::{Engine, Image, read_schedule, write_trace};
 use lisa_io::MemSink;
 use std::test::Fail;
 use verilog_clock::Clock;
+use verilog_samples::sample;
 
 #[test]
 fn lengths_and_updates_are_those_of_the_standard(rt: HostRuntime) -> Result<(), Fail> {

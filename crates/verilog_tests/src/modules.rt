@@ -1,7 +1,7 @@
-use crate::{lexed_tokens_fit, one_module, read_placed};
 use lisa_words::{Name, Word};
 use std::alloc::Global;
 use std::test::Fail;
+use verilog_module_reader::{lexed_tokens_fit, one_module, read_placed};
 use verilog_places::{PlacedMember, PlacedModule};
 use verilog_text::{VKeyword, VSign, VToken, VTokenPart, VerilogFault};
 

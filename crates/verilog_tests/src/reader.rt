@@ -4,9 +4,10 @@ ghost use Rattle.std.specs.Prelude.{IfOk};
 ghost use Rattle.verilog_text.specs.Trees.{module_tree};
 ghost use Rattle.verilog_text.specs.Faults.{VAccepts};
 
-use crate::{modules_are_unique, read_module, samples};
+use crate::samples;
 use std::alloc::Global;
 use std::test::Fail;
+use verilog_reader::{modules_are_unique, read_module};
 use verilog_text::{Module, VerilogFault, print_module};
 
 // The most bytes of a text of a test.

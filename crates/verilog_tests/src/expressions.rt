@@ -1,8 +1,8 @@
-use crate::{Missed, expression, number, one_expression, past};
 use lisa_tree::Operator;
 use lisa_words::Name;
 use std::alloc::Global;
 use std::test::Fail;
+use verilog_expression_reader::{Missed, expression, number, one_expression, past};
 use verilog_places::PlacedExpr;
 use verilog_text::{VOne, VSign, VToken, VTokenPart};
 
