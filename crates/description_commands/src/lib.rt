@@ -14,6 +14,3 @@ mod thin;
 pub use checks::check_file;
 pub use commands::{do_with_description, format_file};
 pub use reading::description_of;
-
-#[cfg(test)]
-mod tests;

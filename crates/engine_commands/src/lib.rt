@@ -12,6 +12,3 @@ mod tasks;
 
 pub use images::image_of;
 pub use tasks::{Task, do_task};
-
-#[cfg(test)]
-mod tests;

@@ -12,6 +12,3 @@ mod top;
 
 pub use lisa_outcomes::{End, FileFault, InputFault, LaterFault, Refusal, Status};
 pub use top::lisa;
-
-#[cfg(test)]
-mod tests;

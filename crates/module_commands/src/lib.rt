@@ -8,6 +8,3 @@ mod designs;
 mod parts;
 
 pub use clocking::do_with_module;
-
-#[cfg(test)]
-mod tests;

@@ -1,5 +1,5 @@
 // The program over files and streams in memory.
-use super::*;
+use lisa_cli::{Status, lisa};
 use lisa_io::{MemFile, MemFiles, MemSink, MemSource};
 use std::alloc::Global;
 use std::test::Fail;

@@ -1,5 +1,5 @@
 // Tasks over the engine in memory.
-use crate::{Task, do_task, image_of};
+use engine_commands::{Task, do_task, image_of};
 use lisa_engine::MemEngine;
 use lisa_io::{MemSink, MemSource};
 use lisa_outcomes::{End, Refusal, RunBytes};

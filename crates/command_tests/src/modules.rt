@@ -1,8 +1,8 @@
 // The commands on modules over files in memory.
-use crate::do_with_module;
 use engine_commands::Task;
 use lisa_io::{MemFile, MemFiles, MemSink, MemSource};
 use lisa_outcomes::{End, Refusal, RunNames};
+use module_commands::do_with_module;
 use std::alloc::Global;
 use std::test::Fail;
 

@@ -1,5 +1,5 @@
 // Tasks over descriptions in memory.
-use crate::do_with_description;
+use description_commands::do_with_description;
 use engine_commands::Task;
 use lisa_io::{MemFile, MemFiles, MemSink, MemSource};
 use lisa_outcomes::{End, Refusal};
