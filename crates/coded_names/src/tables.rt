@@ -89,10 +89,7 @@ fn widths(alloc: Global, part: Option<&CodingPart>) -> Result<IndexMap<Name, u32
     ensures { IfOk result (λ table. (n : List ℕ) → get same_name table n ≡ field_width n (option_map (λ part. coding_tree part.now) part.entry)) }
 {
     match part {
-        Some(CodingPart::Items(items)) => {
-            let table = items_widths(alloc, items)?;
-            Ok(table)
-        }
+        Some(CodingPart::Items(items)) => items_widths(alloc, items),
         _ => Ok(IndexMap::new(alloc)),
     }
 }
@@ -102,10 +99,7 @@ fn children(alloc: Global, part: Option<&CodingPart>) -> Result<IndexMap<Name, b
 {
     match part {
         None => Ok(IndexMap::new(alloc)),
-        Some(CodingPart::Items(items)) => {
-            let table = items_children(alloc, items)?;
-            Ok(table)
-        }
+        Some(CodingPart::Items(items)) => items_children(alloc, items),
         Some(CodingPart::Root(_, group)) => {
             let mut table = IndexMap::new(alloc);
             note(&mut table, group, true)?;
@@ -119,10 +113,7 @@ fn kinds(alloc: Global, items: Option<&[SyntaxItem]>) -> Result<IndexMap<Name, K
 {
     match items {
         None => Ok(IndexMap::new(alloc)),
-        Some(items) => {
-            let table = parts_kinds(alloc, items)?;
-            Ok(table)
-        }
+        Some(items) => parts_kinds(alloc, items),
     }
 }
 

@@ -11,6 +11,7 @@ pub mod Checked
 pub mod LineTexts
 pub mod Played
 pub mod Edges
+pub mod Forms
 pub mod Rows
 pub mod Silent
 pub mod Touched

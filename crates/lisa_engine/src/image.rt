@@ -10,16 +10,13 @@ use crate::parts::ArrayItem;
 use lisa_words::{Name, NoMemory};
 use std::alloc::{AllocError, AllocFailed, Global};
 use std::marker::Model;
-use thiserror::Error;
 
 /// Why no engine was made.
-#[derive(Debug, Drop, Error)]
+#[derive(Debug, Drop)]
 pub enum MakeFault {
     /// No array has this name, width and depth.
-    #[error("no such memory: {name}")]
     NoSuchMemory { name: Name },
     /// Memory was wanted and not given.
-    #[error("out of memory")]
     NoMemory,
 }
 

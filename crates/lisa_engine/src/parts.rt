@@ -25,7 +25,7 @@ pub struct Touch {
 }
 
 /// A pin, by its place, and its new value.
-#[derive(Clone, Copy, Debug, PartialEq, Eq)]
+#[derive(Clone, Copy, Debug)]
 pub struct Setting {
     pub pin: usize,
     pub value: u64,

@@ -11,25 +11,19 @@ use crate::parts::{Item, Setting};
 use lisa_words::{Name, NoMemory, canonical_decimal, hex_value};
 use std::alloc::{AllocError, AllocFailed, Global};
 use std::marker::Model;
-use thiserror::Error;
 
 /// Why a schedule wasn't read. Lines are counted from 1, and the first line with a fault counts.
-#[derive(Debug, Drop, Error)]
+#[derive(Debug, Drop)]
 pub enum ScheduleFault {
     /// The line is no edge number with one or more settings, or names a pin twice.
-    #[error("line {line} is no line of a schedule")]
     BadLine { line: u32 },
     /// No pin has this name.
-    #[error("line {line}: unknown pin {name}")]
     UnknownPin { line: u32, name: Name },
     /// The line's edge is 0, or not above the edge of the line before.
-    #[error("line {line} is not after the line before")]
     NotRising { line: u32 },
     /// The value doesn't fit the pin.
-    #[error("line {line}: {value} is too wide for the pin {name}")]
     PinRange { line: u32, name: Name, value: u64 },
     /// Memory was wanted and not given.
-    #[error("out of memory")]
     NoMemory,
 }
 

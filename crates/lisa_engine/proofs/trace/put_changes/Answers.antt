@@ -7,6 +7,9 @@ use Rattle.lisa_engine.specs.Text.{changed_cells}
 use Rattle.lisa_engine.proofs.CellTexts.{same_arrays}
 use Rattle.lisa_engine.proofs.trace.put_changes.Goals as goal
 
+pub returns-in_err-put_edge_line-clause-puts : goal.returns-in_err-put_edge_line-clause-puts
+returns-in_err-put_edge_line-clause-puts g c = puts_exit _ _ c.from_residual.ensures.1 (puts_stop _ c.in_err-put_edge_line.ensures)
+
 pub returns-in_err-put_changed_items-clause-puts : goal.returns-in_err-put_changed_items-clause-puts
 returns-in_err-put_changed_items-clause-puts g c =
     puts_exit _ _ c.from_residual-in_err-put_changed_items.ensures.1
