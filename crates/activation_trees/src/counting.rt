@@ -131,8 +131,7 @@ pub fn count_occurrences<N: Names>(alloc: Global, names: &N) -> Result<u64, NoMe
     requires acyclic { IsFirstCircularOperation (N.tree names.now) None }
     ensures { IfOk result (λ count. count ≡ occurrence_count (N.tree names.now)) }
 {
-    let count = count(alloc, names, None)?;
-    Ok(count)
+    count(alloc, names, None)
 }
 
 // Whether an operation has the root, and one before it has, or it has two occurrences.

@@ -127,8 +127,7 @@ fn starts<N: Names>(alloc: Global, names: &N, operation: usize) -> Result<Vec<St
     ensures { IfOk result (λ row. row.items ≡ starts (N.tree names.now) operation) }
 {
     let all = activation_names(alloc, sections(names, operation))?;
-    let row = starts_named(alloc, names, operation, &all)?;
-    Ok(row)
+    starts_named(alloc, names, operation, &all)
 }
 
 /// The items of all operations' activations.

@@ -76,8 +76,7 @@ fn child<N: Names>(
     ensures { IfOk result (λ found. found ≡ child (N.tree names.now) number above (activation by_root operation)) }
 {
     let past_root = above.past_root || by_root;
-    let found = occurrence(names, Some(number), above.stage, past_root, operation)?;
-    Ok(found)
+    occurrence(names, Some(number), above.stage, past_root, operation)
 }
 
 // Adds the children that an item makes.

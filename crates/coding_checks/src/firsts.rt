@@ -33,8 +33,7 @@ fn group_width<N: Names>(
         widths,
         uneven: &uneven,
     };
-    let found = first_fault(alloc, &condition, names.description())?;
-    Ok(found)
+    first_fault(alloc, &condition, names.description())
 }
 
 /// The first child of a coding whose alternatives have no coding, are too wide or differ in width, or root over a place of another width
@@ -47,8 +46,7 @@ pub fn first_group_width<N: Names>(
     requires { AreWidths (N.tree names.now) (entry widths.now) }
     ensures { IfOk result (λ found. IsFirstGroupWidth (N.tree names.now) found) }
 {
-    let found = group_width(alloc, names, widths)?;
-    Ok(found)
+    group_width(alloc, names, widths)
 }
 
 /// The first label, or child of a coding, that doesn't stand once in the coding and once in the syntax of its operation, or child of a
@@ -62,6 +60,5 @@ pub fn first_not_written<N: Names>(alloc: Global, names: &N) -> Result<Option<De
         names,
         writings: &writings,
     };
-    let found = first_fault(alloc, &condition, names.description())?;
-    Ok(found)
+    first_fault(alloc, &condition, names.description())
 }

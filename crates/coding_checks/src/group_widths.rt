@@ -119,13 +119,11 @@ impl<'a, N: Names> Condition for GroupWidths<'a, N> {
         match site {
             Site::Operand(name) => {
                 let uneven = child_uneven(self, operation, name);
-                let found = uneven_fault(self.alloc, self.names, operation, name, uneven)?;
-                Ok(found)
+                uneven_fault(self.alloc, self.names, operation, name, uneven)
             }
             Site::Root(register, group) => {
                 let uneven = root_uneven(self, operation, register, group);
-                let found = uneven_fault(self.alloc, self.names, operation, group, uneven)?;
-                Ok(found)
+                uneven_fault(self.alloc, self.names, operation, group, uneven)
             }
             _ => Ok(None),
         }

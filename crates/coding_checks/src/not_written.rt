@@ -55,25 +55,11 @@ impl<'a, N: Names> Condition for NotWritten<'a, N> {
         match site {
             Site::Declared(_, name) => {
                 let writing = writing_named(self.names, self.writings, operation, name);
-                let found = unwritten_fault(
-                    self.alloc,
-                    self.names,
-                    operation,
-                    name,
-                    writing.missing,
-                )?;
-                Ok(found)
+                unwritten_fault(self.alloc, self.names, operation, name, writing.missing)
             }
             Site::Shown(name) => {
                 let writing = writing_named(self.names, self.writings, operation, name);
-                let found = unwritten_fault(
-                    self.alloc,
-                    self.names,
-                    operation,
-                    name,
-                    writing.extra,
-                )?;
-                Ok(found)
+                unwritten_fault(self.alloc, self.names, operation, name, writing.extra)
             }
             _ => Ok(None),
         }

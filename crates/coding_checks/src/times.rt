@@ -82,10 +82,7 @@ fn coded_times(
     ensures { IfOk result (λ table. (n : List ℕ) → get same_name table n ≡ times_for (coded_count n (option_map (λ part. coding_tree part.now) part.entry))) }
 {
     match part {
-        Some(CodingPart::Items(items)) => {
-            let table = items_times(alloc, items)?;
-            Ok(table)
-        }
+        Some(CodingPart::Items(items)) => items_times(alloc, items),
         _ => Ok(IndexMap::new(alloc)),
     }
 }
@@ -98,10 +95,7 @@ fn shown_times(
 {
     match items {
         None => Ok(IndexMap::new(alloc)),
-        Some(items) => {
-            let table = parts_times(alloc, items)?;
-            Ok(table)
-        }
+        Some(items) => parts_times(alloc, items),
     }
 }
 

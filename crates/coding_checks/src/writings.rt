@@ -63,8 +63,7 @@ fn change<'a, N: Names>(
     if operation == owner {
         return Ok(written);
     }
-    let changed = WrittenNames::make(alloc, sections(names, operation))?;
-    Ok(changed)
+    WrittenNames::make(alloc, sections(names, operation))
 }
 
 /// What is amiss with each declared name. The codings and syntaxes are gone over once for each operation that declares names.

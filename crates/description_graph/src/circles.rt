@@ -39,6 +39,5 @@ pub fn first_circular_operation<N: Names>(
     ensures { IfOk result (λ found. IsFirstCircularOperation (N.tree names.now) found) }
 {
     let next = edges(alloc, names)?;
-    let found = first_circular_among(alloc, names, &next)?;
-    Ok(found)
+    first_circular_among(alloc, names, &next)
 }

@@ -25,8 +25,7 @@ fn test_start<C: Condition>(
     ensures { IfOk result (λ found. found ≡ first (C.breaks condition.now) (act_places operation (acts.Start name.now))) }
 {
     let scope = Scope::new(alloc);
-    let found = condition.test(operation, Region::Activation, &scope, Site::Starts(name))?;
-    Ok(found)
+    condition.test(operation, Region::Activation, &scope, Site::Starts(name))
 }
 
 // The first fault of the test of a choice.
@@ -39,8 +38,7 @@ fn walk_test<C: Condition>(
     ensures { IfOk result (λ found. found ≡ first (C.breaks condition.now) (uses operation regions.Activation [] (expr_tree test.now))) }
 {
     let scope = Scope::new(alloc);
-    let found = walk_expression(condition, operation, Region::Activation, &scope, test)?;
-    Ok(found)
+    walk_expression(condition, operation, Region::Activation, &scope, test)
 }
 
 // The first fault of an item of an activation, where no local is in scope.
@@ -87,8 +85,7 @@ fn walk_chosen<C: Condition>(
     if let Some(fault) = walk_test(alloc, condition, operation, test)? {
         return Ok(Some(fault));
     }
-    let found = walk_acts(alloc, condition, operation, chosen)?;
-    Ok(found)
+    walk_acts(alloc, condition, operation, chosen)
 }
 
 /// The first fault of the items of an activation, where no local is in scope.

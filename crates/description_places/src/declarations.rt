@@ -49,8 +49,7 @@ fn walk_instance<C: Condition>(
     if let Some(fault) = condition.test(operation, Region::Declares, scope, site)? {
         return Ok(Some(fault));
     }
-    let found = condition.test(operation, Region::Declares, scope, Site::Stands(stands))?;
-    Ok(found)
+    condition.test(operation, Region::Declares, scope, Site::Stands(stands))
 }
 
 // The first fault of declared instances, the first of which has the given number.
@@ -104,16 +103,11 @@ fn walk_declare<C: Condition>(
                 return Ok(Some(fault));
             }
             let site = Site::Alternatives(alternatives);
-            let found = condition.test(operation, Region::Declares, scope, site)?;
-            Ok(found)
+            condition.test(operation, Region::Declares, scope, site)
         }
-        Declare::Instance(pairs) => {
-            let found = walk_instances(condition, operation, scope, number, pairs)?;
-            Ok(found)
-        }
+        Declare::Instance(pairs) => walk_instances(condition, operation, scope, number, pairs),
         Declare::Label(names) | Declare::Reference(names) => {
-            let found = walk_names(condition, operation, scope, number, names)?;
-            Ok(found)
+            walk_names(condition, operation, scope, number, names)
         }
     }
 }

@@ -22,10 +22,7 @@ pub(crate) fn walk_expression<C: Condition>(
 {
     match expression {
         Expr::Number(_, _) => Ok(None),
-        Expr::Named(name) => {
-            let found = condition.test(operation, region, scope, Site::Reads(name))?;
-            Ok(found)
-        }
+        Expr::Named(name) => condition.test(operation, region, scope, Site::Reads(name)),
         Expr::Element(name, index) => {
             if let Some(fault) = condition.test(
                 operation,
@@ -35,42 +32,30 @@ pub(crate) fn walk_expression<C: Condition>(
             )? {
                 return Ok(Some(fault));
             }
-            let found = walk_expression(condition, operation, region, scope, index)?;
-            Ok(found)
+            walk_expression(condition, operation, region, scope, index)
         }
-        Expr::Input(field) => {
-            let found = condition.test(operation, region, scope, Site::ReadsInput(field))?;
-            Ok(found)
-        }
+        Expr::Input(field) => condition.test(operation, region, scope, Site::ReadsInput(field)),
         Expr::Output(field) => {
-            let found = condition.test(operation, region, scope, Site::ReadsOutput(field))?;
-            Ok(found)
+            condition.test(operation, region, scope, Site::ReadsOutput(field))
         }
         Expr::Boundary(boundary) => {
-            let found = condition.test(operation, region, scope, Site::ReadsBoundary(boundary))?;
-            Ok(found)
+            condition.test(operation, region, scope, Site::ReadsBoundary(boundary))
         }
-        Expr::Decoded => {
-            let found = condition.test(operation, region, scope, Site::ReadsDecoded)?;
-            Ok(found)
-        }
+        Expr::Decoded => condition.test(operation, region, scope, Site::ReadsDecoded),
         Expr::Cast(shape, value) => {
             if let Some(fault) = condition.test(operation, region, scope, Site::Casts(*shape))? {
                 return Ok(Some(fault));
             }
-            let found = walk_expression(condition, operation, region, scope, value)?;
-            Ok(found)
+            walk_expression(condition, operation, region, scope, value)
         }
         Expr::Complement(value) | Expr::Negate(value) => {
-            let found = walk_expression(condition, operation, region, scope, value)?;
-            Ok(found)
+            walk_expression(condition, operation, region, scope, value)
         }
         Expr::Two(_, left, right) => {
             if let Some(fault) = walk_expression(condition, operation, region, scope, left)? {
                 return Ok(Some(fault));
             }
-            let found = walk_expression(condition, operation, region, scope, right)?;
-            Ok(found)
+            walk_expression(condition, operation, region, scope, right)
         }
         Expr::Choose(test, left, right) => {
             if let Some(fault) = walk_expression(condition, operation, region, scope, test)? {
@@ -79,8 +64,7 @@ pub(crate) fn walk_expression<C: Condition>(
             if let Some(fault) = walk_expression(condition, operation, region, scope, left)? {
                 return Ok(Some(fault));
             }
-            let found = walk_expression(condition, operation, region, scope, right)?;
-            Ok(found)
+            walk_expression(condition, operation, region, scope, right)
         }
     }
 }
@@ -96,10 +80,7 @@ pub(crate) fn walk_target<C: Condition>(
     ensures { IfOk result (λ found. found ≡ first (C.breaks condition.now) (targets operation region scope.now (expr_tree target.now))) }
 {
     match target {
-        Expr::Named(name) => {
-            let found = condition.test(operation, region, scope, Site::Writes(name))?;
-            Ok(found)
-        }
+        Expr::Named(name) => condition.test(operation, region, scope, Site::Writes(name)),
         Expr::Element(name, index) => {
             if let Some(fault) = condition.test(
                 operation,
@@ -109,16 +90,11 @@ pub(crate) fn walk_target<C: Condition>(
             )? {
                 return Ok(Some(fault));
             }
-            let found = walk_expression(condition, operation, region, scope, index)?;
-            Ok(found)
+            walk_expression(condition, operation, region, scope, index)
         }
         Expr::Output(field) => {
-            let found = condition.test(operation, region, scope, Site::WritesOutput(field))?;
-            Ok(found)
+            condition.test(operation, region, scope, Site::WritesOutput(field))
         }
-        _ => {
-            let found = walk_expression(condition, operation, region, scope, target)?;
-            Ok(found)
-        }
+        _ => walk_expression(condition, operation, region, scope, target),
     }
 }

@@ -29,8 +29,7 @@ fn walk_numbered<C: Condition>(
     if let Some(fault) = condition.test(operation, region_of(section), &scope, site)? {
         return Ok(Some(fault));
     }
-    let found = walk_section(alloc, condition, operation, section)?;
-    Ok(found)
+    walk_section(alloc, condition, operation, section)
 }
 
 // The first fault of the sections of an operation.
@@ -66,8 +65,7 @@ fn walk_operation<C: Condition>(
     if let Some(fault) = condition.test(number, Region::Head, &scope, Site::Head(operation))? {
         return Ok(Some(fault));
     }
-    let found = walk_sections(alloc, condition, number, &operation.sections)?;
-    Ok(found)
+    walk_sections(alloc, condition, number, &operation.sections)
 }
 
 /// The first fault of the operations.

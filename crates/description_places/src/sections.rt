@@ -29,12 +29,10 @@ fn walk_item<C: Condition>(
         CodingItem::Bits(_) => Ok(None),
         CodingItem::Field(name, pattern) => {
             let site = Site::Field(name, pattern);
-            let found = condition.test(operation, Region::Coding, scope, site)?;
-            Ok(found)
+            condition.test(operation, Region::Coding, scope, site)
         }
         CodingItem::Child(name) => {
-            let found = condition.test(operation, Region::Coding, scope, Site::Operand(name))?;
-            Ok(found)
+            condition.test(operation, Region::Coding, scope, Site::Operand(name))
         }
     }
 }
@@ -71,13 +69,9 @@ fn walk_coding<C: Condition>(
     match coding {
         CodingPart::Root(register, group) => {
             let site = Site::Root(register, group);
-            let found = condition.test(operation, Region::Coding, scope, site)?;
-            Ok(found)
+            condition.test(operation, Region::Coding, scope, site)
         }
-        CodingPart::Items(items) => {
-            let found = walk_items(condition, operation, scope, items)?;
-            Ok(found)
-        }
+        CodingPart::Items(items) => walk_items(condition, operation, scope, items),
     }
 }
 
@@ -95,12 +89,10 @@ fn walk_part<C: Condition>(
         SyntaxPart::Literal(_) => Ok(None),
         SyntaxPart::Number(name, format) => {
             let site = Site::Number(name, *format);
-            let found = condition.test(operation, Region::Syntax, scope, site)?;
-            Ok(found)
+            condition.test(operation, Region::Syntax, scope, site)
         }
         SyntaxPart::Child(name) => {
-            let found = condition.test(operation, Region::Syntax, scope, Site::Shown(name))?;
-            Ok(found)
+            condition.test(operation, Region::Syntax, scope, Site::Shown(name))
         }
     }
 }
@@ -149,29 +141,15 @@ pub(crate) fn walk_section<C: Condition>(
 {
     let mut scope = Scope::new(alloc);
     match section {
-        Section::Declare(declares) => {
-            let found = walk_declares(condition, operation, &scope, declares)?;
-            Ok(found)
-        }
-        Section::Coding(coding) => {
-            let found = walk_coding(condition, operation, &scope, coding)?;
-            Ok(found)
-        }
-        Section::Syntax(items) => {
-            let found = walk_syntax(condition, operation, &scope, items)?;
-            Ok(found)
-        }
+        Section::Declare(declares) => walk_declares(condition, operation, &scope, declares),
+        Section::Coding(coding) => walk_coding(condition, operation, &scope, coding),
+        Section::Syntax(items) => walk_syntax(condition, operation, &scope, items),
         Section::Behavior(statements) => {
-            let found = walk_statements(condition, operation, &mut scope, statements)?;
-            Ok(found)
+            walk_statements(condition, operation, &mut scope, statements)
         }
         Section::Expression(e) => {
-            let found = walk_expression(condition, operation, Region::Expression, &scope, e)?;
-            Ok(found)
+            walk_expression(condition, operation, Region::Expression, &scope, e)
         }
-        Section::Activation(acts) => {
-            let found = walk_acts(alloc, condition, operation, acts)?;
-            Ok(found)
-        }
+        Section::Activation(acts) => walk_acts(alloc, condition, operation, acts),
     }
 }

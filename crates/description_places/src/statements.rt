@@ -24,8 +24,7 @@ fn test_here<C: Condition>(
 ) -> Result<Option<DescFault>, NoMemory>
     ensures { IfOk result (λ found. found ≡ first (C.breaks condition.now) (at operation regions.Behavior scope.now (place_of site.entry) ∷ [])) }
 {
-    let found = condition.test(operation, Region::Behavior, scope, site)?;
-    Ok(found)
+    condition.test(operation, Region::Behavior, scope, site)
 }
 
 // The first fault of what an expression of a behaviour reads.
@@ -96,8 +95,7 @@ fn walk_assignment<C: Condition>(
     if let Some(fault) = walk_target(condition, operation, Region::Behavior, scope, target)? {
         return Ok(Some(fault));
     }
-    let found = walk_value(condition, operation, scope, value)?;
-    Ok(found)
+    walk_value(condition, operation, scope, value)
 }
 
 // Adds the variable of a loop, if the head gives it a type.
@@ -139,8 +137,7 @@ fn walk_head<C: Condition>(
     if let Some(fault) = test_here(condition, operation, scope, Site::Steps(&head.next))? {
         return Ok(Some(fault));
     }
-    let found = walk_value(condition, operation, scope, &head.step)?;
-    Ok(found)
+    walk_value(condition, operation, scope, &head.step)
 }
 
 // The first fault of a statement. Where there is none, the scope is that behind the statement.
@@ -205,8 +202,7 @@ fn walk_choice<C: Condition>(
     if let Some(fault) = walk_value(condition, operation, scope, test)? {
         return Ok(Some(fault));
     }
-    let found = walk_body(condition, operation, scope, body)?;
-    Ok(found)
+    walk_body(condition, operation, scope, body)
 }
 
 // The first fault of a `while`.
@@ -224,8 +220,7 @@ fn walk_endless<C: Condition>(
     if let Some(fault) = test_here(condition, operation, scope, Site::Loops)? {
         return Ok(Some(fault));
     }
-    let found = walk_choice(condition, operation, scope, body, test)?;
-    Ok(found)
+    walk_choice(condition, operation, scope, body, test)
 }
 
 // The first fault of a `for`.

@@ -42,6 +42,5 @@ pub fn first_fault<C: Condition>(
     if let Some(fault) = walk_resources(alloc, condition, &description.resources)? {
         return Ok(Some(fault));
     }
-    let found = walk_operations(alloc, condition, &description.operations)?;
-    Ok(found)
+    walk_operations(alloc, condition, &description.operations)
 }

@@ -33,8 +33,7 @@ fn is_circular_among(
     if are_higher(ranks, rank(ranks, node), row(next, node)) {
         return Ok(false);
     }
-    let found = is_circular(alloc, next, node)?;
-    Ok(found)
+    is_circular(alloc, next, node)
 }
 
 // The first node that reaches itself, by ranks that no edge lowers.

@@ -24,8 +24,7 @@ fn wrong_kind<N: Names>(
     ensures { IfOk result (λ found. found ≡ first (wrong_kind (known_by kinds.now) (N.tree names.now)) (description_places (N.tree names.now))) }
 {
     let condition = WrongKind::new(alloc, names, kinds)?;
-    let found = first_fault(alloc, &condition, names.description())?;
-    Ok(found)
+    first_fault(alloc, &condition, names.description())
 }
 
 // The same, by what is known of the description's nodes.
@@ -41,8 +40,7 @@ fn narrowing<N: Names>(
         names,
         kinds,
     };
-    let found = first_fault(alloc, &condition, names.description())?;
-    Ok(found)
+    first_fault(alloc, &condition, names.description())
 }
 
 /// The first name that is used against its declaration.
@@ -54,8 +52,7 @@ pub fn first_wrong_kind<N: Names>(
     requires { AreKinds (N.tree names.now) (known_by kinds.now) }
     ensures { IfOk result (λ found. IsFirstWrongKind (N.tree names.now) found) }
 {
-    let found = wrong_kind(alloc, names, kinds)?;
-    Ok(found)
+    wrong_kind(alloc, names, kinds)
 }
 
 /// The first value that is wider than the place that it is assigned to.
@@ -67,6 +64,5 @@ pub fn first_narrowing<N: Names>(
     requires { AreKinds (N.tree names.now) (known_by kinds.now) }
     ensures { IfOk result (λ found. IsFirstNarrowing (N.tree names.now) found) }
 {
-    let found = narrowing(alloc, names, kinds)?;
-    Ok(found)
+    narrowing(alloc, names, kinds)
 }

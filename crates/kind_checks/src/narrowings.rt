@@ -80,14 +80,12 @@ impl<'a, N: Names> Condition for Narrowing<'a, N> {
             Site::Local(shape, _, Some(value)) => {
                 let to = Some(shape);
                 let from = assigned_type(self.names, self.kinds, operation, scope, to, value);
-                let found = narrows(self.alloc, self.names, operation, from, to)?;
-                Ok(found)
+                narrows(self.alloc, self.names, operation, from, to)
             }
             Site::Assigns(target, value) => {
                 let to = self.kinds.type_of(self.names, operation, scope, target);
                 let from = assigned_type(self.names, self.kinds, operation, scope, to, value);
-                let found = narrows(self.alloc, self.names, operation, from, to)?;
-                Ok(found)
+                narrows(self.alloc, self.names, operation, from, to)
             }
             _ => Ok(None),
         }

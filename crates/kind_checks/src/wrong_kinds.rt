@@ -336,14 +336,8 @@ impl<'a, N: Names> WrongKind<'a, N> {
         ensures { IfOk result (λ name. name ≡ owner_name (N.tree self.now.uses.names.now) operation region) }
     {
         match region {
-            Region::Resources => {
-                let name = Name::from_bytes(self.alloc, &[])?;
-                Ok(name)
-            }
-            _ => {
-                let name = operation_name(self.alloc, self.uses.names, operation)?;
-                Ok(name)
-            }
+            Region::Resources => Name::from_bytes(self.alloc, &[]),
+            _ => operation_name(self.alloc, self.uses.names, operation),
         }
     }
 
@@ -378,7 +372,6 @@ impl<'a, N: Names> Condition for WrongKind<'a, N> {
         site: Site<'_>,
     ) -> Result<Option<DescFault>, NoMemory> {
         let name = self.wrong_name(operation, region, scope, site);
-        let found = self.told(operation, region, name)?;
-        Ok(found)
+        self.told(operation, region, name)
     }
 }

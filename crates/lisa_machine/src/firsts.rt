@@ -44,77 +44,61 @@ fn bad_main<N: Names>(alloc: Global, names: &N) -> Result<Option<DescFault>, NoM
 fn from_resets<N: Names>(alloc: Global, names: &N) -> Result<Option<DescFault>, NoMemory>
     ensures { IfOk result (λ found. from_resets (N.tree names.now) found) }
 {
-    let found = first_bad_reset(alloc, names)?;
-    if found.is_some() {
-        return Ok(found);
-    }
-    Ok(None)
+    first_bad_reset(alloc, names)
 }
 
 fn from_mains<N: Names>(alloc: Global, names: &N) -> Result<Option<DescFault>, NoMemory>
     ensures { IfOk result (λ found. from_mains (N.tree names.now) found) }
 {
-    let found = bad_main(alloc, names)?;
-    if found.is_some() {
-        return Ok(found);
+    match bad_main(alloc, names) {
+        Ok(None) => from_resets(alloc, names),
+        found => found,
     }
-    let found = from_resets(alloc, names)?;
-    Ok(found)
 }
 
 fn from_controls<N: Names>(alloc: Global, names: &N) -> Result<Option<DescFault>, NoMemory>
     ensures { IfOk result (λ found. from_controls (N.tree names.now) found) }
 {
-    let found = first_control(alloc, names)?;
-    if found.is_some() {
-        return Ok(found);
+    match first_control(alloc, names) {
+        Ok(None) => from_mains(alloc, names),
+        found => found,
     }
-    let found = from_mains(alloc, names)?;
-    Ok(found)
 }
 
 fn from_backwards<N: Names>(alloc: Global, names: &N) -> Result<Option<DescFault>, NoMemory>
     ensures { IfOk result (λ found. from_backwards (N.tree names.now) found) }
 {
-    let found = first_backward(alloc, names)?;
-    if found.is_some() {
-        return Ok(found);
+    match first_backward(alloc, names) {
+        Ok(None) => from_controls(alloc, names),
+        found => found,
     }
-    let found = from_controls(alloc, names)?;
-    Ok(found)
 }
 
 fn from_circles<N: Names>(alloc: Global, names: &N) -> Result<Option<DescFault>, NoMemory>
     ensures { IfOk result (λ found. from_circles (N.tree names.now) found) }
 {
-    let found = circle(alloc, names)?;
-    if found.is_some() {
-        return Ok(found);
+    match circle(alloc, names) {
+        Ok(None) => from_backwards(alloc, names),
+        found => found,
     }
-    let found = from_backwards(alloc, names)?;
-    Ok(found)
 }
 
 fn from_long_loops<N: Names>(alloc: Global, names: &N) -> Result<Option<DescFault>, NoMemory>
     ensures { IfOk result (λ found. from_long_loops (N.tree names.now) found) }
 {
-    let found = first_long_loop(alloc, names.description())?;
-    if found.is_some() {
-        return Ok(found);
+    match first_long_loop(alloc, names.description()) {
+        Ok(None) => from_circles(alloc, names),
+        found => found,
     }
-    let found = from_circles(alloc, names)?;
-    Ok(found)
 }
 
 fn from_loops<N: Names>(alloc: Global, names: &N) -> Result<Option<DescFault>, NoMemory>
     ensures { IfOk result (λ found. from_loops (N.tree names.now) found) }
 {
-    let found = first_unbounded_loop(alloc, names.description())?;
-    if found.is_some() {
-        return Ok(found);
+    match first_unbounded_loop(alloc, names.description()) {
+        Ok(None) => from_long_loops(alloc, names),
+        found => found,
     }
-    let found = from_long_loops(alloc, names)?;
-    Ok(found)
 }
 
 fn from_narrowings<N: Names>(
@@ -125,12 +109,10 @@ fn from_narrowings<N: Names>(
     requires { AreKinds (N.tree names.now) (known_by kinds.now) }
     ensures { IfOk result (λ found. from_narrowings (N.tree names.now) found) }
 {
-    let found = first_narrowing(alloc, names, kinds)?;
-    if found.is_some() {
-        return Ok(found);
+    match first_narrowing(alloc, names, kinds) {
+        Ok(None) => from_loops(alloc, names),
+        found => found,
     }
-    let found = from_loops(alloc, names)?;
-    Ok(found)
 }
 
 fn from_depths<N: Names>(
@@ -198,10 +180,8 @@ fn from_unknowns<N: Names>(alloc: Global, names: &N) -> Result<Option<DescFault>
 pub fn from_duplicates<N: Names>(alloc: Global, names: &N) -> Result<Option<DescFault>, NoMemory>
     ensures { IfOk result (λ found. from_duplicates (N.tree names.now) found) }
 {
-    let found = first_duplicate(alloc, names)?;
-    if found.is_some() {
-        return Ok(found);
+    match first_duplicate(alloc, names) {
+        Ok(None) => from_unknowns(alloc, names),
+        found => found,
     }
-    let found = from_unknowns(alloc, names)?;
-    Ok(found)
 }

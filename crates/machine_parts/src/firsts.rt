@@ -40,8 +40,7 @@ pub fn first_values<N: Names>(alloc: Global, names: &N) -> Result<Vec<u64>, NoMe
     ensures { IfOk result (λ all. all.items ≡ first_values (N.tree names.now)) }
 {
     let values = reset_values(alloc, names)?;
-    let all = bits_of(alloc, &names.description().resources, &values)?;
-    Ok(all)
+    bits_of(alloc, &names.description().resources, &values)
 }
 
 /// How many statements `reset` has once its loops are unrolled, and 2^64 - 1 where there are more. Without a `reset` there is none.

@@ -54,8 +54,7 @@ impl<'a, N: Names> Doubled<'a, N> {
         ensures { IfOk result (λ found. found ≡ named_fault (N.tree self.now.names.now) number name.now) }
     {
         let doubled = is_earlier(self.names.resource_at(name), number);
-        let found = duplicate_fault(doubled, name)?;
-        Ok(found)
+        duplicate_fault(doubled, name)
     }
 
     // The fault of a resource: of its name, or among the names in it.
@@ -133,8 +132,7 @@ fn head_fault<N: Names>(
     ensures { IfOk result (λ found. found ≡ head_fault (N.tree names.now) operation name.now) }
 {
     let taken = is_head_taken(names, operation, name);
-    let found = duplicate_fault(taken, name)?;
-    Ok(found)
+    duplicate_fault(taken, name)
 }
 
 // Whether a resource has the name, or an earlier declaration of the operation.
@@ -161,8 +159,7 @@ fn declared_fault<N: Names>(
     ensures { IfOk result (λ found. found ≡ declared_fault (N.tree names.now) operation number name.now) }
 {
     let taken = is_declared_before(names, operation, number, name);
-    let found = duplicate_fault(taken, name)?;
-    Ok(found)
+    duplicate_fault(taken, name)
 }
 
 // The fault of a local.
@@ -175,8 +172,7 @@ fn local_fault<N: Names>(
     ensures { IfOk result (λ found. found ≡ local_fault (N.tree names.now) operation scope.now name.now) }
 {
     let taken = is_taken(names, operation, scope, name);
-    let found = duplicate_fault(taken, name)?;
-    Ok(found)
+    duplicate_fault(taken, name)
 }
 
 // The fault of a loop's variable, which is a local where the head gives it a type.
@@ -191,8 +187,7 @@ fn counter_fault<N: Names>(
     if head.shape.is_none() {
         return Ok(None);
     }
-    let found = local_fault(names, operation, scope, &head.name)?;
-    Ok(found)
+    local_fault(names, operation, scope, &head.name)
 }
 
 impl<'a, N: Names> Condition for Doubled<'a, N> {

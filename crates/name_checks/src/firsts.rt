@@ -17,14 +17,12 @@ use std::alloc::Global;
 pub fn first_duplicate<N: Names>(alloc: Global, names: &N) -> Result<Option<DescFault>, NoMemory>
     ensures { IfOk result (λ found. found ≡ first (duplicate (N.tree names.now)) (description_places (N.tree names.now))) }
 {
-    let found = first_fault(alloc, &Doubled { alloc, names }, names.description())?;
-    Ok(found)
+    first_fault(alloc, &Doubled { alloc, names }, names.description())
 }
 
 /// The first name that stands for nothing.
 pub fn first_unknown<N: Names>(alloc: Global, names: &N) -> Result<Option<DescFault>, NoMemory>
     ensures { IfOk result (λ found. found ≡ first (unknown (N.tree names.now)) (description_places (N.tree names.now))) }
 {
-    let found = first_fault(alloc, &Unknown { alloc, names }, names.description())?;
-    Ok(found)
+    first_fault(alloc, &Unknown { alloc, names }, names.description())
 }

@@ -94,8 +94,7 @@ impl<'a, N: Names> Unknown<'a, N> {
     {
         let nowhere = Name::from_vec(Vec::new(self.alloc));
         let found = self.names.resource_at(name).is_some();
-        let fault = unknown_in(&nowhere, found, name)?;
-        Ok(fault)
+        unknown_in(&nowhere, found, name)
     }
 
     // The fault of fields of boundaries of what is no resource.
@@ -118,12 +117,10 @@ impl<'a, N: Names> Unknown<'a, N> {
         let Some((pipe, stage)) = &head.stage else {
             return Ok(None);
         };
-        let fault = unknown_in(&head.name, self.names.resource_at(pipe).is_some(), pipe)?;
-        if fault.is_some() {
-            return Ok(fault);
+        match unknown_in(&head.name, self.names.resource_at(pipe).is_some(), pipe) {
+            Ok(None) => unknown_in(&head.name, is_stage(self.names, pipe, stage), stage),
+            found => found,
         }
-        let fault = unknown_in(&head.name, is_stage(self.names, pipe, stage), stage)?;
-        Ok(fault)
     }
 
     // The fault of a reference.
@@ -132,8 +129,7 @@ impl<'a, N: Names> Unknown<'a, N> {
     {
         let loose = is_reference(self.names, operation, name)
             && is_loose(self.names, operation, name);
-        let fault = self.fault(operation, !loose, name)?;
-        Ok(fault)
+        self.fault(operation, !loose, name)
     }
 
     // The fault of the first alternative that is no operation.
@@ -154,8 +150,7 @@ impl<'a, N: Names> Unknown<'a, N> {
         ensures { IfOk result (λ fault. fault ≡ operation_unknown (N.tree self.now.names.now) operation name.now) }
     {
         let found = self.names.number_of(name).is_some();
-        let fault = self.fault(operation, found, name)?;
-        Ok(fault)
+        self.fault(operation, found, name)
     }
 
     // The fault of a name in a coding or a syntax.
@@ -163,8 +158,7 @@ impl<'a, N: Names> Unknown<'a, N> {
         ensures { IfOk result (λ fault. fault ≡ part_unknown (N.tree self.now.names.now) operation name.now) }
     {
         let found = stands(self.names, operation, name);
-        let fault = self.fault(operation, found, name)?;
-        Ok(fault)
+        self.fault(operation, found, name)
     }
 
     // The fault of a root's register.
@@ -172,14 +166,8 @@ impl<'a, N: Names> Unknown<'a, N> {
         ensures { IfOk result (λ fault. fault ≡ register_unknown (N.tree self.now.names.now) operation (expr_tree register.now)) }
     {
         match register {
-            Expr::Named(name) => {
-                let fault = self.part(operation, name)?;
-                Ok(fault)
-            }
-            Expr::Input(field) => {
-                let fault = self.field(operation, field)?;
-                Ok(fault)
-            }
+            Expr::Named(name) => self.part(operation, name),
+            Expr::Input(field) => self.field(operation, field),
             _ => Ok(None),
         }
     }
@@ -193,12 +181,10 @@ impl<'a, N: Names> Unknown<'a, N> {
     ) -> Result<Option<DescFault>, NoMemory>
         ensures { IfOk result (λ fault. fault ≡ root_unknown (N.tree self.now.names.now) operation (expr_tree register.now) group.now) }
     {
-        let fault = self.register(operation, register)?;
-        if fault.is_some() {
-            return Ok(fault);
+        match self.register(operation, register) {
+            Ok(None) => self.part(operation, group),
+            found => found,
         }
-        let fault = self.part(operation, group)?;
-        Ok(fault)
     }
 
     // The fault of a name that is looked up among the locals too.
@@ -211,8 +197,7 @@ impl<'a, N: Names> Unknown<'a, N> {
         ensures { IfOk result (λ fault. fault ≡ name_unknown (N.tree self.now.names.now) operation scope.now name.now) }
     {
         let found = is_known(self.names, operation, scope, name);
-        let fault = self.fault(operation, found, name)?;
-        Ok(fault)
+        self.fault(operation, found, name)
     }
 
     // The fault of a field of the pipeline's boundaries.
@@ -220,8 +205,7 @@ impl<'a, N: Names> Unknown<'a, N> {
         ensures { IfOk result (λ fault. fault ≡ field_unknown (N.tree self.now.names.now) operation field.now) }
     {
         let found = self.names.field_shape(field).is_some();
-        let fault = self.fault(operation, found, field)?;
-        Ok(fault)
+        self.fault(operation, found, field)
     }
 
     // The fault of a stage of the pipeline that is named.
@@ -234,8 +218,7 @@ impl<'a, N: Names> Unknown<'a, N> {
         ensures { IfOk result (λ fault. fault ≡ stage_unknown (N.tree self.now.names.now) operation pipe.now stage.now) }
     {
         let found = is_stage(self.names, pipe, stage);
-        let fault = self.fault(operation, found, stage)?;
-        Ok(fault)
+        self.fault(operation, found, stage)
     }
 
     // The fault of a pipeline and its stage.
@@ -248,12 +231,10 @@ impl<'a, N: Names> Unknown<'a, N> {
     ) -> Result<Option<DescFault>, NoMemory>
         ensures { IfOk result (λ fault. fault ≡ control_unknown (N.tree self.now.names.now) operation scope.now pipe.now stage.now) }
     {
-        let fault = self.name(operation, scope, pipe)?;
-        if fault.is_some() {
-            return Ok(fault);
+        match self.name(operation, scope, pipe) {
+            Ok(None) => self.stage(operation, pipe, stage),
+            found => found,
         }
-        let fault = self.stage(operation, pipe, stage)?;
-        Ok(fault)
     }
 
     // The fault of the stage behind a boundary, or of its field.
@@ -264,12 +245,10 @@ impl<'a, N: Names> Unknown<'a, N> {
     ) -> Result<Option<DescFault>, NoMemory>
         ensures { IfOk result (λ fault. fault ≡ behind_unknown (N.tree self.now.names.now) operation boundary.now.pipe boundary.now.after boundary.now.field) }
     {
-        let fault = self.stage(operation, &boundary.pipe, &boundary.after)?;
-        if fault.is_some() {
-            return Ok(fault);
+        match self.stage(operation, &boundary.pipe, &boundary.after) {
+            Ok(None) => self.field(operation, &boundary.field),
+            found => found,
         }
-        let fault = self.field(operation, &boundary.field)?;
-        Ok(fault)
     }
 
     // The first fault of a boundary's names.
@@ -281,12 +260,10 @@ impl<'a, N: Names> Unknown<'a, N> {
     ) -> Result<Option<DescFault>, NoMemory>
         ensures { IfOk result (λ fault. fault ≡ boundary_unknown (N.tree self.now.names.now) operation scope.now boundary.now.pipe boundary.now.before boundary.now.after boundary.now.field) }
     {
-        let fault = self.control(operation, scope, &boundary.pipe, &boundary.before)?;
-        if fault.is_some() {
-            return Ok(fault);
+        match self.control(operation, scope, &boundary.pipe, &boundary.before) {
+            Ok(None) => self.behind(operation, boundary),
+            found => found,
         }
-        let fault = self.behind(operation, boundary)?;
-        Ok(fault)
     }
 
     // The fault of a loop's variable, which is looked up where the head gives it no type.
@@ -301,8 +278,7 @@ impl<'a, N: Names> Unknown<'a, N> {
         if head.shape.is_some() {
             return Ok(None);
         }
-        let fault = self.name(operation, scope, &head.name)?;
-        Ok(fault)
+        self.name(operation, scope, &head.name)
     }
 }
 

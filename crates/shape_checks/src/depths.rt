@@ -33,8 +33,7 @@ fn resource_depth(resource: &Resource) -> Result<Option<DescFault>, NoMemory>
 {
     match resource {
         Resource::Register(_, _, name, Some(depth)) | Resource::Memory(_, _, name, depth) => {
-            let found = depth_fault(name, *depth)?;
-            Ok(found)
+            depth_fault(name, *depth)
         }
         _ => Ok(None),
     }
@@ -51,10 +50,7 @@ impl Condition for Depths {
         site: Site<'_>,
     ) -> Result<Option<DescFault>, NoMemory> {
         match site {
-            Site::Resource(_, resource) => {
-                let found = resource_depth(resource)?;
-                Ok(found)
-            }
+            Site::Resource(_, resource) => resource_depth(resource),
             _ => Ok(None),
         }
     }

@@ -20,8 +20,7 @@ pub fn first_bad_width(
 ) -> Result<Option<DescFault>, NoMemory>
     ensures { IfOk result (λ found. found ≡ first bad_width (description_places (description_tree description.now))) }
 {
-    let found = first_fault(alloc, &Widths { alloc }, description)?;
-    Ok(found)
+    first_fault(alloc, &Widths { alloc }, description)
 }
 
 /// The first depth of an array that is no power of two from 2 to 1,048,576.
@@ -31,8 +30,7 @@ pub fn first_bad_depth(
 ) -> Result<Option<DescFault>, NoMemory>
     ensures { IfOk result (λ found. found ≡ first bad_depth (description_places (description_tree description.now))) }
 {
-    let found = first_fault(alloc, &Depths, description)?;
-    Ok(found)
+    first_fault(alloc, &Depths, description)
 }
 
 /// The first loop that isn't of the bounded form.
@@ -42,8 +40,7 @@ pub fn first_unbounded_loop(
 ) -> Result<Option<DescFault>, NoMemory>
     ensures { IfOk result (λ found. found ≡ first (without_bound (description_tree description.now)) (description_places (description_tree description.now))) }
 {
-    let found = first_fault(alloc, &Bounded { alloc, description }, description)?;
-    Ok(found)
+    first_fault(alloc, &Bounded { alloc, description }, description)
 }
 
 /// The first bounded loop of more than 256 turns.
@@ -53,6 +50,5 @@ pub fn first_long_loop(
 ) -> Result<Option<DescFault>, NoMemory>
     ensures { IfOk result (λ found. found ≡ first (too_long (description_tree description.now)) (description_places (description_tree description.now))) }
 {
-    let found = first_fault(alloc, &Short { alloc, description }, description)?;
-    Ok(found)
+    first_fault(alloc, &Short { alloc, description }, description)
 }

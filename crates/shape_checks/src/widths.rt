@@ -53,15 +53,9 @@ fn resource_width(resource: &Resource) -> Result<Option<DescFault>, NoMemory>
         Resource::Register(_, shape, name, _)
         | Resource::Clocked(_, shape, name)
         | Resource::Memory(_, shape, name, _)
-        | Resource::Pin(shape, name) => {
-            let found = width_fault(name, shape.width)?;
-            Ok(found)
-        }
+        | Resource::Pin(shape, name) => width_fault(name, shape.width),
         Resource::Pipeline(_, _) => Ok(None),
-        Resource::Fields(_, fields) => {
-            let found = field_fault(fields)?;
-            Ok(found)
-        }
+        Resource::Fields(_, fields) => field_fault(fields),
     }
 }
 
@@ -102,27 +96,14 @@ impl Condition for Widths {
         site: Site<'_>,
     ) -> Result<Option<DescFault>, NoMemory> {
         match site {
-            Site::Resource(_, resource) => {
-                let found = resource_width(resource)?;
-                Ok(found)
-            }
-            Site::Field(name, pattern) => {
-                let found = width_fault(name, bit_count(pattern))?;
-                Ok(found)
-            }
+            Site::Resource(_, resource) => resource_width(resource),
+            Site::Field(name, pattern) => width_fault(name, bit_count(pattern)),
             Site::Casts(shape) => {
                 let nothing = Name::from_vec(Vec::new(self.alloc));
-                let found = width_fault(&nothing, shape.width)?;
-                Ok(found)
+                width_fault(&nothing, shape.width)
             }
-            Site::Local(shape, name, _) => {
-                let found = width_fault(name, shape.width)?;
-                Ok(found)
-            }
-            Site::Counts(head) => {
-                let found = counter_width(head)?;
-                Ok(found)
-            }
+            Site::Local(shape, name, _) => width_fault(name, shape.width),
+            Site::Counts(head) => counter_width(head),
             _ => Ok(None),
         }
     }

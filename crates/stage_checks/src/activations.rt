@@ -123,8 +123,7 @@ fn named_choices<N: Names>(
         return Ok(Vec::new(alloc));
     };
     let all = activation_names(alloc, found)?;
-    let row = choices_named(alloc, names, operation, &all)?;
-    Ok(row)
+    choices_named(alloc, names, operation, &all)
 }
 
 // Adds the node of a choice.
@@ -161,8 +160,7 @@ fn row_of<N: Names>(alloc: Global, names: &N, node: usize) -> Result<Vec<usize>,
         let row = nodes_of(alloc, names, &choices)?;
         return Ok(row);
     }
-    let row = Vec::from_slice(alloc, names.plain_at(node - operations))?;
-    Ok(row)
+    Vec::from_slice(alloc, names.plain_at(node - operations))
 }
 
 /// The graph of activations. For more nodes than a number can count there is no memory.

@@ -146,8 +146,7 @@ impl<'a, N: Names> Condition for Backward<'a, N> {
                 let choice = started(self.names, operation, name);
                 let late = stage_in(self.latest, operation);
                 let activated = first_before_in(self.names, self.earliest, late, choice);
-                let found = goes_back(self.alloc, self.names, operation, activated)?;
-                Ok(found)
+                goes_back(self.alloc, self.names, operation, activated)
             }
             _ => Ok(None),
         }

@@ -65,8 +65,7 @@ impl<'a, N: Names> Condition for Controls<'a, N> {
         let _ = scope;
         match site {
             Site::Stalls(_, stage) | Site::Flushes(_, stage) => {
-                let found = refusal(self.alloc, self.names, operation, stage)?;
-                Ok(found)
+                refusal(self.alloc, self.names, operation, stage)
             }
             _ => Ok(None),
         }

@@ -40,8 +40,7 @@ pub fn first_backward<N: Names>(alloc: Global, names: &N) -> Result<Option<DescF
 pub fn first_control<N: Names>(alloc: Global, names: &N) -> Result<Option<DescFault>, NoMemory>
     ensures { IfOk result (λ found. found ≡ first (control (N.tree names.now)) (description_places (N.tree names.now))) }
 {
-    let found = first_fault(alloc, &Controls { alloc, names }, names.description())?;
-    Ok(found)
+    first_fault(alloc, &Controls { alloc, names }, names.description())
 }
 
 // Whether what runs outside of stages activates an operation of a later stage than the first.
@@ -81,6 +80,5 @@ pub fn is_bad_main<N: Names>(alloc: Global, names: &N) -> Result<bool, NoMemory>
 pub fn first_bad_reset<N: Names>(alloc: Global, names: &N) -> Result<Option<DescFault>, NoMemory>
     ensures { IfOk result (λ found. found ≡ first (bad_reset (N.tree names.now)) (description_places (N.tree names.now))) }
 {
-    let found = first_fault(alloc, &Resets { names }, names.description())?;
-    Ok(found)
+    first_fault(alloc, &Resets { names }, names.description())
 }

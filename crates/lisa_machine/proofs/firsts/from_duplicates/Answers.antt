@@ -1,11 +1,7 @@
-use Rattle.std.proofs.Common.{◌≡◌, false}
-use Rattle.std.specs.Option.{is_some}
-use Rattle.name_checks.specs.Doubled.{duplicate}
-use Rattle.lisa_machine.specs.Verdicts.{at_places, from_unknowns}
-use Rattle.lisa_machine.proofs.Steps.{past}
+use Rattle.std.proofs.Common.{◌≡◌, ◌∙◌, sym, inr}
+use Rattle.std.proofs.lemmas.Result.{IfOk-weaker}
+use Rattle.lisa_machine.specs.Verdicts.{from_unknowns, from_duplicates}
 use Rattle.lisa_machine.proofs.firsts.from_duplicates.Goals as goal
 
-pub returns : goal.returns
-returns g c =
-    let off : is_some c.in_ok-found.found ≡ false = cc in
-    past (at_places (g.N.Names.tree c.args.names.now) (duplicate (g.N.Names.tree c.args.names.now))) (from_unknowns (g.N.Names.tree c.args.names.now)) c.in_ok-found.found c.in_ok-found-2.found c.in_ok-found.ensures off c.in_ok-found-2.ensures
+pub returns-in-Ok-None : goal.returns-in-Ok-None
+returns-in-Ok-None g c = IfOk-weaker c.from_unknowns.result (from_unknowns (g.N.Names.tree c.args.names.now)) (from_duplicates (g.N.Names.tree c.args.names.now)) (λ x rest. inr (sym c.in-Ok-None.field-0-is ∙ c.in-Ok-None.ensures, rest)) c.from_unknowns.ensures
