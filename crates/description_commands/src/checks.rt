@@ -7,6 +7,7 @@ ghost use Rattle.std.specs.Prelude.{decimal as decimal_digits};
 ghost use Rattle.lisa_tree.specs.Descriptions.{description_tree};
 ghost use Rattle.description_commands.specs.Descriptions.{AfterSpelling, AfterDescription};
 ghost use Rattle.description_commands.specs.Checks.{IsSound, IsFaulty, operations_text, Checks};
+ghost use Rattle.lisa_machine.specs.Machines.{IsSpelled};
 ghost use Rattle.lisa_outcomes.specs.Ends.{Ends, AreHeld};
 ghost use Rattle.lisa_outcomes.specs.Replies.{Replies};
 ghost use Rattle.lisa_outcomes.specs.Stages.{Finds};
@@ -39,6 +40,7 @@ fn put_operations<O: Sink>(out: &mut O, count: u64) -> Result<(), Failed>
 
 // The machine of a description, or its first fault.
 fn machine_of(alloc: Global, description: Description) -> Result<Machine, End>
+    requires { IsSpelled (description_tree description) }
     ensures { Finds description_tree (IsSound (description_tree description)) (IsFaulty (description_tree description)) result }
 {
     match check(alloc, description) {
@@ -60,6 +62,7 @@ fn count_operations<O: Sink>(machine: &Machine, out: &mut O) -> Result<(), End>
 
 // `check` on a description.
 fn check_tree<O: Sink>(alloc: Global, description: Description, out: &mut O) -> Result<(), End>
+    requires { IsSpelled (description_tree description) }
     ensures { Replies (Checks (description_tree description)) (O.written out.old) (O.written out.new) (O.faults out.old) (O.faults out.new) result }
 {
     match machine_of(alloc, description) {

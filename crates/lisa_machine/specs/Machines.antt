@@ -1,8 +1,14 @@
 -- What a machine keeps beside its description.
-use Rattle.std.specs.Prelude.{◌≡◌, ◌≤◌}
+use Rattle.std.specs.Prelude.{◌≡◌, ◌≤◌, ℕ, List}
 use Rattle.lisa_tree.specs.Descriptions.{DescriptionTree}
+use Rattle.lisa_tree.specs.Texts.{SpellsText}
 use Rattle.machine_parts.specs.Parts.{arrays_of, memories_of, pins_of, first_values, reset_count}
 use Rattle.lisa_machine.specs.declared.parts.Parts.{Parts}
+
+-- some bytes spell the description
+pub record IsSpelled (d : DescriptionTree) : Type 0 where
+  pub bytes : List ℕ
+  pub spells : SpellsText bytes d
 
 -- `reset` has few enough statements to be evaluated
 abbrev pub IsResetShort : DescriptionTree → Type 0

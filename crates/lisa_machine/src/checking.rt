@@ -5,7 +5,7 @@ ghost use Rattle.lisa_tree.specs.declared.faults.DescFault.{DescFault};
 ghost use Rattle.lisa_tree.specs.declared.faults.DescFault.TheVariants as faults;
 ghost use Rattle.lisa_tree.specs.Descriptions.{description_tree};
 ghost use Rattle.lisa_machine.specs.Verdicts.{IsAccepted, IsFirstFault};
-ghost use Rattle.lisa_machine.specs.Machines.{AreParts};
+ghost use Rattle.lisa_machine.specs.Machines.{IsSpelled, AreParts};
 
 use crate::firsts::from_duplicates;
 use crate::machine::Machine;
@@ -37,6 +37,8 @@ fn parts_of(alloc: Global, description: &Description) -> Result<Parts, NoMemory>
 /// Checks a description: the machine that keeps it where no condition is broken, and else the first fault of the first condition that
 /// is. A refusal drops the description.
 pub fn check(alloc: Global, description: Description) -> Result<Machine, DescFault>
+    // It was read from bytes.
+    requires spelled { IsSpelled (description_tree description) }
     // What is accepted is kept.
     ensures machine { IfOk result (λ m. m ≡ description) }
 

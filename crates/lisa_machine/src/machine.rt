@@ -4,7 +4,7 @@ ghost use Rattle.std.specs.Prelude.{◌≡◌, ◌<◌, false, length, slice_ind
 ghost use Rattle.lisa_tree.specs.Descriptions.{description_tree};
 ghost use Rattle.machine_parts.specs.Parts.{arrays_of, memories_of, pins_of, registers_of, first_values};
 ghost use Rattle.lisa_machine.specs.Verdicts.{IsAccepted, HasNoFault};
-ghost use Rattle.lisa_machine.specs.Machines.{IsResetShort, AreParts};
+ghost use Rattle.lisa_machine.specs.Machines.{IsSpelled, IsResetShort, AreParts};
 
 use crate::parts::Parts;
 use lisa_engine::{ArrayItem, Item};
@@ -26,7 +26,7 @@ impl Model for Machine {
     ghost use Rattle.lisa_tree.specs.contracts.statements.Stmt as statement;
     ghost use Rattle.lisa_tree.specs.Descriptions.{description_tree};
     ghost use Rattle.lisa_machine.specs.Verdicts.{IsAccepted};
-    ghost use Rattle.lisa_machine.specs.Machines.{AreParts};
+    ghost use Rattle.lisa_machine.specs.Machines.{IsSpelled, AreParts};
 
     ghost Value = { Description };
 
@@ -34,7 +34,7 @@ impl Model for Machine {
 
     ghost view = { λ m. m.description };
 
-    ghost invariant = { λ m. IsAccepted (description_tree m.description) × AreParts (description_tree m.description) m.parts };
+    ghost invariant = { λ m. IsAccepted (description_tree m.description) × AreParts (description_tree m.description) m.parts × IsSpelled (description_tree m.description) };
 }
 
 impl Machine {
@@ -42,6 +42,7 @@ impl Machine {
     pub(crate) fn new(description: Description, parts: Parts) -> Machine
         requires accepted { IsAccepted (description_tree description) }
         requires parts { AreParts (description_tree description) parts }
+        requires spelled { IsSpelled (description_tree description) }
         ensures { result ≡ description }
     {
         Machine { description, parts }
@@ -86,10 +87,11 @@ impl Machine {
         self.parts.firsts[register as usize]
     }
 
-    /// No condition is broken in the description, and so it has no first fault.
+    /// No condition is broken in the description, and so it has no first fault; and some bytes spell it.
     pub fn accepted(&self)
         ensures accepted { IsAccepted (description_tree self.now) }
         ensures sound { HasNoFault (description_tree self.now) }
+        ensures spelled { IsSpelled (description_tree self.now) }
     {
         let _description = &self.description;
     }
