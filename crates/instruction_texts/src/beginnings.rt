@@ -87,5 +87,6 @@ pub fn starts_of<'a>(alloc: Global, line: &'a [LineToken]) -> Result<Vec<Start<'
     ensures exact { IfOk result (λ starts. map start_of starts.items ≡ line_starts (map token_tree line.now)) }
     ensures found { IfOk result (λ starts. (ss : List AnyShape) (gs : List Plain) → All IsSized ss → Matches ss gs (map token_tree line.now) → HasStart ss (map start_of starts.items)) }
 {
-    line_starts(alloc, line)
+    let starts = line_starts(alloc, line)?;
+    Ok(starts)
 }
