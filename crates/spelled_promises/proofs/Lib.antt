@@ -1,0 +1,5 @@
+pub mod Lexed
+pub mod Bodies
+pub mod Outer
+pub mod Found
+pub mod Standing
