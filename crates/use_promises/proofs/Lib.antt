@@ -1,0 +1,9 @@
+pub mod Staged
+pub mod Traits
+pub mod References
+pub mod Used
+pub mod Placed
+pub mod Given
+pub mod Counted
+pub mod Held
+pub mod Shown

@@ -1,0 +1,332 @@
+-- What stands behind a declared name that is used.
+use Rattle.std.proofs.Common.{◌≡◌, ◌⊎◌, ◌||◌, ◌&&◌, ℕ, List, [], Option, None, Some, Bool, true, false, not, nat_lt, length, refl, sym, ap, ◌∙◌, inl, inr, ⊎_elim}
+use Rattle.std.specs.Prelude.{slice_get}
+use Rattle.std.specs.Option.{is_some}
+use Rattle.std.specs.List.{list_any}
+use Rattle.std.proofs.lemmas.Bool.{lt-ltb}
+use Rattle.lisa_tree.specs.declared.descriptions.CodingItem.{CodingItem}
+use Rattle.lisa_tree.specs.Expressions.{ExprTree}
+use Rattle.lisa_tree.specs.Descriptions as trees
+use Rattle.lisa_tree.specs.Descriptions.{DescriptionTree}
+use Rattle.description_places.specs.declared.scopes.Local.{Local}
+use Rattle.description_places.specs.declared.sites.Region.{Region}
+use Rattle.description_places.specs.declared.sites.Region.TheVariants as regions
+use Rattle.description_places.specs.Scopes.{Scope, local_named}
+use Rattle.description_places.specs.Places as places
+use Rattle.description_places.specs.Places.{at}
+use Rattle.description_names.specs.declared.declared.What.{What}
+use Rattle.description_names.specs.declared.declared.What.TheVariants as whats
+use Rattle.description_names.specs.declared.declared.Meaning.{Meaning}
+use Rattle.description_names.specs.declared.declared.Meaning.TheVariants as meanings
+use Rattle.description_names.specs.Resources.{resource_at}
+use Rattle.description_names.specs.Operations.{name_at, sections_at, coding_in, own_stage, is_root}
+use Rattle.description_names.specs.Declarations.{Entry, entries, declared_at, what_at, plain_at, alternatives_at}
+use Rattle.description_names.specs.Meanings.{meaning, meaning_of}
+use Rattle.description_names.specs.Paths.{entry_node}
+use Rattle.description_graph.proofs.Hits.{found}
+use Rattle.graph_paths.specs.Paths.{is_in}
+use Rattle.coded_names.specs.Codings.{is_coding}
+use Rattle.description_types.specs.declared.values.Traits.{Traits}
+use Rattle.description_types.specs.declared.values.CodedName.{CodedName}
+use Rattle.description_types.specs.Codings.{coding_at}
+use Rattle.description_types.specs.Kinds.{label_traits, choice_traits, child_traits}
+use Rattle.description_types.specs.Tables.{Known, AreKinds}
+use Rattle.name_checks.specs.Doubled.{duplicate}
+use Rattle.name_checks.specs.Unknown.{unknown, is_something, stands, is_known, register_unknown, part_unknown}
+use Rattle.kind_checks.specs.Uses.{by_sort, is_apart, is_uncallable, is_uncoded, is_no_operand, is_rooted, is_instructions, is_misplaced, is_empty, lacks_type, is_unassignable, meant_misread, is_misread, meant_miswritten, is_miswritten, meant_miscalled, is_miscalled, is_misstarted, is_wrong_operand, is_wrong_root_group, is_wrong_shown, what_misdeclared}
+use Rattle.kind_checks.specs.WrongKinds.{wrong_kind, owner_name, faulty, register_name, root_name}
+use Rattle.description_promises.specs.Freedom.{IsFree, Stands}
+use Rattle.description_promises.specs.Ranks.{Ranks}
+use Rattle.description_promises.proofs.Among.{free_place}
+use Rattle.description_promises.proofs.Decoding.{off_left, off_right, or_right, none_of, is_found, is_right, is_right_first, no_name, not_faulty}
+use Rattle.description_promises.proofs.Named.{what_is}
+use Rattle.description_promises.proofs.Choosing.{rightly_declared}
+use Rattle.use_promises.specs.Meant.{ChoosesFrom}
+use Rattle.use_promises.specs.Using.{RunsInPlace, IsCoded, IsDecided, NamesRootGroup, MayRun, ChildrenMayRun, IsChildEntry, IsCallable, DeclaresChild, IsStartable, IsOperand, IsRootGroup, IsShowable}
+use Rattle.use_promises.proofs.Traits.{none_in, Lacks, lacking, coding_is, child_is_known, label_is_known, known_at, meant_lack}
+use Rattle.use_promises.proofs.References.{definite, reference_fits}
+
+-- ---- what is off where a use is right
+
+abbrev staged : Traits → Bool
+staged t = t.staged
+
+abbrev rooted : Traits → Bool
+rooted t = t.rooted
+
+abbrev uncoded : Traits → Bool
+uncoded t = t.uncoded
+
+abbrev instructions : Traits → Bool
+instructions t = t.instructions
+
+abbrev misplaced : Traits → Bool
+misplaced t = t.misplaced
+
+abbrev labelled : Traits → Bool
+labelled t = t.label
+
+-- what runs where it is used
+record Apart (r : Option Traits) : Type 0 where
+  pub stage : Lacks staged r
+  pub root : Lacks rooted r
+  pub code : Lacks uncoded r
+  pub group : Lacks instructions r
+
+apart : (r : Option Traits) (t : Traits) → r ≡ Some t → (t.staged || (t.rooted || (t.uncoded || t.instructions))) ≡ false → Apart r
+apart r t is e =
+    let one = off_right t.staged _ e in
+    let two = off_right t.rooted _ one in
+    record {
+      stage = record { value = t; is = is; off = off_left t.staged _ e };
+      root = record { value = t; is = is; off = off_left t.rooted _ one };
+      code = record { value = t; is = is; off = off_left t.uncoded _ two };
+      group = record { value = t; is = is; off = off_right t.uncoded _ two };
+    }
+
+of_apart : (r : Option Traits) (t : Traits) → r ≡ Some t → is_apart r ≡ false → (t.staged || (t.rooted || (t.uncoded || t.instructions))) ≡ false
+of_apart r t is e = sym (ap is_apart is) ∙ e
+
+of_uncallable : (r : Option Traits) (t : Traits) → r ≡ Some t → is_uncallable r ≡ false → (t.label || (t.staged || (t.rooted || (t.uncoded || t.instructions)))) ≡ false
+of_uncallable r t is e = sym (ap is_uncallable is) ∙ e
+
+more_than : (x y : Bool) → (x && not y) ≡ false → x ≡ true → y ≡ true
+more_than true true e f = refl
+more_than true false e f = absurd (cc e)
+more_than false y e f = absurd (cc f)
+
+module _ (d : DescriptionTree) (known : Known) (kinds : AreKinds d known) (names : IsFree (duplicate d) d) (stand : IsFree (unknown d) d) (uses : IsFree (wrong_kind known d) d) where
+  abbrev traits_at : ℕ → Option Traits
+  traits_at i = known.traits (entry_node d i)
+
+  -- ---- groups and instances
+
+  module _ (i c : ℕ) (e : Entry) (is : slice_get (entries d) i ≡ Some e) (which : ChoosesFrom e c) where
+    its_traits : traits_at i ≡ Some (child_traits (coding_at d i) (choice_traits d c))
+    its_traits = child_is_known d known names stand uses kinds.traits i c e is which
+
+    no_stage : Lacks staged (traits_at i) → (o : ℕ) → is_in o (plain_at d c) ≡ true → own_stage d o ≡ None
+    no_stage l o h = none_of (own_stage d o) (none_in (λ x. is_some (own_stage d x)) o (plain_at d c) h (lacking staged (traits_at i) _ l its_traits))
+
+    no_root : Lacks rooted (traits_at i) → (o : ℕ) → is_in o (plain_at d c) ≡ true → is_root d o ≡ false
+    no_root l o h = none_in (is_root d) o (plain_at d c) h (lacking rooted (traits_at i) _ l its_traits)
+
+    in_place : Lacks staged (traits_at i) → Lacks rooted (traits_at i) → (o : ℕ) → is_in o (plain_at d c) ≡ true → RunsInPlace d o
+    in_place l m o h = record { no_stage = no_stage l o h; no_root = no_root m o h }
+
+    coded_so : (coding_at d i).coded ≡ true → IsCoded d e
+    coded_so f = sym (ap (λ (x : CodedName). x.coded) (coding_is d i e is)) ∙ f
+
+    decided : Lacks uncoded (traits_at i) → IsDecided d e c
+    decided l many = coded_so (more_than (nat_lt 1 (length (plain_at d c))) (coding_at d i).coded (lacking uncoded (traits_at i) _ l its_traits) (lt-ltb 1 (length (plain_at d c)) many))
+
+    no_group : Lacks instructions (traits_at i) → NamesRootGroup d e → ⊥
+    no_group l f =
+        let off : (coding_at d i).instructions ≡ false = lacking instructions (traits_at i) _ l its_traits in
+        absurd (cc (sym f ∙ sym (ap (λ (x : CodedName). x.instructions) (coding_is d i e is)) ∙ off))
+
+    may_run : Apart (traits_at i) → MayRun d e c
+    may_run a = record { operations = in_place a.stage a.root; decided = decided a.code; other = no_group a.group }
+
+    -- ---- what is declared
+
+    misplaced_off : is_misplaced (traits_at i) ≡ false → misplaced (child_traits (coding_at d i) (choice_traits d c)) ≡ false
+    misplaced_off e = sym (ap is_misplaced its_traits) ∙ e
+
+    right_place : what_misdeclared known d i (Some e.what) ≡ false → is_misplaced (traits_at i) ≡ false
+    right_place b = ⊎_elim
+        (λ w. off_right (is_empty (plain_at d c)) (is_misplaced (traits_at i)) (sym (ap (λ (x : What). what_misdeclared known d i (Some x)) w) ∙ b))
+        (λ w. off_right (is_empty (plain_at d c)) (is_misplaced (traits_at i)) (sym (ap (λ (x : What). what_misdeclared known d i (Some x)) w) ∙ b))
+        which
+
+    pub coded_there : (o : ℕ) (all : List CodingItem) → is_in o (alternatives_at d c) ≡ true → coding_in (sections_at d o) ≡ Some (trees.Items all) → IsCoded d e
+    coded_there o all h coding =
+        let off = misplaced_off (right_place (rightly_declared d known names uses i e is)) in
+        coded_so (more_than (list_any (λ x. is_coding (coding_in (sections_at d x))) (alternatives_at d c)) (coding_at d i).coded off (some_coding (alternatives_at d c) h))
+      where
+        coding_test : is_coding (coding_in (sections_at d o)) ≡ true
+        coding_test = ap is_coding coding
+
+        some_coding : (xs : List ℕ) → is_in o xs ≡ true → list_any (λ x. is_coding (coding_in (sections_at d x))) xs ≡ true
+        some_coding xs g = by (list_any (λ x. is_coding (coding_in (sections_at d x))) xs) refl
+          where
+            by : (b : Bool) → list_any (λ x. is_coding (coding_in (sections_at d x))) xs ≡ b → b ≡ true
+            by true e = refl
+            by false e = absurd (cc (none_in (λ x. is_coding (coding_in (sections_at d x))) o xs g e, coding_test))
+
+  -- ---- names in activations, codings and syntaxes
+
+  -- a declared name that isn't misused
+  record Rightly (o : ℕ) (n : List ℕ) (wrong : Meaning → Bool) : Type 0 where
+    pub number : ℕ
+    pub declared : declared_at d o n ≡ Some number
+    pub entry : Entry
+    pub is : slice_get (entries d) number ≡ Some entry
+    pub right : wrong (meanings.Declared number) ≡ false
+
+  rightly : (o : ℕ) (n : List ℕ) (wrong : Meaning → Bool) → ((k : ℕ) → wrong (meanings.Resource k) ≡ true) → is_something (meaning d o n) ≡ true → wrong (meaning d o n) ≡ false → Rightly o n wrong
+  rightly o n wrong other some right = by (declared_at d o n) (resource_at d n) refl some right
+    where
+      by : (x y : Option ℕ) → declared_at d o n ≡ x → is_something (meaning_of x y) ≡ true → wrong (meaning_of x y) ≡ false → Rightly o n wrong
+      by (Some i) y is s r = let f = found d o n i is in record { number = i; declared = is; entry = f.e; is = f.at; right = r }
+      by None (Some k) is s r = absurd (cc (sym (other k) ∙ r))
+      by None None is s r = absurd (cc s)
+
+  -- the child that it declares, and what isn't wrong of one
+  record Sorted (o : ℕ) (n : List ℕ) (group child : ℕ → Bool) : Type 0 where
+    pub declares : DeclaresChild d o n
+    pub right : (group declares.number ≡ false) ⊎ (child declares.number ≡ false)
+
+  sorted : (o : ℕ) (n : List ℕ) (group child : ℕ → Bool) (i : ℕ) (e : Entry) → declared_at d o n ≡ Some i → slice_get (entries d) i ≡ Some e → by_sort (child i) (group i) true (what_at d i) ≡ false → Sorted o n group child
+  sorted o n group child i e at is f = by e.what refl (ap (by_sort (child i) (group i) true) (sym (what_is d i e is)) ∙ f)
+    where
+      by : (w : What) → e.what ≡ w → by_sort (child i) (group i) true (Some e.what) ≡ false → Sorted o n group child
+      by (whats.Group c) what g =
+          record { declares = record { number = i; declared = at; entry = e; is = is; choice = c; chooses = inl what }; right = inl (ap (λ (x : What). by_sort (child i) (group i) true (Some x)) (sym what) ∙ g) }
+      by (whats.Instance c) what g =
+          record { declares = record { number = i; declared = at; entry = e; is = is; choice = c; chooses = inr what }; right = inr (ap (λ (x : What). by_sort (child i) (group i) true (Some x)) (sym what) ∙ g) }
+      by whats.Label what g = absurd (cc (sym g ∙ ap (λ (x : What). by_sort (child i) (group i) true (Some x)) what))
+      by whats.Reference what g = absurd (cc (sym g ∙ ap (λ (x : What). by_sort (child i) (group i) true (Some x)) what))
+
+  either : (test : ℕ → Bool) {i : ℕ} → (test i ≡ false) ⊎ (test i ≡ false) → test i ≡ false
+  either test r = ⊎_elim (λ e. e) (λ e. e) r
+
+  -- what is off of a child is off of what is known of it
+  abbrev traits_of : {o : ℕ} {n : List ℕ} → DeclaresChild d o n → Traits
+  traits_of s = child_traits (coding_at d s.number) (choice_traits d s.choice)
+
+  known_child : {o : ℕ} {n : List ℕ} (s : DeclaresChild d o n) → traits_at s.number ≡ Some (traits_of s)
+  known_child s = child_is_known d known names stand uses kinds.traits s.number s.choice s.entry s.is s.chooses
+
+  child_lacks : {o : ℕ} {n : List ℕ} (s : DeclaresChild d o n) (Q : Traits → Bool) → Q (traits_of s) ≡ false → Lacks Q (traits_at s.number)
+  child_lacks s Q off = record { value = traits_of s; is = known_child s; off = off }
+
+  start_fits : (o : ℕ) (n : List ℕ) → Sorted o n (λ i. is_uncoded (traits_at i)) (λ i. is_uncoded (traits_at i)) → IsStartable d o n
+  start_fits o n t = record {
+    child = t.declares;
+    decided = decided t.declares.number t.declares.choice t.declares.entry t.declares.is t.declares.chooses
+        (child_lacks t.declares uncoded (sym (ap is_uncoded (known_child t.declares)) ∙ either (λ i. is_uncoded (traits_at i)) t.right));
+  }
+
+  start_sorted : (o : ℕ) (n : List ℕ) → Rightly o n (is_misstarted known d) → IsStartable d o n
+  start_sorted o n r = start_fits o n (sorted o n (λ i. is_uncoded (traits_at i)) (λ i. is_uncoded (traits_at i)) r.number r.entry r.declared r.is r.right)
+
+  pub starts_child : (o : ℕ) (n : List ℕ) → Stands d (at o regions.Activation [] (places.Starts n)) → IsStartable d o n
+  starts_child o n s = start_sorted o n (rightly o n (is_misstarted known d) (λ k. refl) (is_found (name_at d o) (is_known d o [] n) n (free_place (unknown d) d stand _ s))
+      (is_right (name_at d o) (is_misstarted known d (meaning d o n)) n (free_place (wrong_kind known d) d uses _ s)))
+
+  operand_off : (o : ℕ) (n : List ℕ) (t : Sorted o n (λ i. is_no_operand (traits_at i)) (λ i. is_no_operand (traits_at i))) → (staged (traits_of t.declares) || rooted (traits_of t.declares)) ≡ false
+  operand_off o n t = sym (ap is_no_operand (known_child t.declares)) ∙ either (λ i. is_no_operand (traits_at i)) t.right
+
+  operand_fits : (o : ℕ) (n : List ℕ) → Sorted o n (λ i. is_no_operand (traits_at i)) (λ i. is_no_operand (traits_at i)) → IsOperand d o n
+  operand_fits o n t = record {
+    child = t.declares;
+    operations = in_place t.declares.number t.declares.choice t.declares.entry t.declares.is t.declares.chooses
+        (child_lacks t.declares staged (off_left (staged (traits_of t.declares)) (rooted (traits_of t.declares)) (operand_off o n t)))
+        (child_lacks t.declares rooted (off_right (staged (traits_of t.declares)) (rooted (traits_of t.declares)) (operand_off o n t)));
+  }
+
+  operand_sorted : (o : ℕ) (n : List ℕ) → Rightly o n (is_wrong_operand known d) → IsOperand d o n
+  operand_sorted o n r = operand_fits o n (sorted o n (λ i. is_no_operand (traits_at i)) (λ i. is_no_operand (traits_at i)) r.number r.entry r.declared r.is r.right)
+
+  pub operand_child : (o : ℕ) (n : List ℕ) → Stands d (at o regions.Coding [] (places.Operand n)) → IsOperand d o n
+  operand_child o n s = operand_sorted o n (rightly o n (is_wrong_operand known d) (λ k. refl) (is_found (name_at d o) (stands d o n) n (free_place (unknown d) d stand _ s))
+      (is_right (name_at d o) (is_wrong_operand known d (meaning d o n)) n (free_place (wrong_kind known d) d uses _ s)))
+
+  root_fits : (o : ℕ) (n : List ℕ) → Sorted o n (λ i. is_rooted (traits_at i)) (λ i. true) → IsRootGroup d o n
+  root_fits o n t = record {
+    child = t.declares;
+    operations = no_root t.declares.number t.declares.choice t.declares.entry t.declares.is t.declares.chooses
+        (child_lacks t.declares rooted (sym (ap is_rooted (known_child t.declares)) ∙ ⊎_elim (λ e. e) (λ e. absurd (cc e)) t.right));
+  }
+
+  root_sorted : (o : ℕ) (n : List ℕ) → Rightly o n (is_wrong_root_group known d) → IsRootGroup d o n
+  root_sorted o n r = root_fits o n (sorted o n (λ i. is_rooted (traits_at i)) (λ i. true) r.number r.entry r.declared r.is r.right)
+
+  pub root_child : (o : ℕ) (word : ExprTree) (n : List ℕ) → Stands d (at o regions.Coding [] (places.Root word n)) → IsRootGroup d o n
+  root_child o word n s =
+      let u = free_place (unknown d) d stand _ s in
+      let w = no_name (name_at d o) (root_name known d o word n) (free_place (wrong_kind known d) d uses _ s) in
+      root_sorted o n (rightly o n (is_wrong_root_group known d) (λ k. refl) (is_found (name_at d o) (stands d o n) n (or_right (register_unknown d o word) (part_unknown d o n) u))
+      (not_faulty (is_wrong_root_group known d (meaning d o n)) n (or_right (register_name known d o word) (faulty (is_wrong_root_group known d (meaning d o n)) n) w)))
+
+  shown_fits : (o : ℕ) (n : List ℕ) → Sorted o n (λ i. is_instructions (traits_at i)) (λ i. is_instructions (traits_at i)) → IsShowable d o n
+  shown_fits o n t = record {
+    child = t.declares;
+    other = no_group t.declares.number t.declares.choice t.declares.entry t.declares.is t.declares.chooses
+        (child_lacks t.declares instructions (sym (ap is_instructions (known_child t.declares)) ∙ either (λ i. is_instructions (traits_at i)) t.right));
+  }
+
+  shown_sorted : (o : ℕ) (n : List ℕ) → Rightly o n (is_wrong_shown known d) → IsShowable d o n
+  shown_sorted o n r = shown_fits o n (sorted o n (λ i. is_instructions (traits_at i)) (λ i. is_instructions (traits_at i)) r.number r.entry r.declared r.is r.right)
+
+  pub shown_child : (o : ℕ) (n : List ℕ) → Stands d (at o regions.Syntax [] (places.Shown n)) → IsShowable d o n
+  shown_child o n s = shown_sorted o n (rightly o n (is_wrong_shown known d) (λ k. refl) (is_found (name_at d o) (stands d o n) n (free_place (unknown d) d stand _ s))
+      (is_right (name_at d o) (is_wrong_shown known d (meaning d o n)) n (free_place (wrong_kind known d) d uses _ s)))
+
+  -- ---- names in expressions and statements
+
+  module _ (ranks : Ranks d) where
+    refers_right : (i : ℕ) (e : Entry) → slice_get (entries d) i ≡ Some e → (t : Traits) × (traits_at i ≡ Some t)
+    refers_right i e is = known_at d known names stand uses kinds.traits ranks (reference_fits d names stand) i e is
+
+    -- all that a name may mean runs where the name is used
+    run_apart : (i : ℕ) → Apart (traits_at i) → ChildrenMayRun d i
+    run_apart i a j c e m is which = may_run j c e is which (record {
+      stage = meant_lack d known names stand uses kinds.traits staged (λ x y. refl) m a.stage;
+      root = meant_lack d known names stand uses kinds.traits rooted (λ x y. refl) m a.root;
+      code = meant_lack d known names stand uses kinds.traits uncoded (λ x y. refl) m a.code;
+      group = meant_lack d known names stand uses kinds.traits instructions (λ x y. refl) m a.group;
+    })
+
+    meant_as : (o i : ℕ) (n : List ℕ) → declared_at d o n ≡ Some i → meaning d o n ≡ meanings.Declared i
+    meant_as o i n at = ap (λ (x : Option ℕ). meaning_of x (resource_at d n)) at
+
+    pub reads_run : (o i : ℕ) (region : Region) (scope : Scope) (n : List ℕ) → Stands d (at o region scope (places.Reads n)) → local_named n scope ≡ None → declared_at d o n ≡ Some i → ChildrenMayRun d i
+    reads_run o i region scope n s none at =
+        let f = found d o n i at in
+        let t = refers_right i f.e f.at in
+        let w = is_right_first (owner_name d o region) (is_misread known d o n (local_named n scope)) n (free_place (wrong_kind known d) d uses _ s) in
+        let v : meant_misread known d (meaning d o n) ≡ false = ap (is_misread known d o n) (sym none) ∙ w in
+        let u : meant_misread known d (meanings.Declared i) ≡ false = ap (meant_misread known d) (sym (meant_as o i n at)) ∙ v in
+        run_apart i (apart (traits_at i) t.0 t.1 (of_apart (traits_at i) t.0 t.1 (off_right (lacks_type (known.types (entry_node d i))) (is_apart (traits_at i)) u)))
+
+    pub writes_run : (o i : ℕ) (region : Region) (scope : Scope) (n : List ℕ) → Stands d (at o region scope (places.Writes n)) → local_named n scope ≡ None → declared_at d o n ≡ Some i → ChildrenMayRun d i
+    writes_run o i region scope n s none at =
+        let f = found d o n i at in
+        let t = refers_right i f.e f.at in
+        let w = is_right_first (owner_name d o region) (is_miswritten known d o n (local_named n scope)) n (free_place (wrong_kind known d) d uses _ s) in
+        let v : meant_miswritten known d (meaning d o n) ≡ false = ap (is_miswritten known d o n) (sym none) ∙ w in
+        let u : meant_miswritten known d (meanings.Declared i) ≡ false = ap (meant_miswritten known d) (sym (meant_as o i n at)) ∙ v in
+        let right = off_right (lacks_type (known.types (entry_node d i))) (is_apart (traits_at i) || is_unassignable (known.assignables (entry_node d i))) u in
+        run_apart i (apart (traits_at i) t.0 t.1 (of_apart (traits_at i) t.0 t.1 (off_left (is_apart (traits_at i)) (is_unassignable (known.assignables (entry_node d i))) right)))
+
+    -- what a name that isn't a label may mean is a group or an instance
+    child_entry : (j : ℕ) (e : Entry) → slice_get (entries d) j ≡ Some e → (e.what ≡ whats.Reference → ⊥) → Lacks labelled (traits_at j) → IsChildEntry e
+    child_entry j e is no_reference l = by e.what refl
+      where
+        by : (w : What) → e.what ≡ w → IsChildEntry e
+        by (whats.Group c) what = (c, inl what)
+        by (whats.Instance c) what = (c, inr what)
+        by whats.Label what = let off : label_traits.label ≡ false = lacking labelled (traits_at j) label_traits l (label_is_known d known names stand uses kinds.traits j e is what) in absurd (cc off)
+        by whats.Reference what = absurd (no_reference what)
+
+    pub call_fits : (o : ℕ) (region : Region) (scope : Scope) (n : List ℕ) → Stands d (at o region scope (places.Calls n)) → IsCallable d o scope n
+    call_fits o region scope n s =
+        by (local_named n scope) refl (is_found (name_at d o) (is_known d o scope n) n (free_place (unknown d) d stand _ s))
+        (is_right_first (owner_name d o region) (is_miscalled known d o n (local_named n scope)) n (free_place (wrong_kind known d) d uses _ s))
+      where
+        by : (r : Option Local) → local_named n scope ≡ r → (is_some r || stands d o n) ≡ true → is_miscalled known d o n r ≡ false → IsCallable d o scope n
+        by (Some l) none there right = absurd (cc right)
+        by None none there right =
+            let r = rightly o n (meant_miscalled known d) (λ k. refl) there right in
+            let t = refers_right r.number r.entry r.is in
+            let w = of_uncallable (traits_at r.number) t.0 t.1 r.right in
+            let label : Lacks labelled (traits_at r.number) = record { value = t.0; is = t.1; off = off_left t.0.label _ w } in
+            record {
+              no_local = none;
+              number = r.number;
+              declared = r.declared;
+              children = λ j e m is. child_entry j e is (definite d m e is) (meant_lack d known names stand uses kinds.traits labelled (λ x y. refl) m label);
+              run = run_apart r.number (apart (traits_at r.number) t.0 t.1 (off_right t.0.label _ w));
+            }

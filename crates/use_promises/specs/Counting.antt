@@ -1,0 +1,21 @@
+-- The values of a loop's variable.
+use Rattle.std.specs.Prelude.{◌≡◌, ◌<◌, ◌+◌, ◌*◌, ◌^◌, ℕ, Some}
+use Rattle.lisa_tree.specs.declared.tokens.Shape.{Shape}
+use Rattle.lisa_tree.specs.Statements.{HeadTree}
+use Rattle.description_places.specs.Literals.{literal}
+use Rattle.shape_checks.specs.declared.bounds.Bounds.{Bounds}
+use Rattle.shape_checks.specs.Bounds.{bounds_of, limit_of, step_of, turns, number_bits}
+
+-- `for (type i = first; i < limit; i = i + step)`: the three are literals, the step is at least 1, the step's variable is the loop's own,
+-- and the type has each value that the loop gives it
+pub record HoldsValues (head : HeadTree) : Type 0 where
+  pub shape : Shape
+  pub typed : head.shape ≡ Some shape
+  pub bounds : Bounds
+  pub are : bounds_of head ≡ Some bounds
+  pub next : head.next ≡ head.name
+  pub first : literal head.first ≡ Some bounds.first
+  pub limit : limit_of head.name head.test ≡ Some bounds.limit
+  pub step : step_of head.name head.step ≡ Some bounds.step
+  pub onward : 0 < bounds.step
+  pub each : (k : ℕ) → k < turns bounds → bounds.first + k * bounds.step < 2 ^ number_bits shape.kind shape.width
