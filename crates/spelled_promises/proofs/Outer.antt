@@ -78,9 +78,10 @@ declare ts (trees.Group ns alternatives) d h =
     let t = subst AreFormed d.2 h in
     let last : Toks = mark signs.CloseBrace ∷ mark signs.Semicolon ∷ [] in
     let rest : Toks = mark signs.Equal ∷ mark signs.OpenBrace ∷ (names_by signs.OrOr alternatives ++ last) in
-    let u = (back (names_by signs.Comma ns) rest t.1).1.1 in
-    (record { some = d.0; each = names signs.Comma ns (front (names_by signs.Comma ns) rest t.1) },
-    record { some = d.1; each = names signs.OrOr alternatives (front (names_by signs.OrOr alternatives) last u) })
+    let u = (back (names_by signs.Comma ns) rest t.1).1.1 in (
+      record { some = d.0; each = names signs.Comma ns (front (names_by signs.Comma ns) rest t.1) },
+      record { some = d.1; each = names signs.OrOr alternatives (front (names_by signs.OrOr alternatives) last u) },
+    )
 declare ts (trees.Instance pairs) d h = let t = subst AreFormed d.2 h in (one_instance d.1, instances d.1 (front d.0 (mark signs.Semicolon ∷ []) t.1))
 declare ts (trees.Label ns) d h =
     let t = subst AreFormed d.1 h in record { some = d.0; each = names signs.Comma ns (front (names_by signs.Comma ns) (mark signs.Semicolon ∷ []) t.1) }

@@ -62,9 +62,11 @@ value_reads o region scope (Some e) h = reads o region scope e h
 
 counts : (o : ℕ) (scope : Scope) (head : HeadTree) → IsWellFormedHead head → AreFormed (head_places o scope head)
 counts o scope head h =
-    let inner = with_counter scope head in
-    (h, joined (uses o regions.Behavior scope head.first) _ (reads o regions.Behavior scope head.first h.first)
-    (joined (uses o regions.Behavior inner head.test) _ (reads o regions.Behavior inner head.test h.test) (h.next, reads o regions.Behavior inner head.step h.step)))
+    let inner = with_counter scope head in (
+      h,
+      joined (uses o regions.Behavior scope head.first) _ (reads o regions.Behavior scope head.first h.first)
+          (joined (uses o regions.Behavior inner head.test) _ (reads o regions.Behavior inner head.test h.test) (h.next, reads o regions.Behavior inner head.step h.step)),
+    )
 
 mutual
   stmt : (o : ℕ) (scope : Scope) (s : StmtTree) → IsWellFormedStmt s → AreFormed (places o scope s)
