@@ -1,0 +1,10 @@
+pub mod Rising
+pub mod Chosen
+pub mod Totals
+pub mod Defined
+pub mod Within
+pub mod Steps
+pub mod Sums
+pub mod Finding
+pub mod Limited
+pub mod Verdicts

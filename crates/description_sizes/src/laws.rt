@@ -1,0 +1,28 @@
+//! What holds of the sizes of every description.
+
+ghost use Rattle.std.specs.Prelude.{◌≡◌, ◌<◌, ◌↔◌, ◌-◌, ◌^◌, ℕ, None, Option, length, min};
+ghost use Rattle.lisa_tree.specs.Descriptions.{DescriptionTree};
+ghost use Rattle.description_graph.specs.Circles.{IsFirstCircularOperation};
+ghost use Rattle.lisa_machine.specs.Machines.{IsResetShort};
+ghost use Rattle.description_sizes.specs.Sizes.{first_too_many, size_fault};
+ghost use Rattle.description_sizes.specs.Laws.{AreWithinLimits, AreCounted};
+
+/// Nothing is too much exactly where each count is within its limit.
+pub fn sizes_are_within_limits()
+    ensures { (d : DescriptionTree) (width : Option ℕ) (forms : ℕ) → (first_too_many d width forms ≡ None) ↔ AreWithinLimits d width forms }
+{}
+
+/// Where nothing is too much, `reset` is short enough to be evaluated.
+pub fn reset_is_short()
+    ensures { (d : DescriptionTree) (width : Option ℕ) (forms : ℕ) → first_too_many d width forms ≡ None → IsResetShort d }
+{}
+
+/// A count of forms that is told as 2^64 - 1 leads to the same fault as the count itself.
+pub fn further_forms_count_alike()
+    ensures { (d : DescriptionTree) (width : Option ℕ) (forms : ℕ) → size_fault d width (min forms (2 ^ 64 - 1)) ≡ size_fault d width forms }
+{}
+
+/// Where no operation reaches itself, the texts of each operation have counts.
+pub fn texts_are_counted()
+    ensures { (d : DescriptionTree) → IsFirstCircularOperation d None → (o : ℕ) → o < length d.operations → AreCounted d o }
+{}
