@@ -1,11 +1,8 @@
 -- The first size that exceeds its limit.
-use Rattle.std.proofs.Common.{◌≡◌, ◌<◌, ◌≤◌, ◌+◌, ◌-◌, ◌^◌, ◌++◌, ℕ, suc, Bool, true, false, List, [], ◌∷◌, Option, None, Some, cond, length, min, nat_lt, get_or, drop, drop-cons, map, refl, sym, ap, ◌∙◌, arith, add-one}
+use Rattle.std.proofs.Common.{◌≡◌, ◌<◌, ◌≤◌, ◌+◌, ◌-◌, ◌^◌, ℕ, suc, Bool, true, false, List, [], ◌∷◌, None, Some, cond, length, min, nat_lt, get_or, drop, drop-cons, map, refl, sym, ap, ◌∙◌, arith, add-one}
 use Rattle.std.specs.Prelude.{find, option_map}
-use Rattle.std.specs.Option.{option_or}
 use Rattle.std.specs.List.{AllByRecursion}
 use Rattle.std.proofs.lemmas.Bool.Decides.{nat_tests}
-use Rattle.std.proofs.lemmas.List.Folds.{find-append}
-use Rattle.lisa_tree.specs.declared.faults.DescFault.{DescFault}
 use Rattle.lisa_tree.specs.declared.faults.DescFault.TheVariants as faults
 use Rattle.description_sizes.specs.declared.sizes.Measure.{Measure}
 use Rattle.description_sizes.specs.declared.sizes.Measure.TheVariants as measures
@@ -52,9 +49,6 @@ twice_told n top = omega arith
 pub fault_told : (s : Size) → fault (told s) ≡ fault s
 fault_told s = ap (λ (n : ℕ). faults.TooMany (word_of s.what) n (limit_of s.what)) (twice_told s.count (2 ^ 64 - 1))
 
-pub told_small : (s : Size) → s.count < 2 ^ 64 → faults.TooMany (word_of s.what) s.count (limit_of s.what) ≡ fault s
-told_small s h = ap (λ (n : ℕ). faults.TooMany (word_of s.what) n (limit_of s.what)) (let e : s.count ≡ min s.count (2 ^ 64 - 1) = omega (arith, h) in e)
-
 pub find_told : (all : List Size) → find exceeds (map told all) ≡ option_map told (find exceeds all)
 find_told [] = refl
 find_told (s ∷ rest) =
@@ -64,23 +58,6 @@ find_told (s ∷ rest) =
     at : (b : Bool) → find exceeds (map told rest) ≡ option_map told (find exceeds rest) → cond b (Some (told s)) (find exceeds (map told rest)) ≡ option_map told (cond b (Some s) (find exceeds rest))
     at true e = refl
     at false e = e
-
--- ---- the first of two lists
-
-pub in_first : (xs ys : List Size) (s : Size) → find exceeds xs ≡ Some s → find exceeds (xs ++ ys) ≡ Some s
-in_first xs ys s e = find-append exceeds xs ys ∙ ap (λ (x : Option Size). option_or x (find exceeds ys)) e
-
-pub in_second : (xs ys : List Size) → find exceeds xs ≡ None → find exceeds (xs ++ ys) ≡ find exceeds ys
-in_second xs ys e = find-append exceeds xs ys ∙ ap (λ (x : Option Size). option_or x (find exceeds ys)) e
-
--- what a told size says of the size that it tells
-pub none_told : (x : Option Size) → option_map told x ≡ None → x ≡ None
-none_told None e = refl
-none_told (Some s) e = absurd (cc e)
-
-pub fault_of_told : (x : Option Size) (s : Size) → option_map told x ≡ Some s → option_map fault x ≡ Some (fault s)
-fault_of_told None s e = absurd (cc e)
-fault_of_told (Some t) s e = let same : told t ≡ s = cc e in ap (λ (f : DescFault). Some f) (sym (fault_told t) ∙ ap fault same)
 
 -- ---- nothing exceeds its limit
 

@@ -7,4 +7,3 @@ pub mod Steps
 pub mod Sums
 pub mod Finding
 pub mod Limited
-pub mod Verdicts
