@@ -1,0 +1,5 @@
+pub mod FirstRoot
+pub mod Owning
+pub mod Ways
+pub mod Levels
+pub mod Counted

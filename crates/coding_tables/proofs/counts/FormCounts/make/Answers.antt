@@ -1,0 +1,6 @@
+use Rattle.least_fixed_points.specs.Settles.{entry}
+use Rattle.coding_tables.proofs.Counted.{are_counts}
+use Rattle.coding_tables.proofs.counts.FormCounts.make.Goals as goal
+
+pub returns : goal.returns
+returns g c = are_counts (g.N.Names.tree c.args.names.now) c.requires.acyclic (entry c.in_ok-table.table.items) c.in_ok-table.ensures.exact

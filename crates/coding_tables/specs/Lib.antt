@@ -1,0 +1,4 @@
+pub mod Codings
+pub mod Instructions
+pub mod Products
+pub mod Ways

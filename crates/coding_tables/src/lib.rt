@@ -1,0 +1,8 @@
+//! The codings of a description's operations as tables of items, which operation has the root, and how many forms instructions have.
+#![tactic(auto)]
+
+mod counts;
+mod roots;
+
+pub use counts::{FormCounts, count_forms};
+pub use roots::{choice_named, instruction_choice};
