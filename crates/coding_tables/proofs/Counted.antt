@@ -118,7 +118,7 @@ product_bit f digit items = by (nat_eq digit 48) (nat_eq digit 49)
     by false true = refl
     by false false = refl
 
-product_digits : (f : ℕ → ℕ) (digits : List ℕ) (items : List Item) → product f (map digit_item digits ++ items) ≡ product f items
+pub product_digits : (f : ℕ → ℕ) (digits : List ℕ) (items : List Item) → product f (map digit_item digits ++ items) ≡ product f items
 product_digits f [] items = refl
 product_digits f (digit ∷ digits) items = product_bit f digit (map digit_item digits ++ items) ∙ product_digits f digits items
 

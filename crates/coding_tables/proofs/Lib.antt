@@ -3,3 +3,4 @@ pub mod Owning
 pub mod Ways
 pub mod Levels
 pub mod Counted
+pub mod Heights

@@ -2,7 +2,9 @@
 #![tactic(auto)]
 
 mod counts;
+mod laws;
 mod roots;
 
 pub use counts::{FormCounts, count_forms};
+pub use laws::instructions_have_forms;
 pub use roots::{choice_named, instruction_choice};
