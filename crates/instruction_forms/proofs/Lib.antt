@@ -1,0 +1,10 @@
+pub mod Views
+pub mod Nth
+pub mod Spans
+pub mod Sizes
+pub mod Picked
+pub mod Walking
+pub mod Fielding
+pub mod Whole
+pub mod Wide
+pub mod Numbered

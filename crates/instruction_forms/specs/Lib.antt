@@ -1,0 +1,4 @@
+pub mod Trees
+pub mod Described
+pub mod Picks
+pub mod Widths

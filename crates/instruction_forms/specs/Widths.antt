@@ -1,0 +1,15 @@
+-- How wide an instruction is.
+use Rattle.std.specs.Prelude.{ℕ, ◌≡◌, Some}
+use Rattle.lisa_tree.specs.Descriptions.{DescriptionTree}
+use Rattle.description_names.specs.Paths.{choice_node}
+use Rattle.least_fixed_points.specs.Settles.{Settles}
+use Rattle.coding_checks.specs.Widths.{width_step}
+use Rattle.coding_tables.specs.Instructions.{instruction_choice}
+
+-- the group of all instructions has this width
+abbrev pub IsInstructionWidth : DescriptionTree → ℕ → ℕ → Type 0
+IsInstructionWidth d c w = Settles (width_step d) (choice_node d c) w
+
+-- where there is such a group, it has a width
+abbrev pub HasInstructionWidth : DescriptionTree → Type 0
+HasInstructionWidth d = (c : ℕ) → instruction_choice d ≡ Some c → (w : ℕ) × IsInstructionWidth d c w

@@ -1,0 +1,13 @@
+//! The forms of instructions: each operation with the operations that its children are and the fields of its labels.
+#![tactic(auto)]
+
+mod fields;
+mod form;
+mod laws;
+mod listing;
+mod picking;
+mod sources;
+
+pub use form::{Field, Form};
+pub use laws::{forms_are_plain, forms_have_the_width};
+pub use listing::forms;
