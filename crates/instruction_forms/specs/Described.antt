@@ -1,5 +1,5 @@
 -- The forms of a description, with the labels of their fields.
-use Rattle.std.specs.Prelude.{ℕ, Bool, false, true, List, [], ◌∷◌, Option, Some}
+use Rattle.std.specs.Prelude.{◌≡◌, ℕ, Bool, false, true, List, [], ◌∷◌, Option, Some, map}
 use Rattle.lisa_words.specs.declared.words.Kind.{Kind}
 use Rattle.lisa_words.specs.declared.words.Kind.TheVariants as kinds
 use Rattle.lisa_tree.specs.declared.descriptions.CodingItem.{CodingItem}
@@ -12,8 +12,10 @@ use Rattle.instruction_trees.specs.Trees.{Tree, Done, Pass, Value, Choose, codin
 use Rattle.instruction_trees.specs.Trees as plain
 use Rattle.instruction_trees.specs.Values.{own_values}
 use Rattle.coding_tables.specs.Codings.{coding_table}
+use Rattle.coding_tables.specs.Instructions.{forms_of}
 use Rattle.instruction_forms.specs.declared.form.Field.{Field}
-use Rattle.instruction_forms.specs.Trees.{FormTree, FormTrees, Node, End, Then}
+use Rattle.instruction_forms.specs.declared.form.Form.{Form}
+use Rattle.instruction_forms.specs.Trees.{FormTree, FormTrees, Node, End, Then, form_tree}
 
 -- ---- fields
 
@@ -68,3 +70,7 @@ described d low o t = operation_form d o (placed (coding_table d) low t (coding 
 abbrev pub instruction_form : DescriptionTree → plain.Form → FormTree
 instruction_form d (Choose o own t) = described d 0 o own
 instruction_form d _ = Node 0 End []
+
+-- these are the forms of all instructions, in order
+abbrev pub AreForms : DescriptionTree → List Form → Type 0
+AreForms d all = map form_tree all ≡ map (instruction_form d) (forms_of d)

@@ -1,15 +1,15 @@
 //! The forms, one after the other, each by its number.
 
-ghost use Rattle.std.specs.Prelude.{◌≡◌, ◌<◌, ◌≤◌, ℕ, None, Some, IfOk, length, map};
+ghost use Rattle.std.specs.Prelude.{◌≡◌, ◌<◌, ◌≤◌, ℕ, None, Some, IfOk, length};
 ghost use Rattle.least_fixed_points.specs.Settles.{entry};
 ghost use Rattle.description_names.specs.Declarations.{choices, alternatives_at};
 ghost use Rattle.description_names.specs.Paths.{choice_node};
 ghost use Rattle.description_graph.specs.Circles.{IsFirstCircularOperation};
 ghost use Rattle.coding_checks.specs.Widths.{AreWidths};
-ghost use Rattle.coding_tables.specs.Instructions.{below_count, total, forms_of, form_count};
+ghost use Rattle.coding_tables.specs.Instructions.{below_count, total, form_count};
 ghost use Rattle.coding_tables.specs.Ways.{IsShallow};
 ghost use Rattle.instruction_forms.specs.Trees.{form_tree};
-ghost use Rattle.instruction_forms.specs.Described.{instruction_form};
+ghost use Rattle.instruction_forms.specs.Described.{AreForms};
 ghost use Rattle.instruction_forms.specs.Picks.{pick, picked_form, IsPick};
 ghost use Rattle.instruction_forms.specs.Widths.{HasInstructionWidth};
 
@@ -89,7 +89,7 @@ pub fn forms<N: Names>(alloc: Global, names: &N) -> Result<Vec<Form>, NoMemory>
     requires acyclic { IsFirstCircularOperation (N.tree names.now) None }
     requires few { form_count (N.tree names.now) ≤ 1024 }
     requires wide { HasInstructionWidth (N.tree names.now) }
-    ensures { IfOk result (λ all. map form_tree all.items ≡ map (instruction_form (N.tree names.now)) (forms_of (N.tree names.now))) }
+    ensures { IfOk result (λ all. AreForms (N.tree names.now) all.items) }
 {
     let mut all = Vec::new(alloc);
     let Some(group) = instruction_choice(names) else {

@@ -1,0 +1,2 @@
+pub mod Syntaxes
+pub mod Instructions

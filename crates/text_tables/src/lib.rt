@@ -1,0 +1,10 @@
+//! Texts of many forms: which two share one, and which form a line is of.
+//!
+//! A form is known here by the pieces of its text alone, and by its number.
+#![tactic(auto)]
+
+mod shared;
+mod table;
+
+pub use shared::{Shared, first_shared};
+pub use table::{Found, TextTable};
