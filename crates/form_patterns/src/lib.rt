@@ -1,12 +1,12 @@
 //! The literal bits of a description's forms, which of them are plain, and where their fields stand.
 #![tactic(auto)]
 
+mod field_places;
 mod laws;
-mod patterns;
-mod places;
+mod literal_bits;
 mod plain;
 
+pub use field_places::places;
 pub use laws::fields_stand_in_preorder;
-pub use patterns::patterns;
-pub use places::places;
+pub use literal_bits::patterns;
 pub use plain::plain_forms;

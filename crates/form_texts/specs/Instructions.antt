@@ -8,7 +8,7 @@ use Rattle.instruction_texts.specs.declared.shapes.Shape.{Shape}
 use Rattle.instruction_texts.specs.Symbols.{Sym, gather, shown_values, is_instruction_text}
 use Rattle.instruction_texts.specs.Texts.{form_symbols}
 use Rattle.form_texts.specs.Syntaxes.{syntax_table}
-use Rattle.form_texts.specs.declared.texts.FormText.{FormText}
+use Rattle.form_texts.specs.declared.writing.FormText.{FormText}
 
 -- what an instruction writes, with the number of each field, in preorder, in place of its value
 abbrev pub instruction_symbols : DescriptionTree → Form → List (Sym ℕ)

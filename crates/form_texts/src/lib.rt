@@ -1,6 +1,6 @@
 //! The texts of a description's forms: the pieces of each, and the order in which it writes its fields.
 #![tactic(auto)]
 
-mod texts;
+mod writing;
 
-pub use texts::{FormText, first_bad_text, texts};
+pub use writing::{FormText, first_bad_text, texts};

@@ -20,11 +20,7 @@ pub struct FormText {
 }
 
 /// The texts of all forms, in order.
-pub fn texts<N: Names>(
-    alloc: Global,
-    names: &N,
-    forms: &[Form],
-) -> Result<Vec<FormText>, NoMemory>
+pub fn texts<N: Names>(alloc: Global, names: &N, forms: &[Form]) -> Result<Vec<FormText>, NoMemory>
     requires forms { AreForms (N.tree names.now) forms.now }
     ensures { IfOk result (λ all. AreTexts (N.tree names.now) all.items) }
 {
