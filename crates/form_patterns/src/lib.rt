@@ -1,6 +1,7 @@
 //! The literal bits of a description's forms, which of them are plain, and where their fields stand.
 #![tactic(auto)]
 
+mod bits;
 mod field_places;
 mod laws;
 mod literal_bits;

@@ -1,0 +1,7 @@
+pub mod Adding
+pub mod Views
+pub mod Framing
+pub mod Standing
+pub mod Going
+pub mod Placing
+pub mod Listing
