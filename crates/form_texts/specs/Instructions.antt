@@ -1,7 +1,7 @@
 -- The texts of a description's instructions.
-use Rattle.std.specs.Prelude.{ℕ, ◌≡◌, ◌+◌, List, [], ◌∷◌, Option, None, Some, cond, map, not}
+use Rattle.std.specs.Prelude.{ℕ, ◌≡◌, ◌+◌, List, [], ◌∷◌, Option, None, Some, cond, map}
 use Rattle.lisa_tree.specs.Descriptions.{DescriptionTree}
-use Rattle.instruction_trees.specs.Trees.{Form, Done, Pass, Value, Choose}
+use Rattle.instruction_trees.specs.Trees.{Form, Choose}
 use Rattle.coding_tables.specs.Codings.{coding_table}
 use Rattle.coding_tables.specs.Instructions.{forms_of}
 use Rattle.instruction_texts.specs.declared.shapes.Shape.{Shape}

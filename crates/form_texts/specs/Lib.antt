@@ -1,2 +1,4 @@
 pub mod Syntaxes
 pub mod Instructions
+pub mod Written
+pub mod Pieces

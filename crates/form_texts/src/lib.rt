@@ -1,6 +1,12 @@
 //! The texts of a description's forms: the pieces of each, and the order in which it writes its fields.
 #![tactic(auto)]
 
+mod assembling;
+mod conditions;
+mod form_symbols;
+mod gathering;
+mod places;
+mod symbols;
 mod writing;
 
 pub use writing::{FormText, first_bad_text, texts};

@@ -1,0 +1,6 @@
+pub mod Naming
+pub mod Codings
+pub mod Numbered
+pub mod Pieces
+pub mod Trees
+pub mod Listed
