@@ -8,3 +8,4 @@ pub mod Fielding
 pub mod Whole
 pub mod Wide
 pub mod Numbered
+pub mod Commas

@@ -5,9 +5,11 @@ mod fields;
 mod form;
 mod laws;
 mod listing;
+mod naming;
 mod picking;
 mod sources;
 
 pub use form::{Field, Form};
 pub use laws::{forms_are_plain, forms_have_the_width};
 pub use listing::forms;
+pub use naming::form_name;
