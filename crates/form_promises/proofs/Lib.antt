@@ -1,0 +1,3 @@
+pub mod Rooted
+pub mod Wide
+pub mod Listed

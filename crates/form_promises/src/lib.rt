@@ -1,0 +1,7 @@
+//! What an accepted description promises of its instructions: how wide they are, that the root has its group, and that no form is listed
+//! twice. Each is the contract of a function that does nothing, so a proof cites the fact and never opens a condition's definition.
+#![tactic(auto)]
+
+mod instructions;
+
+pub use instructions::{a_root_has_a_group, forms_are_distinct, instructions_have_a_width};
