@@ -28,3 +28,15 @@ pub record IsFirstShared (all : List (List Shape)) (s : Shared) : Type 0 where
 -- no two have one text, or these are the first that do
 abbrev pub AnswersShared : List (List Shape) → Option Shared → Type 0
 AnswersShared all result = MatchOption result ((i j : ℕ) (ts : List Token) → IsShared all i j ts → ⊥) (IsFirstShared all)
+
+-- of all later forms that share a text with this one it is the first, with some text of both
+pub record IsSharedWith (all : List (List Shape)) (i : ℕ) (s : Shared) : Type 0 where
+  pub is : s.first ≡ i
+  pub tokens : List Token
+  pub shared : IsShared all i s.second tokens
+  pub text : s.text.items ≡ text_bytes tokens
+  pub second : (j : ℕ) (ts : List Token) → IsShared all i j ts → s.second ≤ j
+
+-- no later form shares a text with this one, or this is the first that does
+abbrev pub AnswersWith : List (List Shape) → ℕ → Option Shared → Type 0
+AnswersWith all i result = MatchOption result ((j : ℕ) (ts : List Token) → IsShared all i j ts → ⊥) (IsSharedWith all i)

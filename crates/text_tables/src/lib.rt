@@ -3,6 +3,8 @@
 //! A form is known here by the pieces of its text alone, and by its number.
 #![tactic(auto)]
 
+mod beginnings;
+mod joining;
 mod shared;
 mod table;
 

@@ -1,12 +1,13 @@
 //! Texts that two forms share.
 
-ghost use Rattle.std.specs.Prelude.{◌≡◌, ◌<◌, ◌^◌, List, IfOk, length, map};
+ghost use Rattle.std.specs.Prelude.{◌≡◌, ◌<◌, List, IfOk, IfSome, IfNone, length, map};
 ghost use Rattle.std.specs.List.{All};
-ghost use Rattle.instruction_texts.specs.declared.shapes.Shape.{Shape as AnyShape};
-ghost use Rattle.instruction_texts.specs.Shapes.{IsSized};
-ghost use Rattle.text_tables.specs.Shared.{AnswersShared};
+ghost use Rattle.instruction_texts.specs.declared.shapes.Token.{Token};
+ghost use Rattle.instruction_texts.specs.Shapes.{IsSized, IsText};
+ghost use Rattle.instruction_texts.specs.Written.{text_bytes};
+ghost use Rattle.text_tables.specs.Shared.{AnswersShared, AnswersWith};
 
-use instruction_texts::Shape;
+use instruction_texts::{Shape, common_text};
 use lisa_words::NoMemory;
 use std::alloc::Global;
 
@@ -18,10 +19,33 @@ pub struct Shared {
     pub text: Vec<u8>,
 }
 
+// The first later form that shares a text with this one.
+fn shared_with(alloc: Global, texts: &[&[Shape]], first: usize) -> Result<Option<Shared>, NoMemory>
+    requires within { first < length texts.now }
+    requires sized { All (All IsSized) (map (λ t. t.now) texts.now) }
+    ensures { IfOk result (AnswersWith (map (λ t. t.now) texts.now) first) }
+{
+    'later: for second in first + 1..texts.len() {
+        if let Some(text) = common_text(alloc, texts[first], texts[second])? {
+            return Ok(Some(Shared {
+                first,
+                second,
+                text,
+            }));
+        }
+    }
+    Ok(None)
+}
+
 /// The first two different forms that have a text in common: the least first one, and with it the least second one.
 pub fn first_shared(alloc: Global, texts: &[&[Shape]]) -> Result<Option<Shared>, NoMemory>
     requires { All (All IsSized) (map (λ t. t.now) texts.now) }
     ensures { IfOk result (AnswersShared (map (λ t. t.now) texts.now)) }
 {
-    Err(NoMemory)
+    'forms: for first in 0..texts.len() {
+        if let Some(shared) = shared_with(alloc, texts, first)? {
+            return Ok(Some(shared));
+        }
+    }
+    Ok(None)
 }

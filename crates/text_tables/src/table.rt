@@ -1,14 +1,16 @@
 //! Forms by how their texts begin.
 
-ghost use Rattle.std.specs.Prelude.{◌≡◌, ◌<◌, IfOk, length, map};
+ghost use Rattle.std.specs.Prelude.{◌≡◌, ◌<◌, ◌++◌, ℕ, List, [], ◌∷◌, IfOk, length, map};
 ghost use Rattle.std.specs.List.{All};
 ghost use Rattle.asm_source.specs.Plain.{token_tree};
 ghost use Rattle.instruction_texts.specs.Shapes.{IsSized};
-ghost use Rattle.text_tables.specs.Reading.{IsFound};
+ghost use Rattle.text_tables.specs.Reading.{IsFound, IsFoundAmong, AreKept};
 ghost use Rattle.text_tables.specs.Shared.{shapes_at};
 
+use crate::beginnings::Beginnings;
+use crate::joining::joined;
 use asm_source::LineToken;
-use instruction_texts::{Operand, Shape};
+use instruction_texts::{Operand, Shape, matches};
 use lisa_words::NoMemory;
 use std::alloc::Global;
 use std::marker::Model;
@@ -27,19 +29,31 @@ pub enum Found<'a> {
 #[derive(Drop)]
 pub struct TextTable {
     texts: Vec<Vec<Shape>>,
+    beginnings: Beginnings,
 }
 
 impl Model for TextTable {
-    ghost use Rattle.std.specs.Prelude.{List, map};
+    ghost use Rattle.std.specs.Prelude.{List, length, map};
     ghost use Rattle.std.specs.List.{All};
     ghost use Rattle.instruction_texts.specs.declared.shapes.Shape.{Shape};
     ghost use Rattle.instruction_texts.specs.Shapes.{IsSized};
+    ghost use Rattle.text_tables.specs.Reading.{AreKept};
 
     ghost Value = { List (List Shape) };
 
     ghost view = { λ t. map (λ v. v.items) t.texts.items };
 
-    ghost invariant = { λ t. All (All IsSized) (map (λ v. v.items) t.texts.items) };
+    ghost invariant = { λ t. All (All IsSized) (map (λ v. v.items) t.texts.items) × AreKept (map (λ v. v.items) t.texts.items) (length t.texts.items) t.beginnings };
+}
+
+fn beginnings_of(alloc: Global, texts: &[Vec<Shape>]) -> Result<Beginnings, NoMemory>
+    ensures { IfOk result (AreKept (map (λ v. v.items) texts.now) (length texts.now)) }
+{
+    let mut beginnings = Beginnings::new(alloc);
+    'forms: for form in 0..texts.len() {
+        beginnings.enter_form(alloc, &texts[form], form)?;
+    }
+    Ok(beginnings)
 }
 
 impl TextTable {
@@ -48,14 +62,37 @@ impl TextTable {
         requires { All (All IsSized) (map (λ v. v.items) texts.items) }
         ensures { IfOk result (λ t. t ≡ map (λ v. v.items) texts.items) }
     {
-        Err(NoMemory)
+        let beginnings = beginnings_of(alloc, &texts)?;
+        Ok(TextTable { texts, beginnings })
+    }
+
+    // What is found once one more form has been tried.
+    fn tried<'a>(
+        &self,
+        alloc: Global,
+        form: usize,
+        line: &'a [LineToken],
+        found: Found<'a>,
+    ) -> Result<Found<'a>, NoMemory>
+        requires { form < length self.now }
+        ensures { IfOk result (λ next. (ks : List ℕ) → IsFoundAmong self.now (map token_tree line.now) ks found.entry → IsFoundAmong self.now (map token_tree line.now) (ks ++ form ∷ []) next) }
+    {
+        match matches(alloc, &self.texts[form], line)? {
+            None => Ok(found),
+            Some(operands) => Ok(joined(found, form, operands)),
+        }
     }
 
     /// Which forms the line matches. Only forms whose texts may begin as the line does are looked at.
     pub fn read<'a>(&self, alloc: Global, line: &'a [LineToken]) -> Result<Found<'a>, NoMemory>
         ensures { IfOk result (λ found. IsFound self.now (map token_tree line.now) found) }
     {
-        Err(NoMemory)
+        let forms = self.beginnings.begun(alloc, line)?;
+        let mut found = Found::Nothing;
+        'forms: for form in &forms {
+            found = self.tried(alloc, *form, line, found)?;
+        }
+        Ok(found)
     }
 
     /// The pieces of a form's text.

@@ -1,0 +1,4 @@
+pub mod Sharing
+pub mod OneMore
+pub mod Keeping
+pub mod Tried
