@@ -1,3 +1,6 @@
 pub mod Rooted
 pub mod Wide
 pub mod Listed
+pub mod Counted
+pub mod Keyed
+pub mod Spelled

@@ -1,7 +1,10 @@
-//! What an accepted description promises of its instructions: how wide they are, that the root has its group, and that no form is listed
-//! twice. Each is the contract of a function that does nothing, so a proof cites the fact and never opens a condition's definition.
+//! What an accepted description promises of its instructions: how wide they are, that the root has its group, that no form is listed twice,
+//! and that operations write what they code. Each is the contract of a function that does nothing, so a proof cites the fact and never opens
+//! a condition's definition.
 #![tactic(auto)]
 
 mod instructions;
+mod writing;
 
 pub use instructions::{a_root_has_a_group, forms_are_distinct, instructions_have_a_width};
+pub use writing::operations_write_once;

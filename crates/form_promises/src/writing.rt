@@ -1,0 +1,19 @@
+//! What the operations of an accepted description write.
+
+ghost use Rattle.std.specs.Prelude.{◌≡◌, ℕ, List, [], None, true, slice_index_or};
+ghost use Rattle.lisa_tree.specs.Descriptions.{DescriptionTree};
+ghost use Rattle.description_places.specs.Places.{first, description_places};
+ghost use Rattle.description_names.specs.Operations.{coding_in, sections_at};
+ghost use Rattle.coded_names.specs.Codings.{is_coding};
+ghost use Rattle.lisa_machine.specs.Verdicts.{IsAccepted};
+ghost use Rattle.coding_checks.specs.Written.{not_written};
+ghost use Rattle.instruction_trees.specs.Trees.{coding};
+ghost use Rattle.coding_tables.specs.Codings.{coding_table};
+ghost use Rattle.instruction_texts.specs.Once.{IsWrittenOnce};
+ghost use Rattle.form_texts.specs.Syntaxes.{syntax_table};
+
+/// In an accepted description in which each label, and each child of a coding, stands once in the coding and once in the syntax, an
+/// operation with a coding that isn't the root's writes each of its fields and children once, and nothing else.
+pub fn operations_write_once()
+    ensures { (d : DescriptionTree) → IsAccepted d → first (not_written d) (description_places d) ≡ None → (o : ℕ) → is_coding (coding_in (sections_at d o)) ≡ true → IsWrittenOnce (coding (coding_table d) o) (slice_index_or (syntax_table d) o []) }
+{}
