@@ -4,3 +4,5 @@ pub mod Listed
 pub mod Counted
 pub mod Keyed
 pub mod Spelled
+pub mod Agreeing
+pub mod Readable

@@ -70,7 +70,7 @@ some_name (n ∷ names) (suc j) h = some_name names j (omega (arith, h))
 
 -- ---- the syntax of an operation
 
-syntax_is : (d : DescriptionTree) (more o k : ℕ) → k < more → slice_index_or (syntax_from d o more) k [] ≡ elements_at d (o + k)
+pub syntax_is : (d : DescriptionTree) (more o k : ℕ) → k < more → slice_index_or (syntax_from d o more) k [] ≡ elements_at d (o + k)
 syntax_is d zero o k h = absurd (omega (arith, h))
 syntax_is d (suc more) o zero h = ap (elements_at d) (let e : o ≡ o + 0 = omega arith in e)
 syntax_is d (suc more) o (suc k) h = syntax_is d more (suc o) k (omega (arith, h)) ∙ ap (elements_at d) (let e : suc o + k ≡ o + suc k = omega arith in e)

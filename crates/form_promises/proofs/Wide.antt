@@ -74,7 +74,7 @@ module _ (widths : ℕ → Option ℕ) where
     each_wide d ks (λ j i c. below j (in_later j k ks i) c) (off_right (lacks_coding d k) (list_any (lacks_coding d) ks) e),
   )
 
-even_child : (o n : List ℕ) (b : Bool) → cond b (Some (DescFault.GroupWidth o n)) None ≡ None → b ≡ false
+pub even_child : (o n : List ℕ) (b : Bool) → cond b (Some (DescFault.GroupWidth o n)) None ≡ None → b ≡ false
 even_child o n false e = refl
 even_child o n true e = absurd (cc e)
 
@@ -101,6 +101,9 @@ module _ (d : DescriptionTree) (s : IsSound d) where
     abbrev Below : ℕ → Type 0
     Below bound = (k : ℕ) → (operation_ranks d s.circles).rank k < bound → is_coding (coding_in (sections_at d k)) ≡ true → IsWide widths k
 
+    choice_follows : (c w : ℕ) → c < length (choices d) → alternatives_width widths (alternatives_at d c) ≡ Some w → widths (choice_node d c) ≡ Some w
+    choice_follows c w h e = settles (choice_node d c) w (ap (node_width d widths) (at_choice d (choice_node d c) c h refl) ∙ e)
+
     choice_wide : (o : ℕ) (n : List ℕ) (c : ℕ) → IsChildOf d o n c → child_uneven widths d o n ≡ false → Below ((operation_ranks d s.circles).rank o) → IsWide widths (choice_node d c)
     choice_wide o n c child same below =
         let ks = alternatives_at d c in
@@ -111,7 +114,7 @@ module _ (d : DescriptionTree) (s : IsSound d) where
         let rest = off_right (list_any (lacks_coding d) ks) (list_any (λ k. is_too_wide (widths k)) ks || differ (known_widths widths ks)) uneven in
         let each = each_wide widths d ks (λ k i coded. below k (subst (λ (p : ℕ). ranks.rank k < ranks.rank p) own.owner (ranks.falls c k own.chosen own.is i)) coded) (off_left (list_any (lacks_coding d) ks) (list_any (λ k. is_too_wide (widths k)) ks || differ (known_widths widths ks)) uneven) in
         let w = all_wide widths ks (some_alternatives o n c child) each (off_left (list_any (λ k. is_too_wide (widths k)) ks) (differ (known_widths widths ks)) rest) (off_right (list_any (λ k. is_too_wide (widths k)) ks) (differ (known_widths widths ks)) rest) in
-        (w.0, settles (choice_node d c) w.0 (ap (node_width d widths) (at_choice d (choice_node d c) c (slice_get_within (choices d) c own.chosen own.is) refl) ∙ w.1))
+        (w.0, choice_follows c w.0 (slice_get_within (choices d) c own.chosen own.is) w.1)
 
     -- ---- codings
 

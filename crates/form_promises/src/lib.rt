@@ -7,4 +7,4 @@ mod instructions;
 mod writing;
 
 pub use instructions::{a_root_has_a_group, forms_are_distinct, instructions_have_a_width};
-pub use writing::operations_write_once;
+pub use writing::{instructions_are_readable, operations_write_once};

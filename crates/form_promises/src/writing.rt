@@ -6,14 +6,24 @@ ghost use Rattle.description_places.specs.Places.{first, description_places};
 ghost use Rattle.description_names.specs.Operations.{coding_in, sections_at};
 ghost use Rattle.coded_names.specs.Codings.{is_coding};
 ghost use Rattle.lisa_machine.specs.Verdicts.{IsAccepted};
+ghost use Rattle.coding_checks.specs.Uneven.{IsFirstGroupWidth};
 ghost use Rattle.coding_checks.specs.Written.{not_written};
-ghost use Rattle.instruction_trees.specs.Trees.{coding};
+ghost use Rattle.instruction_trees.specs.Trees.{Form, Choose, Fits, AnyValue, coding};
 ghost use Rattle.coding_tables.specs.Codings.{coding_table};
+ghost use Rattle.coding_tables.specs.Instructions.{instruction_items};
+ghost use Rattle.instruction_texts.specs.Symbols.{is_clean};
 ghost use Rattle.instruction_texts.specs.Once.{IsWrittenOnce};
+ghost use Rattle.instruction_texts.specs.Texts.{form_symbols, IsReadable};
 ghost use Rattle.form_texts.specs.Syntaxes.{syntax_table};
 
 /// In an accepted description in which each label, and each child of a coding, stands once in the coding and once in the syntax, an
-/// operation with a coding that isn't the root's writes each of its fields and children once, and nothing else.
+/// operation with a coding that isn't the root's writes each of its fields and children once. Without such a coding it may write more.
 pub fn operations_write_once()
     ensures { (d : DescriptionTree) → IsAccepted d → first (not_written d) (description_places d) ≡ None → (o : ℕ) → is_coding (coding_in (sections_at d o)) ≡ true → IsWrittenOnce (coding (coding_table d) o) (slice_index_or (syntax_table d) o []) }
+{}
+
+/// Where each child's alternatives have codings of one width as well, a form of an instruction is readable, so that its texts tell its trees
+/// apart, if each number in them ends its run. No field of it is without a bit.
+pub fn instructions_are_readable()
+    ensures { (d : DescriptionTree) → IsAccepted d → IsFirstGroupWidth d None → first (not_written d) (description_places d) ≡ None → (o : ℕ) (own t : Form) → Fits AnyValue (coding_table d) (Choose o own t) (instruction_items d) → is_clean (form_symbols (coding_table d) (syntax_table d) o own) ≡ true → IsReadable (coding_table d) (syntax_table d) o own }
 {}

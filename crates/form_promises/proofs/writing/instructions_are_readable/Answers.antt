@@ -1,0 +1,13 @@
+use Rattle.std.proofs.Common.{None}
+use Rattle.lisa_tree.specs.Descriptions.{DescriptionTree}
+use Rattle.coding_checks.specs.Uneven.{IsFirstGroupWidth, group_width}
+use Rattle.description_promises.specs.Freedom.{IsFree}
+use Rattle.description_promises.proofs.Sound.{sound}
+use Rattle.form_promises.proofs.Readable.{form_readable}
+use Rattle.form_promises.proofs.writing.instructions_are_readable.Goals as goal
+
+even_of : (d : DescriptionTree) (first : IsFirstGroupWidth d None) → IsFree (group_width first.widths d) d
+even_of d first = cc first.is
+
+pub returns : goal.returns
+returns c = λ d accepted even free o own t fits clean. form_readable d (sound d accepted) even.widths (even_of d even) free o own t fits clean
