@@ -2,3 +2,4 @@ pub mod Sharing
 pub mod OneMore
 pub mod Keeping
 pub mod Tried
+pub mod Opened

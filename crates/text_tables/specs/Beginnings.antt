@@ -8,6 +8,7 @@ use Rattle.instruction_texts.specs.declared.shapes.Shape.{Shape}
 use Rattle.instruction_texts.specs.Starts.{Beginning, Mark, Word, Prefix, first_start, negative_start}
 use Rattle.text_tables.specs.declared.beginnings.Beginnings.{Beginnings}
 
+-- the numbers, or none
 abbrev pub items_of : Option (Vec ℕ Global) → List ℕ
 items_of None = []
 items_of (Some v) = v.items
@@ -28,6 +29,7 @@ numbers_of t (Some (Mark c)) = kept_at nat_eq t.signs c
 numbers_of t (Some (Word w)) = kept_at (pointwise nat_eq) t.words w
 numbers_of t (Some (Prefix p)) = kept_at (pointwise nat_eq) t.prefixes p
 
+-- whether they are one beginning, or none both
 abbrev pub same : Option Beginning → Option Beginning → Bool
 same None None = true
 same (Some (Mark c)) (Some (Mark d)) = nat_eq c d

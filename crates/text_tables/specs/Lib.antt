@@ -1,3 +1,4 @@
 pub mod Shared
 pub mod Reading
 pub mod Beginnings
+pub mod Openings

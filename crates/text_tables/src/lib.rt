@@ -5,6 +5,7 @@
 
 mod beginnings;
 mod joining;
+mod openings;
 mod shared;
 mod table;
 

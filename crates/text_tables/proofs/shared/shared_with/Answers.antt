@@ -2,11 +2,11 @@ use Rattle.std.proofs.Common.{arith}
 use Rattle.text_tables.proofs.Sharing.{sized_at, first_later, none_up_to, none_later}
 use Rattle.text_tables.proofs.shared.shared_with.Goals as goal
 
-pub common_text-requires-clause-first : goal.common_text-requires-clause-first
-common_text-requires-clause-first c = sized_at (λ t. t.now) c.args.texts.now c.args.first c.index-texts-first.result c.requires.sized c.requires.within c.index-texts-first.is
+pub shared_text-requires-clause-first : goal.shared_text-requires-clause-first
+shared_text-requires-clause-first c = sized_at (λ t. t.now) c.args.texts.now c.args.first c.index-texts-first.result c.requires.sized c.requires.within c.index-texts-first.is
 
-pub common_text-requires-clause-second : goal.common_text-requires-clause-second
-common_text-requires-clause-second c = sized_at (λ t. t.now) c.args.texts.now c.later.second c.index-texts-second.result c.requires.sized (omega arith) c.index-texts-second.is
+pub shared_text-requires-clause-second : goal.shared_text-requires-clause-second
+shared_text-requires-clause-second c = sized_at (λ t. t.now) c.args.texts.now c.later.second c.index-texts-second.result c.requires.sized (omega arith) c.index-texts-second.is
 
 pub returns-in-Some : goal.returns-in-Some
 returns-in-Some c =

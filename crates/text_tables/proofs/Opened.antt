@@ -1,0 +1,199 @@
+-- Forms with a common text begin alike, piece by piece.
+use Rattle.std.proofs.Common.{◌≡◌, ℕ, ◌+◌, ◌-◌, ◌<◌, Bool, true, false, ◌||◌, List, [], ◌∷◌, ◌++◌, length, take, drop, get_or, min, length-drop, drop-drop, Option, Some, None, nat_eq, is_some, refl, sym, ap, ◌∙◌, subst, arith, inl, inr, ◌⊎◌, eq-eqb, append_assoc}
+use Rattle.std.specs.List.{starts_with}
+use Rattle.std.specs.Cmp.Lexicographic.{pointwise}
+use Rattle.std.proofs.lemmas.Bool.{cases_lt, true≢false}
+use Rattle.std.proofs.lemmas.List.{take_all}
+use Rattle.std.proofs.lemmas.Bool.Decides.{Decides-eqb}
+use Rattle.std.proofs.lemmas.Slice.Eq.{bytes_eq-Decides, starts_is}
+use Rattle.instruction_texts.specs.declared.shapes.Shape.{Shape}
+use Rattle.instruction_texts.specs.declared.shapes.Shape.TheVariants.{Signed}
+use Rattle.instruction_texts.specs.declared.shapes.Token.{Token}
+use Rattle.instruction_texts.specs.declared.shapes.Token.TheVariants as tokens
+use Rattle.instruction_texts.specs.Shapes as shapes
+use Rattle.instruction_texts.specs.Shapes.{zero_x, lead, before_sign, Spells, IsText}
+use Rattle.instruction_texts.specs.Starts.{Beginning, Mark, Word, Prefix, first_start, negative_start}
+use Rattle.text_tables.specs.Openings.{meet, meet_if_any, begins_so, begin_alike}
+
+-- ---- one token that begins in two ways
+
+-- the token begins so
+abbrev Opens : Option Beginning → Token → Type 0
+Opens None t = ⊥
+Opens (Some (Mark c)) t = t ≡ tokens.Sign c
+Opens (Some (Word w)) t = t ≡ tokens.Word w
+Opens (Some (Prefix p)) t = (q : List ℕ) × (t ≡ tokens.Word (p ++ q))
+
+-- a text of the form may begin with the token
+abbrev Begins : List Shape → Token → Type 0
+Begins ss t = Opens (first_start ss) t ⊎ Opens (negative_start ss) t
+
+or_left : (a b : Bool) → a ≡ true → (a || b) ≡ true
+or_left a b e = ap (λ (c : Bool). c || b) e
+
+or_right : (a b : Bool) → b ≡ true → (a || b) ≡ true
+or_right true b e = refl
+or_right false b e = e
+
+run_of : Token → List ℕ
+run_of (tokens.Word w) = w
+run_of (tokens.Sign c) = []
+
+sign_of : Token → ℕ
+sign_of (tokens.Word w) = 0
+sign_of (tokens.Sign c) = c
+
+one_run : (v w : List ℕ) → tokens.Word v ≡ tokens.Word w → v ≡ w
+unfolding run_of
+one_run v w e = ap run_of e
+
+one_sign : (c d : ℕ) → tokens.Sign c ≡ tokens.Sign d → c ≡ d
+unfolding sign_of
+one_sign c d e = ap sign_of e
+
+two_kinds : (c : ℕ) (w : List ℕ) → tokens.Sign c ≡ tokens.Word w → ⊥
+two_kinds c w e = cc
+
+starts : (s p q : List ℕ) → s ≡ p ++ q → starts_with nat_eq s p ≡ true
+starts s p q e = (starts_is Decides-eqb s p (starts_with nat_eq s p) refl).1 q e
+
+same_run : (v w : List ℕ) → v ≡ w → pointwise nat_eq v w ≡ true
+same_run v w e = (bytes_eq-Decides v w).1 e
+
+-- of two fronts of one run one is a front of the other
+fronts : (p x q y : List ℕ) → p ++ x ≡ q ++ y → ((r : List ℕ) × (p ≡ q ++ r)) ⊎ ((r : List ℕ) × (q ≡ p ++ r))
+fronts [] x q y e = inr (q, refl)
+fronts (c ∷ p) x [] y e = inl (c ∷ p, refl)
+fronts (c ∷ p) x (d ∷ q) y e =
+    let h : c ≡ d = ap (λ (l : List ℕ). get_or l 0 0) e in
+    elim (fronts p x q y (ap (λ (l : List ℕ). drop 1 l) e)) [
+      | inl f ↦ inl (f.0, ap (λ (l : List ℕ). c ∷ l) f.1 ∙ ap (λ (n : ℕ). n ∷ (q ++ f.0)) h)
+      | inr f ↦ inr (f.0, ap (λ (l : List ℕ). d ∷ l) f.1 ∙ ap (λ (n : ℕ). n ∷ (p ++ f.0)) (sym h))
+    ]
+
+two_prefixes : (p x q y : List ℕ) → p ++ x ≡ q ++ y → (starts_with nat_eq p q || starts_with nat_eq q p) ≡ true
+two_prefixes p x q y e = elim (fronts p x q y e) [
+  | inl f ↦ or_left (starts_with nat_eq p q) (starts_with nat_eq q p) (starts p q f.0 f.1)
+  | inr f ↦ or_right (starts_with nat_eq p q) (starts_with nat_eq q p) (starts q p f.0 f.1)
+]
+
+meets : (a b : Beginning) (t : Token) → Opens (Some a) t → Opens (Some b) t → meet a b ≡ true
+meets (Mark c) (Mark d) t g h = eq-eqb c d (one_sign c d (sym g ∙ h))
+meets (Mark c) (Word w) t g h = absurd (two_kinds c w (sym g ∙ h))
+meets (Mark c) (Prefix p) t g h = absurd (two_kinds c (p ++ h.0) (sym g ∙ h.1))
+meets (Word w) (Mark c) t g h = absurd (two_kinds c w (sym h ∙ g))
+meets (Word v) (Word w) t g h = same_run v w (one_run v w (sym g ∙ h))
+meets (Word w) (Prefix p) t g h = starts w p h.0 (one_run w (p ++ h.0) (sym g ∙ h.1))
+meets (Prefix p) (Mark c) t g h = absurd (two_kinds c (p ++ g.0) (sym h ∙ g.1))
+meets (Prefix p) (Word w) t g h = starts w p g.0 (one_run w (p ++ g.0) (sym h ∙ g.1))
+meets (Prefix p) (Prefix q) t g h = two_prefixes p g.0 q h.0 (one_run (p ++ g.0) (q ++ h.0) (sym g.1 ∙ h.1))
+
+meet_any : (a b : Option Beginning) (t : Token) → Opens a t → Opens b t → meet_if_any a b ≡ true
+meet_any None b t g h = elim g [ ]
+meet_any (Some a) None t g h = elim h [ ]
+meet_any (Some a) (Some b) t g h = meets a b t g h
+
+so_begun : (a : Option Beginning) (ss : List Shape) (t : Token) → Opens a t → Begins ss t → begins_so a ss ≡ true
+so_begun a ss t g h = elim h [
+  | inl o ↦ or_left (meet_if_any a (first_start ss)) (meet_if_any a (negative_start ss)) (meet_any a (first_start ss) t g o)
+  | inr o ↦ or_right (meet_if_any a (first_start ss)) (meet_if_any a (negative_start ss)) (meet_any a (negative_start ss) t g o)
+]
+
+alike : (ss us : List Shape) (t : Token) → Begins ss t → Begins us t → begin_alike ss us ≡ true
+alike ss us t g h = elim g [
+  | inl o ↦ or_left (begins_so (first_start ss) us) (begins_so (negative_start ss) us) (so_begun (first_start ss) us t o h)
+  | inr o ↦ or_right (begins_so (first_start ss) us) (begins_so (negative_start ss) us) (so_begun (negative_start ss) us t o h)
+]
+
+-- ---- the first token of a text
+
+-- the first token, with which the form may begin, and what follows it, a text of the other pieces where the first has no sign
+abbrev Opened : List Shape → List Token → Type 0
+Opened [] ts = ts ≡ []
+Opened (s ∷ ss) ts = (t : Token) × (us : List Token) × (ts ≡ t ∷ us) × Begins (s ∷ ss) t × (negative_start (s ∷ ss) ≡ None → IsText ss us)
+
+opened_minus : (p cs : List ℕ) (n : ℕ) (ss : List Shape) (ts us : List Token) → us ≡ before_sign p (tokens.Sign 45 ∷ tokens.Word cs ∷ ts) → Opened (Signed p n ∷ ss) us
+opened_minus [] cs n ss ts us e = (tokens.Sign 45, tokens.Word cs ∷ ts, e, inr refl, λ none. absurd cc)
+opened_minus (c ∷ p) cs n ss ts us e = (tokens.Word (c ∷ p), tokens.Sign 45 ∷ tokens.Word cs ∷ ts, e, inr refl, λ none. absurd cc)
+
+led : (hex : Bool) (p cs : List ℕ) → (q : List ℕ) × (tokens.Word (lead hex p ++ cs) ≡ tokens.Word (p ++ q))
+led true p cs = (zero_x ++ cs, ap (λ (w : List ℕ). tokens.Word w) (append_assoc p zero_x cs))
+led false p cs = (cs, refl)
+
+opened : {ss : List Shape} {vs : List ℕ} {ts : List Token} → Spells ss vs ts → Opened ss ts
+opened shapes.end = refl
+opened (shapes.other {c = c} {vs = vs} {ts = ts} m) = (tokens.Sign c, ts, refl, inl refl, λ none. (vs, m))
+opened (shapes.literal {p = p} {vs = vs} {ts = ts} m) = (tokens.Word p, ts, refl, inl refl, λ none. (vs, m))
+opened (shapes.unsigned {hex = hex} {p = p} cs {vs = vs} {ts = ts} h v m e) = (tokens.Word (lead hex p ++ cs), ts, e, inl (led hex p cs), λ none. (vs, m))
+opened (shapes.positive {p = p} cs {vs = vs} {ts = ts} h v m e) = (tokens.Word (p ++ cs), ts, e, inl (cs, refl), λ none. absurd cc)
+opened (shapes.negative {p = p} cs {n = n} {ss = ss} {ts = ts} {us = us} h v m e) = opened_minus p cs n ss ts us e
+
+-- ---- two forms with one text
+
+-- some text is one of both
+abbrev pub Share : List Shape → List Shape → Type 0
+Share ss us = (ts : List Token) × IsText ss ts × IsText us ts
+
+heads : (t u : Token) (ts us : List Token) → t ∷ ts ≡ u ∷ us → t ≡ u
+heads t u ts us e = ap (λ (l : List Token). get_or l 0 t) e
+
+tails : (t u : Token) (ts us : List Token) → t ∷ ts ≡ u ∷ us → ts ≡ us
+tails t u ts us e = ap (λ (l : List Token). drop 1 l) e
+
+share_alike : (ss us : List Shape) → 0 < length ss → 0 < length us → Share ss us → begin_alike ss us ≡ true
+share_alike [] us p q h = absurd (omega arith)
+share_alike (s ∷ ss) [] p q h = absurd (omega arith)
+share_alike (s ∷ ss) (u ∷ us) p q h =
+    let f = opened h.1.1 in
+    let g = opened h.2.1 in
+    let same : g.0 ≡ f.0 = heads g.0 f.0 g.1 f.1 (sym g.2 ∙ f.2) in
+    alike (s ∷ ss) (u ∷ us) f.0 f.3 (subst (λ (t : Token). Begins (u ∷ us) t) same g.3)
+
+no_sign : (b : Option Beginning) → is_some b ≡ false → b ≡ None
+no_sign None e = refl
+no_sign (Some b) e = absurd cc
+
+share_behind : (ss us : List Shape) → 0 < length ss → 0 < length us → is_some (negative_start ss) ≡ false → is_some (negative_start us) ≡ false → Share ss us → Share (drop 1 ss) (drop 1 us)
+share_behind [] us p q a b h = absurd (omega arith)
+share_behind (s ∷ ss) [] p q a b h = absurd (omega arith)
+share_behind (s ∷ ss) (u ∷ us) p q a b h =
+    let f = opened h.1.1 in
+    let g = opened h.2.1 in
+    let same : g.1 ≡ f.1 = tails g.0 f.0 g.1 f.1 (sym g.2 ∙ f.2) in
+    (f.1, f.4 (no_sign (negative_start (s ∷ ss)) a), subst (λ (ts : List Token). IsText us ts) same (g.4 (no_sign (negative_start (u ∷ us)) b)))
+
+share_whole : (ss us : List Shape) → Share ss us → (length ss ≡ 0 → length us ≡ 0) × (length us ≡ 0 → length ss ≡ 0)
+share_whole [] [] h = (λ e. refl, λ e. refl)
+share_whole [] (u ∷ us) h = absurd (let f = opened h.1.1 in let g = opened h.2.1 in let e = sym f ∙ g.2 in cc)
+share_whole (s ∷ ss) [] h = absurd (let f = opened h.1.1 in let g = opened h.2.1 in let e = sym g ∙ f.2 in cc)
+share_whole (s ∷ ss) (u ∷ us) h = (λ e. absurd (omega arith), λ e. absurd (omega arith))
+
+-- ---- the loop over the pieces
+
+rest_is : (i : ℕ) (ss : List Shape) → take (length ss - i) (drop i ss) ≡ drop i ss
+rest_is i ss = take_all (length ss - i) (drop i ss) (omega (arith, length-drop i ss))
+
+-- the pieces from the i-th on, as a slice gives them
+abbrev pub rest : ℕ → List Shape → List Shape
+rest i ss = take (length ss - i) (drop i ss)
+
+module _ (ss us : List Shape) (i : ℕ) (on : Share ss us → Share (drop i ss) (drop i us)) where
+  pub unlike : i < length ss → i < length us → begin_alike (rest i ss) (rest i us) ≡ false → Share ss us → ⊥
+  unlike p q e h =
+      let t = share_alike (drop i ss) (drop i us) (omega (arith, length-drop i ss)) (omega (arith, length-drop i us)) (on h) in
+      let n : begin_alike (drop i ss) (drop i us) ≡ false = rw (rest_is i ss, rest_is i us) at e in
+      absurd (true≢false (sym t ∙ n))
+
+  pub alike_so_far : i < length ss → i < length us → is_some (negative_start (rest i ss)) ≡ false → is_some (negative_start (rest i us)) ≡ false
+      → Share ss us → Share (drop (i + 1) ss) (drop (i + 1) us)
+  alike_so_far p q a b h =
+      subst (λ (vs : List Shape). Share vs (drop (i + 1) us)) (drop-drop 1 i ss)
+      (subst (λ (vs : List Shape). Share (drop 1 (drop i ss)) vs) (drop-drop 1 i us)
+      (share_behind (drop i ss) (drop i us) (omega (arith, length-drop i ss)) (omega (arith, length-drop i us)) (rw (rest_is i ss) at a) (rw (rest_is i us) at b) (on h)))
+
+  pub one_ends : i ≡ min (length ss) (length us) → Share ss us → length ss ≡ length us
+  one_ends is h =
+      let w = share_whole (drop i ss) (drop i us) (on h) in
+      let m = length-drop i ss in
+      let n = length-drop i us in
+      elim (cases_lt (length ss) (length us)) [ inl l ↦ (let e = w.0 (omega arith) in omega arith) | inr l ↦ (let e = w.1 (omega arith) in omega arith) ]

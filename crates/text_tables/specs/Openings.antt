@@ -1,0 +1,28 @@
+-- Beginnings that a text may have at once.
+use Rattle.std.specs.Prelude.{Bool, false, ◌||◌, List, Option, Some, nat_eq}
+use Rattle.std.specs.List.{starts_with}
+use Rattle.std.specs.Cmp.Lexicographic.{pointwise}
+use Rattle.instruction_texts.specs.declared.shapes.Shape.{Shape}
+use Rattle.instruction_texts.specs.Starts.{Beginning, Mark, Word, Prefix, first_start, negative_start}
+
+-- whether some token begins in both ways
+abbrev pub meet : Beginning → Beginning → Bool
+meet (Mark c) (Mark d) = nat_eq c d
+meet (Word v) (Word w) = pointwise nat_eq v w
+meet (Word w) (Prefix p) = starts_with nat_eq w p
+meet (Prefix p) (Word w) = starts_with nat_eq w p
+meet (Prefix p) (Prefix q) = starts_with nat_eq p q || starts_with nat_eq q p
+meet _ _ = false
+
+-- the same where both are there
+abbrev pub meet_if_any : Option Beginning → Option Beginning → Bool
+meet_if_any (Some a) (Some b) = meet a b
+meet_if_any _ _ = false
+
+-- whether a text of the form may begin in this way
+abbrev pub begins_so : Option Beginning → List Shape → Bool
+begins_so a ss = meet_if_any a (first_start ss) || meet_if_any a (negative_start ss)
+
+-- whether texts of both forms may begin with one token
+abbrev pub begin_alike : List Shape → List Shape → Bool
+begin_alike ss us = begins_so (first_start ss) us || begins_so (negative_start ss) us

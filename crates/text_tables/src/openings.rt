@@ -1,0 +1,69 @@
+//! Forms that can't share a text, since their texts begin in different ways.
+
+ghost use Rattle.std.specs.Prelude.{◌≡◌, List, IsTrue, option_map, is_some};
+ghost use Rattle.instruction_texts.specs.declared.shapes.Token.{Token};
+ghost use Rattle.instruction_texts.specs.Shapes.{IsText};
+ghost use Rattle.instruction_texts.specs.Starts.{start_of, negative_start};
+ghost use Rattle.text_tables.specs.Openings.{meet, meet_if_any, begins_so, begin_alike};
+
+use instruction_texts::{Shape, Start, first_start, negative_start};
+
+// Whether a token may begin in both ways.
+fn meet(one: Start<'_>, other: Start<'_>) -> bool
+    ensures { result ≡ meet (start_of one.entry) (start_of other.entry) }
+{
+    match (one, other) {
+        (Start::Sign(one), Start::Sign(other)) => one == other,
+        (Start::Word(one), Start::Word(other)) => one == other,
+        (Start::Word(run), Start::Prefix(prefix)) => run.starts_with(prefix),
+        (Start::Prefix(prefix), Start::Word(run)) => run.starts_with(prefix),
+        (Start::Prefix(one), Start::Prefix(other)) => {
+            one.starts_with(other) || other.starts_with(one)
+        }
+        _ => false,
+    }
+}
+
+fn meet_if_any(one: Option<Start<'_>>, other: Option<Start<'_>>) -> bool
+    ensures { result ≡ meet_if_any (option_map start_of one.entry) (option_map start_of other.entry) }
+{
+    match (one, other) {
+        (Some(one), Some(other)) => meet(one, other),
+        _ => false,
+    }
+}
+
+fn begins_so(one: Option<Start<'_>>, shapes: &[Shape]) -> bool
+    ensures { result ≡ begins_so (option_map start_of one.entry) shapes.now }
+{
+    meet_if_any(one, first_start(shapes)) || meet_if_any(one, negative_start(shapes))
+}
+
+// Whether texts of both may begin with one token.
+fn begin_alike(first: &[Shape], second: &[Shape]) -> bool
+    ensures { result ≡ begin_alike first.now second.now }
+{
+    begins_so(first_start(first), second) || begins_so(negative_start(first), second)
+}
+
+// Whether a piece with a sign stands first.
+fn has_sign(shapes: &[Shape]) -> bool
+    ensures { result ≡ is_some (negative_start shapes.now) }
+{
+    negative_start(shapes).is_some()
+}
+
+/// Whether the two forms may have a text in common. It compares them piece by piece, up to one with a sign, and takes no memory.
+pub(crate) fn may_share(first: &[Shape], second: &[Shape]) -> bool
+    ensures { (ts : List Token) → IsText first.now ts → IsText second.now ts → IsTrue result }
+{
+    'pieces: for i in 0..first.len().min(second.len()) {
+        if !begin_alike(&first[i..], &second[i..]) {
+            return false;
+        }
+        if has_sign(&first[i..]) || has_sign(&second[i..]) {
+            return true;
+        }
+    }
+    first.len() == second.len()
+}
