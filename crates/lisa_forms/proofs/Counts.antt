@@ -1,0 +1,23 @@
+-- How many forms there are, where no size exceeds its limit.
+use Rattle.std.proofs.Common.{◌≡◌, ◌≤◌, ◌<◌, ℕ, ◌-◌, ◌^◌, None, Some, Option, min, option_map, sym, ap, ◌∙◌, arith}
+use Rattle.lisa_tree.specs.declared.faults.DescFault.{DescFault}
+use Rattle.lisa_tree.specs.Descriptions.{DescriptionTree}
+use Rattle.coding_checks.specs.Widths.{capped}
+use Rattle.coding_tables.specs.Instructions.{form_count}
+use Rattle.description_sizes.specs.Limits.{fault}
+use Rattle.description_sizes.specs.Sizes.{first_too_many, size_fault}
+use Rattle.description_sizes.proofs.Limited.{within_limits, forms_alike}
+use Rattle.instruction_forms.specs.Widths.{HasWidth}
+use Rattle.lisa_forms.specs.Verdicts.{IsSizeVerdict}
+
+min_small : (n m k : ℕ) → min n m ≤ k → k < m → n ≤ k
+min_small n m k h l = grind arith
+
+pub few_forms : (d : DescriptionTree) (width : Option ℕ) → first_too_many d width (capped (form_count d)) ≡ None → form_count d ≤ 1024
+few_forms d width fits = min_small (form_count d) (2 ^ 64 - 1) 1024 ((within_limits d width (capped (form_count d))).0 fits).few_forms (omega arith)
+
+pub size_refused : (d : DescriptionTree) (width : Option ℕ) (f : DescFault) → HasWidth d width → size_fault d width (capped (form_count d)) ≡ Some f → IsSizeVerdict d (Some f)
+size_refused d width f has is = record { width = width; has_width = has; is = sym is ∙ forms_alike d width (form_count d) }
+
+pub size_fits : (d : DescriptionTree) (width : Option ℕ) → HasWidth d width → first_too_many d width (capped (form_count d)) ≡ None → IsSizeVerdict d None
+size_fits d width has fits = record { width = width; has_width = has; is = sym (sym (forms_alike d width (form_count d)) ∙ ap (option_map fault) fits) }

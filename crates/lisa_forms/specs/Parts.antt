@@ -1,0 +1,19 @@
+-- What is kept of a description's forms and occurrences.
+use Rattle.std.specs.Prelude.{◌≡◌, ◌≤◌}
+use Rattle.lisa_tree.specs.Descriptions.{DescriptionTree}
+use Rattle.coding_tables.specs.Instructions.{form_count}
+use Rattle.activation_trees.specs.Unfolding.{occurrences}
+use Rattle.description_sizes.specs.Sizes.{items}
+use Rattle.instruction_forms.specs.Described.{AreForms}
+use Rattle.instruction_forms.specs.Widths.{HasWidth}
+use Rattle.form_patterns.specs.Instructions.{instruction_plain}
+use Rattle.lisa_forms.specs.declared.forms.Forms.{Forms}
+
+-- these are the forms, occurrences and items of a description
+pub record AreFormsOf (d : DescriptionTree) (f : Forms) : Type 0 where
+  pub all_forms : AreForms d f.forms.items
+  pub all_plain : f.plain.items ≡ instruction_plain d
+  pub all_occurrences : f.occurrences.items ≡ occurrences d
+  pub all_items : f.items.items ≡ items d f.width
+  pub has_width : HasWidth d f.width
+  pub few : form_count d ≤ 1024

@@ -1,0 +1,79 @@
+//! What an accepted description unfolds to.
+
+ghost use Rattle.std.specs.Prelude.{◌≡◌, ◌<◌, ◌≤◌, Some, false, not, length, slice_get, slice_index_or};
+
+use activation_trees::Occurrence;
+use instruction_forms::Form;
+use lisa_engine::Item;
+
+/// The forms of a description's instructions, its occurrences, and its items.
+#[derive(Drop)]
+pub struct Forms {
+    pub(crate) forms: Vec<Form>,
+    pub(crate) plain: Vec<bool>,
+    pub(crate) occurrences: Vec<Occurrence>,
+    pub(crate) items: Vec<Item>,
+    pub(crate) width: Option<u32>,
+    ghost level: { length plain.items ≡ length forms.items },
+    ghost few: { length forms.items ≤ 1024 },
+}
+
+impl Forms {
+    /// How many forms there are, aliases among them. There is none without a root.
+    pub fn count(&self) -> u32
+        ensures { result ≡ length self.now.forms.items }
+    {
+        self.forms.len() as u32
+    }
+
+    /// The form of a number.
+    pub fn form(&self, form: u32) -> &Form
+        requires { form < length self.now.forms.items }
+        ensures { slice_get self.now.forms.items form ≡ Some result.now }
+    {
+        &self.forms[form as usize]
+    }
+
+    /// All forms, in the order of their numbers.
+    pub fn forms(&self) -> &[Form]
+        ensures { result.now ≡ self.now.forms.items }
+    {
+        &self.forms
+    }
+
+    /// Whether some operation in a form is an alias.
+    pub fn alias(&self, form: u32) -> bool
+        requires { form < length self.now.forms.items }
+        ensures { result ≡ not (slice_index_or self.now.plain.items form false) }
+    {
+        !self.plain[form as usize]
+    }
+
+    /// For each form whether no operation in it is an alias.
+    pub fn plain(&self) -> &[bool]
+        ensures { result.now ≡ self.now.plain.items }
+    {
+        &self.plain
+    }
+
+    /// The occurrences, in the order of their numbers.
+    pub fn occurrences(&self) -> &[Occurrence]
+        ensures { result.now ≡ self.now.occurrences.items }
+    {
+        &self.occurrences
+    }
+
+    /// The items: registers, boundary fields, words of stages, and activation bits.
+    pub fn items(&self) -> &[Item]
+        ensures { result.now ≡ self.now.items.items }
+    {
+        &self.items
+    }
+
+    /// The width of an instruction; none without a root.
+    pub fn width(&self) -> Option<u32>
+        ensures { result ≡ self.now.width }
+    {
+        self.width
+    }
+}
