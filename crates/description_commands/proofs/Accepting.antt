@@ -1,5 +1,5 @@
 -- From what `check` answers to what a command finds.
-use Rattle.std.proofs.Common.{◌≡◌, ◌∙◌, sym, ap, refl, subst, Ok, Err, None, Some, Option, ◌⊎◌, inl, inr, ⊎_elim}
+use Rattle.std.proofs.Common.{◌≡◌, ◌∙◌, sym, ap, refl, subst, Ok, Err, ◌⊎◌, ⊎_elim}
 use Rattle.lisa_tree.specs.declared.faults.DescFault.{DescFault}
 use Rattle.lisa_tree.specs.declared.faults.DescFault.TheVariants as descriptions
 use Rattle.lisa_tree.specs.declared.descriptions.Description.{Description}

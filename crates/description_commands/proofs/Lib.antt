@@ -5,3 +5,6 @@ mod PinCounts
 mod ThinTasks
 pub mod Stopped
 mod Accepting
+mod Settling
+mod FormVerdicts
+mod Forming

@@ -6,3 +6,4 @@ pub mod ThinRuns
 pub mod Tasks
 pub mod Unread
 pub mod Checks
+pub mod FormCounts

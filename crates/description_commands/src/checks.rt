@@ -1,12 +1,12 @@
 //! The command that only checks a description.
-ghost use Rattle.std.specs.Prelude.{◌≡◌, ◌<◌, ◌^◌, [], length, false};
+ghost use Rattle.std.specs.Prelude.{◌≡◌, ◌<◌, ◌^◌, [], length, false, IfOk};
 ghost use Rattle.std.specs.Io.KnownBytes.{Appends};
 ghost use Rattle.lisa_io.specs.Causes.{Rose};
-ghost use Rattle.lisa_io.specs.Contents.{Puts};
-ghost use Rattle.std.specs.Prelude.{decimal as decimal_digits};
 ghost use Rattle.lisa_tree.specs.Descriptions.{description_tree};
 ghost use Rattle.description_commands.specs.Descriptions.{AfterSpelling, AfterDescription};
-ghost use Rattle.description_commands.specs.Checks.{IsSound, IsFaulty, operations_text, Checks};
+ghost use Rattle.description_commands.specs.Checks.{IsSound, IsFaulty, AreCounts, IsMisformed, counts_text, Unfolds, Checks};
+ghost use Rattle.description_commands.specs.FormCounts.{counts_of};
+ghost use Rattle.lisa_forms.specs.Parts.{AreFormsOf};
 ghost use Rattle.lisa_machine.specs.Machines.{IsSpelled};
 ghost use Rattle.lisa_outcomes.specs.Ends.{Ends, AreHeld};
 ghost use Rattle.lisa_outcomes.specs.Replies.{Replies};
@@ -14,29 +14,14 @@ ghost use Rattle.lisa_outcomes.specs.Stages.{Finds};
 ghost use Rattle.lisa_outcomes.specs.Writes.{Writes};
 
 use crate::commands::DESCRIPTION_LIMIT;
+use crate::counts::{Counts, put_counts};
 use crate::reading::{description_of, unread};
-use lisa_io::{Failed, Files, Sink, put_all};
+use lisa_forms::Forms;
+use lisa_io::{Files, Sink};
 use lisa_machine::{Machine, check};
 use lisa_outcomes::{End, load};
 use lisa_tree::Description;
-use lisa_words::decimal;
 use std::alloc::Global;
-
-fn put_number<O: Sink>(out: &mut O, value: u64) -> Result<(), Failed>
-    ensures { Puts (O.written out.old) (O.written out.new) (O.faults out.old) (O.faults out.new) result (decimal_digits value) }
-{
-    let mut digits = [0; 20];
-    let count = decimal(value, &mut digits);
-    put_all(out, &digits[..count])
-}
-
-fn put_operations<O: Sink>(out: &mut O, count: u64) -> Result<(), Failed>
-    ensures { Puts (O.written out.old) (O.written out.new) (O.faults out.old) (O.faults out.new) result (operations_text count) }
-{
-    put_all(out, b"operations ")?;
-    put_number(out, count)?;
-    put_all(out, b"\n")
-}
 
 // The machine of a description, or its first fault.
 fn machine_of(alloc: Global, description: Description) -> Result<Machine, End>
@@ -49,14 +34,34 @@ fn machine_of(alloc: Global, description: Description) -> Result<Machine, End>
     }
 }
 
-// Writes how many operations a machine has.
-fn count_operations<O: Sink>(machine: &Machine, out: &mut O) -> Result<(), End>
-    ensures { Writes (O.written out.old) (O.written out.new) (O.faults out.old) (O.faults out.new) result (operations_text (length (description_tree machine.now).operations)) }
+// The forms of an accepted description, or the first fault of its codings, sizes and texts.
+fn forms_of(alloc: Global, machine: &Machine) -> Result<Forms, End>
+    ensures found { Finds (counts_of (description_tree machine.now)) (AreCounts (description_tree machine.now)) (IsMisformed (description_tree machine.now)) result }
+    ensures forms { IfOk result (λ f. AreFormsOf (description_tree machine.now) f) }
 {
-    let count = machine.description().operations.len();
-    match put_operations(out, count as u64) {
+    match Forms::make(alloc, machine) {
+        Ok(forms) => Ok(forms),
+        Err(fault) => Err(unread(fault)),
+    }
+}
+
+// Writes how much there is of an accepted description.
+fn write_counts<O: Sink>(machine: &Machine, forms: &Forms, out: &mut O) -> Result<(), End>
+    ensures { Writes (O.written out.old) (O.written out.new) (O.faults out.old) (O.faults out.new) result (counts_text (counts_of (description_tree machine.now) forms.now)) }
+{
+    match put_counts(out, Counts::of(machine, forms)) {
         Ok(()) => Ok(()),
         Err(_) => Err(End::WriteFault),
+    }
+}
+
+// `check` on an accepted description.
+fn check_machine<O: Sink>(alloc: Global, machine: &Machine, out: &mut O) -> Result<(), End>
+    ensures { Replies (Unfolds (description_tree machine.now)) (O.written out.old) (O.written out.new) (O.faults out.old) (O.faults out.new) result }
+{
+    match forms_of(alloc, machine) {
+        Ok(forms) => write_counts(machine, &forms, out),
+        Err(end) => Err(end),
     }
 }
 
@@ -66,7 +71,7 @@ fn check_tree<O: Sink>(alloc: Global, description: Description, out: &mut O) -> 
     ensures { Replies (Checks (description_tree description)) (O.written out.old) (O.written out.new) (O.faults out.old) (O.faults out.new) result }
 {
     match machine_of(alloc, description) {
-        Ok(machine) => count_operations(&machine, out),
+        Ok(machine) => check_machine(alloc, &machine, out),
         Err(end) => Err(end),
     }
 }
@@ -82,8 +87,8 @@ fn check_bytes<O: Sink>(alloc: Global, bytes: &[u8], out: &mut O) -> Result<(), 
     }
 }
 
-/// `check` on a file: writes how many operations its description has, where no condition is broken in it, and is refused with the first
-/// fault of the first condition that is.
+/// `check` on a file: writes how many operations its description has, and how many forms, occurrences and items it unfolds to, where no
+/// condition is broken in it, and is refused with the first fault of the first condition that is.
 pub fn check_file<F: Files, O: Sink>(
     alloc: Global,
     description: &str,

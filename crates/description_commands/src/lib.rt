@@ -1,10 +1,11 @@
-//! The commands on a description: its canonical text, whether it is accepted, its state after some edges, and a session of the debugger over it.
+//! The commands on a description: its canonical text, whether it is accepted and how much there is of it, its state after some edges, and a session of the debugger over it.
 //!
 //! `specs/Descriptions.antt` says what `fmt` gives, `specs/Checks.antt` what `check` gives, and `specs/ThinRuns.antt` what each task gives.
 #![tactic(auto)]
 
 mod checks;
 mod commands;
+mod counts;
 mod parts;
 mod reading;
 mod running;

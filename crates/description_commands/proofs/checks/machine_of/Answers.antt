@@ -1,4 +1,4 @@
-use Rattle.std.proofs.Common.{◌≡◌, ap}
+use Rattle.std.proofs.Common.{ap}
 use Rattle.lisa_tree.specs.Descriptions.{description_tree}
 use Rattle.description_commands.proofs.Accepting.{accepted_finds, refused_finds}
 use Rattle.description_commands.proofs.checks.machine_of.Goals as goal

@@ -1,5 +1,5 @@
 use Rattle.lisa_io.proofs.Known.{puts_then, puts_stop, puts_exit}
-use Rattle.description_commands.proofs.checks.put_operations.Goals as goal
+use Rattle.description_commands.proofs.counts.put_count.Goals as goal
 
 pub returns-in_err-put_all : goal.returns-in_err-put_all
 returns-in_err-put_all g c = puts_exit _ _ c.from_residual.ensures.1 (puts_stop _ c.in_err-put_all.ensures)

@@ -1,0 +1,60 @@
+//! How much there is of a description, in lines.
+ghost use Rattle.std.specs.Prelude.{◌≡◌, ◌++◌, codes, decimal as decimal_digits, false};
+ghost use Rattle.lisa_io.specs.Contents.{Puts};
+ghost use Rattle.lisa_tree.specs.Descriptions.{description_tree};
+ghost use Rattle.description_commands.specs.Checks.{count_line, counts_text};
+ghost use Rattle.description_commands.specs.FormCounts.{counts_of};
+
+use lisa_forms::Forms;
+use lisa_io::{Failed, Sink, put_all};
+use lisa_machine::Machine;
+use lisa_words::decimal;
+
+/// How many operations a description has, and how many forms, occurrences and items it unfolds to.
+#[derive(Clone, Copy, Debug)]
+pub struct Counts {
+    pub operations: u64,
+    pub forms: u64,
+    pub occurrences: u64,
+    pub items: u64,
+}
+
+impl Counts {
+    /// Counts the operations of a machine's description, and what it was unfolded to.
+    pub fn of(machine: &Machine, forms: &Forms) -> Counts
+        ensures { result ≡ counts_of (description_tree machine.now) forms.now }
+    {
+        Counts {
+            operations: machine.description().operations.len() as u64,
+            forms: forms.count() as u64,
+            occurrences: forms.occurrences().len() as u64,
+            items: forms.items().len() as u64,
+        }
+    }
+}
+
+fn put_number<O: Sink>(out: &mut O, value: u64) -> Result<(), Failed>
+    ensures { Puts (O.written out.old) (O.written out.new) (O.faults out.old) (O.faults out.new) result (decimal_digits value) }
+{
+    let mut digits = [0; 20];
+    let count = decimal(value, &mut digits);
+    put_all(out, &digits[..count])
+}
+
+fn put_count<O: Sink>(out: &mut O, label: &[u8], count: u64) -> Result<(), Failed>
+    ensures { Puts (O.written out.old) (O.written out.new) (O.faults out.old) (O.faults out.new) result (count_line label.now count) }
+{
+    put_all(out, label)?;
+    put_number(out, count)?;
+    put_all(out, b"\n")
+}
+
+/// Writes the four lines.
+pub fn put_counts<O: Sink>(out: &mut O, counts: Counts) -> Result<(), Failed>
+    ensures { Puts (O.written out.old) (O.written out.new) (O.faults out.old) (O.faults out.new) result (counts_text counts) }
+{
+    put_count(out, b"operations ", counts.operations)?;
+    put_count(out, b"forms ", counts.forms)?;
+    put_count(out, b"occurrences ", counts.occurrences)?;
+    put_count(out, b"items ", counts.items)
+}
