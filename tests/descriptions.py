@@ -1,4 +1,5 @@
-"""Small descriptions with what `check` says of each: the line of its first fault, or how many operations it has.
+"""Small descriptions with what `check` says of each: the line of its first fault, or how many operations, forms,
+occurrences and items it has.
 
 Each way in which a condition can be broken stands here once, beside descriptions that only look like it."""
 
@@ -9,8 +10,8 @@ def refused(name, text, line):
     ALL.append((name, text, "", f"lisa: description {line}\n"))
 
 
-def accepted(name, text, operations):
-    ALL.append((name, text, f"operations {operations}\n", ""))
+def accepted(name, text, operations, forms, occurrences, items):
+    ALL.append((name, text, f"operations {operations}\nforms {forms}\noccurrences {occurrences}\nitems {items}\n", ""))
 
 
 MAIN = "OPERATION main { }"
@@ -48,8 +49,8 @@ refused("a local of a register's name", behavior("uint8 a;"), "6 Duplicate name=
 refused("a local of a declared name", "RESOURCE { } OPERATION main { DECLARE { LABEL l; } BEHAVIOR { uint8 l; } }", "6 Duplicate name=l")
 refused("a local twice", behavior("uint8 x; { uint4 x; }"), "6 Duplicate name=x")
 refused("a loop's variable of a local's name", behavior("uint8 x; for (uint8 x = 0; x < 2; x = x + 1) ;"), "6 Duplicate name=x")
-accepted("a local in two blocks", behavior("{ uint8 x; } { uint4 x; } if (a) uint8 x; uint8 x;"), 1)
-accepted("stages and operations share names", "RESOURCE { PIPELINE p = { main; x }; } " + MAIN + " OPERATION x { }", 2)
+accepted("a local in two blocks", behavior("{ uint8 x; } { uint4 x; } if (a) uint8 x; uint8 x;"), 1, 0, 1, 3)
+accepted("stages and operations share names", "RESOURCE { PIPELINE p = { main; x }; } " + MAIN + " OPERATION x { }", 2, 0, 1, 0)
 
 # ---------------------------------------------------------------- 7: a name stands for nothing
 
@@ -98,9 +99,9 @@ refused("IN without a stage", PIPE + "OPERATION main { BEHAVIOR { a = IN.f; } }"
 refused("IN in the first stage", staged("A", "BEHAVIOR { a = IN.f; }"), "8 WrongKind operation=x name=f")
 refused("OUT without a stage", PIPE + "OPERATION main { BEHAVIOR { OUT.f = 1; } }", "8 WrongKind operation=main name=f")
 refused("OUT in the last stage", staged("C", "BEHAVIOR { OUT.f = 1; }"), "8 WrongKind operation=x name=f")
-accepted("IN and OUT in the middle", staged("B", "BEHAVIOR { OUT.f = IN.f; }"), 2)
+accepted("IN and OUT in the middle", staged("B", "BEHAVIOR { OUT.f = IN.f; }"), 2, 0, 1, 3)
 refused("a boundary of stages apart", PIPE + "OPERATION main { BEHAVIOR { a = PIPELINE_REGISTER(p, A/C).f; } }", "8 WrongKind operation=main name=f")
-accepted("a boundary of neighbours", PIPE + "OPERATION main { BEHAVIOR { a = PIPELINE_REGISTER(p, B/C).f; } }", 1)
+accepted("a boundary of neighbours", PIPE + "OPERATION main { BEHAVIOR { a = PIPELINE_REGISTER(p, B/C).f; } }", 1, 0, 1, 3)
 refused("decoded outside of the root", behavior("a = decoded;"), "8 WrongKind operation=main name=decoded")
 refused("shift of a register", behavior("a.shift();"), "8 WrongKind operation=main name=a")
 refused("fields of a register", "RESOURCE { REGISTER uint8 a; PIPELINE_REGISTER IN a { uint8 f; }; } " + MAIN, "8 WrongKind operation= name=a")
@@ -135,13 +136,13 @@ refused("a group outside of the coding that is read",
         REGS + "OPERATION main { DECLARE { GROUP g = { x || y }; } BEHAVIOR { a = g; } } OPERATION x { EXPRESSION { a } } OPERATION y { EXPRESSION { c } }", "8 WrongKind operation=main name=g")
 refused("a group outside of the coding that is called", "RESOURCE { } OPERATION main { DECLARE { GROUP g = { x || y }; } BEHAVIOR { g(); } } OPERATION x { } OPERATION y { }", "8 WrongKind operation=main name=g")
 refused("a group outside of the coding that is activated", "RESOURCE { } OPERATION main { DECLARE { GROUP g = { x || y }; } ACTIVATION { g } } OPERATION x { } OPERATION y { }", "8 WrongKind operation=main name=g")
-accepted("a group of one", "RESOURCE { } OPERATION main { DECLARE { GROUP g = { x }; } ACTIVATION { g } } OPERATION x { }", 2)
+accepted("a group of one", "RESOURCE { } OPERATION main { DECLARE { GROUP g = { x }; } ACTIVATION { g } } OPERATION x { }", 2, 0, 2, 0)
 refused("a call into a stage", PIPE + "OPERATION main { DECLARE { INSTANCE x; } BEHAVIOR { x(); } } OPERATION x IN p.A { }", "8 WrongKind operation=main name=x")
 refused("a staged operand", PIPE + MAIN + " OPERATION x { DECLARE { INSTANCE y; } CODING { y } } OPERATION y IN p.B { CODING { 0b1 } }", "8 WrongKind operation=x name=y")
 refused("a coded operation outside of the coding", "RESOURCE { } OPERATION main { DECLARE { INSTANCE x; } } OPERATION x { CODING { 0b1 } }", "8 WrongKind operation=main name=x")
 
-ROOT = "RESOURCE { REGISTER uint4 ir; REGISTER uint4 t; } OPERATION main { DECLARE { INSTANCE d; } ACTIVATION { d } } OPERATION d { DECLARE { GROUP g = { x || y }; } CODING { %s } %s } OPERATION x { CODING { 0b0000 } } OPERATION y { CODING { 0b1111 } }"
-accepted("decoded in the root", ROOT % ("ir == g", "BEHAVIOR { t = decoded; } ACTIVATION { if (decoded) { g } }"), 4)
+ROOT = "RESOURCE { REGISTER uint4 ir; REGISTER uint4 t; } OPERATION main { DECLARE { INSTANCE d; } ACTIVATION { d } } OPERATION d { DECLARE { GROUP g = { x || y }; } CODING { %s } %s } OPERATION x { CODING { 0b0000 } SYNTAX { \"X\" } } OPERATION y { CODING { 0b1111 } SYNTAX { \"Y\" } }"
+accepted("decoded in the root", ROOT % ("ir == g", "BEHAVIOR { t = decoded; } ACTIVATION { if (decoded) { g } }"), 4, 2, 4, 2)
 refused("decoded in the root's expression", ROOT % ("ir == g", "EXPRESSION { decoded }"), "8 WrongKind operation=d name=decoded")
 refused("the root's group called", ROOT % ("ir == g", "BEHAVIOR { g(); }"), "8 WrongKind operation=d name=g")
 refused("the root's group in a syntax", ROOT % ("ir == g", "SYNTAX { g }"), "8 WrongKind operation=d name=g")
@@ -151,7 +152,7 @@ refused("a root over IN without a stage", PIPE + MAIN + " OPERATION d { DECLARE 
 refused("a root that is called", "RESOURCE { REGISTER uint4 ir; } OPERATION main { DECLARE { INSTANCE d; } BEHAVIOR { d(); } } OPERATION d { DECLARE { GROUP g = { x }; } CODING { ir == g } } OPERATION x { CODING { 0b0000 } }", "8 WrongKind operation=main name=d")
 
 ABOVE = REGS + "OPERATION main { DECLARE { INSTANCE y, z; } ACTIVATION { y, z } } OPERATION y { DECLARE { INSTANCE x; %s } ACTIVATION { x } } OPERATION z { DECLARE { INSTANCE x; %s } ACTIVATION { x } } OPERATION x { DECLARE { REFERENCE n; } %s } OPERATION u { EXPRESSION { a } } OPERATION v { EXPRESSION { c } } OPERATION w { EXPRESSION { b } } OPERATION k { EXPRESSION { a + c } } "
-accepted("a reference to children of one type", ABOVE % ("INSTANCE n = u;", "INSTANCE n = v;", "BEHAVIOR { a = n; }"), 8)
+accepted("a reference to children of one type", ABOVE % ("INSTANCE n = u;", "INSTANCE n = v;", "BEHAVIOR { a = n; }"), 8, 0, 5, 3)
 refused("a reference of two types", ABOVE % ("INSTANCE n = u;", "INSTANCE n = w;", ""), "8 WrongKind operation=x name=n")
 refused("a reference to a label or a child", ABOVE % ("INSTANCE n = u;", "LABEL n;", ""), "8 WrongKind operation=x name=n")
 refused("a reference of which one can be assigned", ABOVE % ("INSTANCE n = u;", "INSTANCE n = k;", ""), "8 WrongKind operation=x name=n")
@@ -161,7 +162,7 @@ refused("an expression by a reference of which one can be assigned",
 refused("a reference that is activated", ABOVE % ("INSTANCE n = u;", "INSTANCE n = v;", "ACTIVATION { n }"), "8 WrongKind operation=x name=n")
 
 ALIASED = "RESOURCE { REGISTER uint4 ir; PIPELINE p = { A; B }; } OPERATION main { } OPERATION d { DECLARE { GROUP g = { x || y }; } CODING { ir == g } } OPERATION x { CODING { 0b0000 } SYNTAX { \"X\" } } "
-accepted("an alias", ALIASED + "ALIAS OPERATION y { CODING { 0b0000 } SYNTAX { \"Y\" } }", 4)
+accepted("an alias", ALIASED + "ALIAS OPERATION y { CODING { 0b0000 } SYNTAX { \"Y\" } }", 4, 2, 1, 1)
 refused("an alias of a stage", ALIASED + "ALIAS OPERATION y IN p.B { CODING { 0b0000 } }", "8 WrongKind operation=y name=y")
 refused("an alias with a behaviour", ALIASED + "ALIAS OPERATION y { CODING { 0b0000 } BEHAVIOR { } }", "8 WrongKind operation=y name=y")
 refused("an alias without a coding", ALIASED + "ALIAS OPERATION y { SYNTAX { \"Y\" } }", "8 WrongKind operation=y name=y")
@@ -173,7 +174,7 @@ refused("an alias with an expression", ALIASED + "ALIAS OPERATION y { CODING { 0
 refused("an alias with an activation", ALIASED + "ALIAS OPERATION y { CODING { 0b0000 } ACTIVATION { } }", "8 WrongKind operation=y name=y")
 refused("an alias with a root", ALIASED + "ALIAS OPERATION y { DECLARE { GROUP h = { x }; } CODING { ir == h } }", "8 WrongKind operation=y name=y")
 refused("an alias with a reference", ALIASED + "ALIAS OPERATION y { DECLARE { REFERENCE g; } CODING { 0b0000 } }", "8 WrongKind operation=y name=y")
-accepted("a group of one operation and an alias", REGS + MAIN + " OPERATION w { DECLARE { GROUP g = { x || y }; } CODING { g } BEHAVIOR { a = g; } } OPERATION x { CODING { 0b0 } EXPRESSION { a } } ALIAS OPERATION y { CODING { 0b0 } }", 4)
+accepted("a group of one operation and an alias", REGS + MAIN + " OPERATION w { DECLARE { GROUP g = { x || y }; } CODING { g } SYNTAX { g } BEHAVIOR { a = g; } } OPERATION x { CODING { 0b0 } EXPRESSION { a } } ALIAS OPERATION y { CODING { 0b0 } }", 4, 0, 1, 3)
 refused("the root's group called through a reference",
         "RESOURCE { REGISTER uint4 ir; } OPERATION main { } OPERATION d { DECLARE { GROUP g = { x }; } CODING { ir == g } } OPERATION x { DECLARE { REFERENCE g; } CODING { 0b0000 } BEHAVIOR { g(); } }",
         "8 WrongKind operation=x name=g")
@@ -191,13 +192,13 @@ refused("a cast to 70 bits", behavior("a = (uint8)(uint70)b;"), "9 BadWidth name
 refused("a field of 65 bits", "RESOURCE { } " + MAIN + " OPERATION x { DECLARE { LABEL l; } CODING { l=0bx[65] } }", "9 BadWidth name=l width=65")
 refused("a loop's variable that is too narrow", behavior("for (uint4 x = 0; x < 17; x = x + 1) ;"), "9 BadWidth name=x width=4")
 refused("a signed loop's variable that is too narrow", behavior("for (int8 x = 0; x < 129; x = x + 1) ;"), "9 BadWidth name=x width=8")
-accepted("a signed loop's variable that just fits", behavior("for (int8 x = 0; x < 128; x = x + 1) ;"), 1)
-accepted("a loop's variable that just fits", behavior("for (uint4 x = 0; x < 16; x = x + 1) ;"), 1)
-accepted("a loop without turns", behavior("for (uint1 x = 9; x < 9; x = x + 1) ;"), 1)
+accepted("a signed loop's variable that just fits", behavior("for (int8 x = 0; x < 128; x = x + 1) ;"), 1, 0, 1, 3)
+accepted("a loop's variable that just fits", behavior("for (uint4 x = 0; x < 16; x = x + 1) ;"), 1, 0, 1, 3)
+accepted("a loop without turns", behavior("for (uint1 x = 9; x < 9; x = x + 1) ;"), 1, 0, 1, 3)
 refused("three registers", "RESOURCE { REGISTER uint8 r[3]; } " + MAIN, "10 BadDepth name=r depth=3")
 refused("a memory of one cell", "RESOURCE { MEMORY uint8 m[1]; } " + MAIN, "10 BadDepth name=m depth=1")
 refused("a memory that is too deep", "RESOURCE { MEMORY uint8 m[2097152]; } " + MAIN, "10 BadDepth name=m depth=2097152")
-accepted("the deepest memory", "RESOURCE { MEMORY uint8 m[1048576]; } " + MAIN, 1)
+accepted("the deepest memory", "RESOURCE { MEMORY uint8 m[1048576]; } " + MAIN, 1, 0, 1, 0)
 
 # ---------------------------------------------------------------- 11: a value wider than its place
 
@@ -208,8 +209,8 @@ refused("a wide first value", behavior("uint4 x = a;"), "11 Narrowing operation=
 refused("a literal that wants a sign bit", behavior("int8 x = 128;"), "11 Narrowing operation=main from=9 to=8")
 refused("a literal beside a signed word", behavior("int8 x; int8 y; y = x + 128;"), "11 Narrowing operation=main from=9 to=8")
 refused("a literal that would need 65 bits in the signed kind", behavior("int8 x = 0xffffffffffffffff;"), "11 Narrowing operation=main from=64 to=8")
-accepted("a literal that fits", behavior("int8 x = 127; a = 255; a = (uint8)b; b = a; a = b == a; a = 300 < b;"), 1)
-accepted("a literal shifted", behavior("a = 1 << b;"), 1)
+accepted("a literal that fits", behavior("int8 x = 127; a = 255; a = (uint8)b; b = a; a = b == a; a = 300 < b;"), 1, 0, 1, 3)
+accepted("a literal shifted", behavior("a = 1 << b;"), 1, 0, 1, 3)
 refused("a wide field", staged("B", "BEHAVIOR { OUT.f = IN.f * 512; }"), "11 Narrowing operation=x from=10 to=8")
 refused("a wide value of a child", REGS + "OPERATION main { DECLARE { INSTANCE x; } BEHAVIOR { a = x; } } OPERATION x { EXPRESSION { b } }", "11 Narrowing operation=main from=16 to=8")
 refused("a wide value for a child", REGS + "OPERATION main { DECLARE { INSTANCE x; } BEHAVIOR { x = b; } } OPERATION x { EXPRESSION { r[0] } }", "11 Narrowing operation=main from=16 to=8")
@@ -225,7 +226,7 @@ refused("a loop with a step of 0", behavior("for (uint8 x = 0; x < 2; x = x + 0)
 refused("a loop of 257 turns", behavior("for (uint16 x = 0; x < 257; x = x + 1) ;"), "13 LoopTooLong operation=main turns=257")
 refused("a loop of 257 turns by threes", behavior("for (uint16 x = 0; x < 769; x = x + 3) ;"), "13 LoopTooLong operation=main turns=257")
 refused("the longest loop", behavior("for (uint64 x = 0; x < 0xffffffffffffffff; x = x + 1) ;"), "13 LoopTooLong operation=main turns=18446744073709551615")
-accepted("a loop of 256 turns", behavior("for (uint16 x = 0; x < 256; x = x + 1) ; for (uint16 x = 1; x < 0x300; x = x + 0b11) ;"), 1)
+accepted("a loop of 256 turns", behavior("for (uint16 x = 0; x < 256; x = x + 1) ; for (uint16 x = 1; x < 0x300; x = x + 0b11) ;"), 1, 0, 1, 3)
 
 # ---------------------------------------------------------------- 14, 15: operations that reach themselves, and stages
 
@@ -241,15 +242,15 @@ refused("an earlier stage", PIPE + "OPERATION main { DECLARE { INSTANCE y; } ACT
 refused("an earlier stage through an operation without a stage",
         PIPE + "OPERATION main { DECLARE { INSTANCE z, y; } ACTIVATION { z, y } } OPERATION z { DECLARE { INSTANCE x; } ACTIVATION { if (a) { x } } } OPERATION y IN p.C { DECLARE { INSTANCE z; } ACTIVATION { z } } OPERATION x IN p.A { }",
         "15 Backward activator=z activated=x")
-accepted("an earlier stage that isn't activated", PIPE + MAIN + " OPERATION y IN p.B { DECLARE { INSTANCE x; } ACTIVATION { x } } OPERATION x IN p.A { }", 3)
-accepted("the own stage", PIPE + "OPERATION main { DECLARE { INSTANCE y; } ACTIVATION { y } } OPERATION y IN p.A { DECLARE { INSTANCE x; } ACTIVATION { x } } OPERATION x IN p.A { }", 3)
+accepted("an earlier stage that isn't activated", PIPE + MAIN + " OPERATION y IN p.B { DECLARE { INSTANCE x; } ACTIVATION { x } } OPERATION x IN p.A { }", 3, 0, 1, 3)
+accepted("the own stage", PIPE + "OPERATION main { DECLARE { INSTANCE y; } ACTIVATION { y } } OPERATION y IN p.A { DECLARE { INSTANCE x; } ACTIVATION { x } } OPERATION x IN p.A { }", 3, 0, 3, 3)
 
 # ---------------------------------------------------------------- 16, 17, 18: stalls, main and reset
 
 refused("a stall of the own stage", staged("B", "BEHAVIOR { p.B.stall(); }"), "16 Control operation=x stage=B")
 refused("a flush of a later stage", staged("B", "BEHAVIOR { p.C.flush(); }"), "16 Control operation=x stage=C")
 refused("a stall without a stage", PIPE + MAIN + " OPERATION x { BEHAVIOR { p.A.stall(); } }", "16 Control operation=x stage=A")
-accepted("stalls of earlier stages", PIPE + "OPERATION main { BEHAVIOR { p.C.stall(); } } OPERATION x IN p.C { BEHAVIOR { p.A.stall(); p.B.flush(); } }", 2)
+accepted("stalls of earlier stages", PIPE + "OPERATION main { BEHAVIOR { p.C.stall(); } } OPERATION x IN p.C { BEHAVIOR { p.A.stall(); p.B.flush(); } }", 2, 0, 1, 3)
 refused("no main", "RESOURCE { } OPERATION x { }", "17 BadMain")
 refused("main in a stage", PIPE + "OPERATION main IN p.A { }", "17 BadMain")
 refused("main with a coding", "RESOURCE { } OPERATION main { CODING { 0b1 } }", "17 BadMain")
@@ -257,14 +258,14 @@ refused("execute outside of main", PIPE + MAIN + " OPERATION x { BEHAVIOR { p.ex
 refused("execute in a block", PIPE + "OPERATION main { BEHAVIOR { { p.execute(); } } }", "17 BadMain")
 refused("a statement behind shift", PIPE + "OPERATION main { BEHAVIOR { p.shift(); a = 1; } }", "17 BadMain")
 refused("an empty statement behind shift", PIPE + "OPERATION main { BEHAVIOR { p.shift(); ; } }", "17 BadMain")
-accepted("execute and shift", PIPE + "OPERATION main { BEHAVIOR { a = 1; p.execute(); p.shift(); } }", 1)
+accepted("execute and shift", PIPE + "OPERATION main { BEHAVIOR { a = 1; p.execute(); p.shift(); } }", 1, 0, 1, 3)
 refused("a later stage than the first from none", PIPE + "OPERATION main { DECLARE { INSTANCE x; } ACTIVATION { x } } OPERATION x IN p.B { }", "17 BadMain")
 refused("reset in a stage", PIPE + MAIN + " OPERATION reset IN p.B { }", "18 BadReset")
 refused("reset with declarations", "RESOURCE { } " + MAIN + " OPERATION reset { DECLARE { } }", "18 BadReset")
 refused("reset that reads a pin", REGS + MAIN + " OPERATION reset { BEHAVIOR { a = i; } }", "18 BadReset")
 refused("reset that writes an array", REGS + MAIN + " OPERATION reset { BEHAVIOR { r[0] = 1; } }", "18 BadReset")
 refused("reset that reads a boundary", PIPE + MAIN + " OPERATION reset { BEHAVIOR { a = PIPELINE_REGISTER(p, A/B).f; } }", "18 BadReset")
-accepted("reset of registers and locals", REGS + MAIN + " OPERATION reset { BEHAVIOR { uint8 x = 3; for (uint8 k = 0; k < 4; k = k + 1) { x = (uint8)(x + k); } a = x; c = a; } }", 2)
+accepted("reset of registers and locals", REGS + MAIN + " OPERATION reset { BEHAVIOR { uint8 x = 3; for (uint8 k = 0; k < 4; k = k + 1) { x = (uint8)(x + k); } a = x; c = a; } }", 2, 0, 1, 3)
 
 refused("an earlier stage through operations without one",
         PIPE + "OPERATION main { DECLARE { INSTANCE x; } ACTIVATION { x } } OPERATION x IN p.A { DECLARE { INSTANCE u, c; } ACTIVATION { u, c } } OPERATION c IN p.C { DECLARE { INSTANCE u; } ACTIVATION { u } } OPERATION u { DECLARE { INSTANCE b; } ACTIVATION { b } } OPERATION b IN p.B { BEHAVIOR { a = 1; } }",
@@ -279,3 +280,79 @@ refused("the lower number first", behavior("a = b; zz = 1;"), "7 Unknown operati
 refused("the earlier place first", behavior("a = yy; a = zz;"), "7 Unknown operation=main name=yy")
 refused("resources before operations", "RESOURCE { PIPELINE_REGISTER IN q { uint8 f; }; } OPERATION main { BEHAVIOR { zz(); } }", "7 Unknown operation= name=q")
 refused("sections as they stand", REGS + "OPERATION main { ACTIVATION { yy } BEHAVIOR { zz(); } }", "7 Unknown operation=main name=yy")
+
+# ---------------------------------------------------------------- 19, 20: widths, and names that aren't written once
+
+CODED = "RESOURCE { REGISTER uint4 ir; } " + MAIN + " OPERATION d { DECLARE { GROUP g = { x }; } CODING { ir == g } } OPERATION x { %s } "
+
+
+def operation(name, width, text):
+    """An operation whose coding is so many zeros."""
+    return f'OPERATION {name} {{ CODING {{ 0b{"0" * width} }} SYNTAX {{ "{text}" }} }} '
+
+
+accepted("an instruction", CODED % 'CODING { 0b0000 } SYNTAX { "X" }', 3, 1, 1, 1)
+refused("an instruction narrower than its register", CODED % 'CODING { 0b000 } SYNTAX { "X" }', "19 GroupWidth operation=d name=g")
+refused("an instruction without a coding", CODED % 'SYNTAX { "X" }', "19 GroupWidth operation=d name=g")
+refused("alternatives of two widths", CODED % 'DECLARE { GROUP h = { y || z }; } CODING { 0b00 h } SYNTAX { h }' + operation("y", 2, "Y") + operation("z", 3, "Z"), "19 GroupWidth operation=x name=h")
+refused("a child of 65 bits", CODED % 'DECLARE { GROUP h = { y }; } CODING { h } SYNTAX { h }' + "OPERATION y { CODING { 0bx[64] 0b0 } SYNTAX { \"Y\" } }", "19 GroupWidth operation=x name=h")
+refused("a label that isn't written", CODED % 'DECLARE { LABEL l; } CODING { 0b0000 } SYNTAX { "X" }', "20 NotWritten operation=x name=l")
+refused("a field that isn't in the syntax", CODED % 'DECLARE { LABEL l; } CODING { l=0bx[4] } SYNTAX { "X" }', "20 NotWritten operation=x name=l")
+refused("a field that is twice in the syntax", CODED % 'DECLARE { LABEL l; } CODING { l=0bx[4] } SYNTAX { l=#U l=#X }', "20 NotWritten operation=x name=l")
+refused("a child that isn't in the syntax", CODED % 'DECLARE { INSTANCE y; } CODING { y } SYNTAX { "X" }' + operation("y", 4, "Y"), "20 NotWritten operation=x name=y")
+refused("a child in the syntax alone", CODED % 'DECLARE { INSTANCE y; } CODING { 0b0000 } SYNTAX { "X" y }' + 'OPERATION y { SYNTAX { "Y" } }', "20 NotWritten operation=x name=y")
+
+# ---------------------------------------------------------------- 21, 22: one root, and not too much of anything
+
+refused("two roots", CODED % 'CODING { 0b0000 } SYNTAX { "X" }' + "OPERATION e { DECLARE { GROUP h = { x }; } CODING { ir == h } }", "21 RootTwice operation=e")
+refused("a root that runs twice",
+        "RESOURCE { REGISTER uint4 ir; } OPERATION main { DECLARE { INSTANCE y, z; } ACTIVATION { y, z } } OPERATION y { DECLARE { INSTANCE d; } ACTIVATION { d } } OPERATION z { DECLARE { INSTANCE d; } ACTIVATION { d } } OPERATION d { DECLARE { GROUP g = { x }; } CODING { ir == g } } " + operation("x", 4, "X"),
+        "21 RootTwice operation=d")
+
+
+def many(count, part):
+    return "".join(part % k for k in range(count))
+
+
+def stages(count):
+    return "RESOURCE { PIPELINE p = { " + many(count, "S%d; ") + "}; } " + MAIN
+
+
+def doubling(levels):
+    """Each operation of a chain activates the next one twice."""
+    below = "".join(f"OPERATION o{k} {{ DECLARE {{ INSTANCE p = o{k + 1}, q = o{k + 1}; }} ACTIVATION {{ p, q }} }} " for k in range(levels - 1))
+    return "RESOURCE { } OPERATION main { DECLARE { INSTANCE p = o0, q = o0; } ACTIVATION { p, q } } " + below + f"OPERATION o{levels - 1} {{ }}"
+
+
+def pairs(count):
+    """A root whose one instruction has two children, each of so many operations."""
+    names = " || ".join(f"o{k}" for k in range(count))
+    below = "".join(f'OPERATION o{k} {{ CODING {{ 0b{k:06b} }} SYNTAX {{ "O{k}" }} }} ' for k in range(count))
+    return ("RESOURCE { REGISTER uint12 ir; } " + MAIN + " OPERATION d { DECLARE { GROUP g = { x }; } CODING { ir == g } } "
+            f"OPERATION x {{ DECLARE {{ GROUP a = {{ {names} }}; GROUP b = {{ {names} }}; }} CODING {{ a b }} SYNTAX {{ a b }} }} " + below)
+
+
+accepted("eight stages", stages(8), 1, 0, 1, 0)
+refused("nine stages", stages(9), "22 TooMany what=stages count=9 limit=8")
+refused("65 pins", "RESOURCE { " + many(65, "PIN uint1 i%d; ") + "} " + MAIN, "22 TooMany what=pins count=65 limit=64")
+refused("1,025 operations", "RESOURCE { } " + MAIN + many(1024, " OPERATION o%d { }"), "22 TooMany what=operations count=1025 limit=1024")
+refused("1,025 arrays", "RESOURCE { " + many(1025, "MEMORY uint1 m%d[2]; ") + "} " + MAIN, "22 TooMany what=arrays count=1025 limit=1024")
+refused("five of the deepest memories", "RESOURCE { " + many(5, "MEMORY uint8 m%d[1048576]; ") + "} " + MAIN, "22 TooMany what=cells count=5242880 limit=4194304")
+accepted("32 by 32 forms", pairs(32), 35, 1024, 1, 1)
+refused("33 by 33 forms", pairs(33), "22 TooMany what=forms count=1089 limit=1024")
+accepted("an activation of 12 levels", doubling(11), 12, 0, 4095, 0)
+refused("an activation of 13 levels", doubling(12), "22 TooMany what=occurrences count=8191 limit=4096")
+refused("8,193 registers", "RESOURCE { " + many(8193, "REGISTER uint1 r%d; ") + "} " + MAIN, "22 TooMany what=items count=8193 limit=8192")
+accepted("a loop in a loop", behavior("for (uint16 x = 0; x < 256; x = x + 1) for (uint16 y = 0; y < 14; y = y + 1) ;"), 1, 0, 1, 3)
+refused("a longer loop in a loop", behavior("for (uint16 x = 0; x < 256; x = x + 1) for (uint16 y = 0; y < 15; y = y + 1) ;"), "22 TooMany what=statements count=4097 limit=4096")
+
+# ---------------------------------------------------------------- 23: texts that can't be read
+
+TEXT = CODED % 'DECLARE { LABEL m, n; } CODING { m=0bx[2] n=0bx[2] } SYNTAX { %s }'
+accepted("two numbers in two runs", TEXT % '"A" ~ m=#U "B" ~ n=#X', 3, 1, 1, 1)
+accepted("a point in a later run", TEXT % 'm=#U ".b" n=#U', 3, 1, 1, 1)
+refused("an instruction without a text", CODED % "CODING { 0b0000 }", "23 BadText form=x")
+refused("a text that begins with a point", TEXT % '".A" m=#U n=#U', "23 BadText form=x")
+refused("letters behind a number", TEXT % 'm=#U ~ "A" n=#U', "23 BadText form=x")
+refused("two numbers in a run", TEXT % '"A" m=#U ~ n=#U', "23 BadText form=x")
+refused("a child whose text can't be read", CODED % 'DECLARE { INSTANCE y; LABEL l; } CODING { y l=0bx[2] } SYNTAX { l=#U ~ y }' + operation("y", 2, "Y"), "23 BadText form=x(y)")

@@ -208,8 +208,15 @@ row("vdebug of a long input behind quit", {"V": V}, step("vdebug V - -", "edge 0
 
 # ---------------------------------------------------------------- checks of descriptions
 
-for name, count in (("a.lisa", 2), ("b.lisa", 2), ("c.lisa", 7), ("d.lisa", 3), ("e.lisa", 4), ("f.lisa", 4)):
-    row(f"check of the sample {name}", {"X": SAMPLES[name]}, step("check X", f"operations {count}\n"))
+
+
+def counts(operations, forms, occurrences, items):
+    return lines(f"operations {operations}", f"forms {forms}", f"occurrences {occurrences}", f"items {items}")
+
+
+for name, told in (("a.lisa", counts(2, 0, 1, 1)), ("b.lisa", counts(2, 0, 1, 4)), ("c.lisa", counts(7, 3, 6, 8)),
+                   ("d.lisa", counts(3, 0, 3, 2)), ("e.lisa", counts(4, 0, 4, 6)), ("f.lisa", counts(4, 2, 1, 1))):
+    row(f"check of the sample {name}", {"X": SAMPLES[name]}, step("check X", told))
 for name, text, out, err in DESCRIPTIONS:
     row(f"check: {name}", {"X": text}, step("check X", out, err))
 row("a value that is too wide for its register", {"B": swap(SAMPLES["b.lisa"], ("c = a + b; d = a < b;", "a = b;"))},
@@ -217,11 +224,20 @@ row("a value that is too wide for its register", {"B": swap(SAMPLES["b.lisa"], (
 row("a loop without bound", {"A": swap(A, ("n = n + 1;", "while (n) n = n + 1;"))},
     step("check A", err="lisa: description 12 LoopWithoutBound operation=main\n"))
 row("a loop of 256 turns is accepted", {"A": swap(A, ("n = n + 1;", "for (uint8 i = 0; i < 256; i = i + 1) n = n + 1;"))},
-    step("check A", "operations 2\n"))
+    step("check A", counts(2, 0, 1, 1)))
 row("a loop that is too long", {"A": swap(A, ("n = n + 1;", "for (uint16 i = 0; i < 257; i = i + 1) n = n + 1;"))},
     step("check A", err="lisa: description 13 LoopTooLong operation=main turns=257\n"))
 row("a stall of the first stage in it", {"D": swap(SAMPLES["d.lisa"], ("{ M[0] = M[0] + 2;", "{ p.A.stall(); M[0] = M[0] + 2;"))},
     step("check D", err="lisa: description 16 Control operation=a stage=A\n"))
+C = SAMPLES["c.lisa"]
+row("an instruction that is too short", {"C": swap(C, ("0b00 0bx[6]", "0b00 0bx[5]"))},
+    step("check C", err="lisa: description 19 GroupWidth operation=decode name=instr\n"))
+row("a field that the text lacks", {"C": swap(C, ('SYNTAX { "BR" off=#S }', 'SYNTAX { "BR" }'))},
+    step("check C", err="lisa: description 20 NotWritten operation=br name=off\n"))
+F = SAMPLES["f.lisa"]
+row("two texts that differ", {"F": swap(F, ('SYNTAX { "R1" }', 'SYNTAX { "R16" }'))}, step("check F", counts(4, 2, 1, 1)))
+row("a number that stands apart", {"F": swap(F, ('"R" ~ n=#U', '"R" n=#U'), ('SYNTAX { "R1" }', 'SYNTAX { "R" "16" }'))},
+    step("check F", counts(4, 2, 1, 1)))
 row("check of bytes that spell no description", {"X": "RESOURCE { } OPERATION"}, step("check X", err=up_to("lisa: description 5 NotADescription at=", 22)))
 row("check reads before it checks", {"X": "RESOURCE { REGISTER uint65 n; } @"}, step("check X", err="lisa: description 1 BadByte at=32\n"))
 row("check of no file", {}, step("check X", err="lisa: read fault\n", status=3))
