@@ -238,6 +238,22 @@ F = SAMPLES["f.lisa"]
 row("two texts that differ", {"F": swap(F, ('SYNTAX { "R1" }', 'SYNTAX { "R16" }'))}, step("check F", counts(4, 2, 1, 1)))
 row("a number that stands apart", {"F": swap(F, ('"R" ~ n=#U', '"R" n=#U'), ('SYNTAX { "R1" }', 'SYNTAX { "R" "16" }'))},
     step("check F", counts(4, 2, 1, 1)))
+row("a cell too many", {"X": "RESOURCE { " + "".join(f"MEMORY uint8 m{k}[1048576]; " for k in range(4)) + "REGISTER uint8 r[2]; } OPERATION main { }"},
+    step("check X", err="lisa: description 22 TooMany what=cells count=4194306 limit=4194304\n"))
+row("a statement too many", {"X": "RESOURCE { REGISTER uint8 n; } OPERATION main { BEHAVIOR { " + "n = n; " * 4097 + "} }"},
+    step("check X", err="lisa: description 22 TooMany what=statements count=4097 limit=4096\n"))
+
+
+def doubled(last):
+    """Each value is the sum of the one before with itself."""
+    chain = "".join(f"OPERATION e{k} {{ DECLARE {{ INSTANCE p = e{k - 1}; }} EXPRESSION {{ p + p }} }} " for k in range(1, 22))
+    return ("RESOURCE { REGISTER uint8 n; } OPERATION e0 { EXPRESSION { n } } " + chain
+            + f"OPERATION main {{ DECLARE {{ INSTANCE x = e{last}; }} BEHAVIOR {{ n = x; }} }}")
+
+
+row("a value that doubles too often", {"X": doubled(21)},
+    step("check X", err="lisa: description 22 TooMany what=nodes count=8388608 limit=4194304\n"))
+row("a value that doubles once less", {"X": doubled(20)}, step("check X", counts(23, 0, 1, 1)))
 row("check of bytes that spell no description", {"X": "RESOURCE { } OPERATION"}, step("check X", err=up_to("lisa: description 5 NotADescription at=", 22)))
 row("check reads before it checks", {"X": "RESOURCE { REGISTER uint65 n; } @"}, step("check X", err="lisa: description 1 BadByte at=32\n"))
 row("check of no file", {}, step("check X", err="lisa: read fault\n", status=3))
