@@ -1,0 +1,40 @@
+-- What is kept of a description's codings, and what a word is decoded as.
+use Rattle.std.specs.Prelude.{◌≡◌, ◌<◌, ℕ, Option, None, option_map, MatchOption}
+use Rattle.lisa_tree.specs.declared.faults.DescFault.TheVariants as faults
+use Rattle.lisa_tree.specs.Descriptions.{DescriptionTree}
+use Rattle.description_names.specs.Operations.{is_alias}
+use Rattle.instruction_trees.specs.Trees.{Tree, form}
+use Rattle.coding_tables.specs.Codings.{coding_table}
+use Rattle.coding_tables.specs.Instructions.{instruction_items, forms_of, form_count}
+use Rattle.instruction_forms.specs.Widths.{HasWidth}
+use Rattle.pattern_tables.specs.Overlaps.{AnswersOverlap}
+use Rattle.pattern_tables.specs.Tables.{HoldPlain}
+use Rattle.pattern_tables.specs.Instructions.{form_at, IsPlainTree}
+use Rattle.form_patterns.specs.Instructions.{instruction_frames, instruction_plain, ArePatterns}
+use Rattle.lisa_coding.specs.declared.coding.Coding.{Coding}
+use Rattle.lisa_coding.specs.Verdicts.{IsUncoveredVerdict}
+
+-- these are the masks and patterns of a description no two of whose plain forms overlap, and the tables of its plain forms
+pub record IsCodingOf (d : DescriptionTree) (c : Coding) : Type 0 where
+  pub has_width : HasWidth d c.width
+  pub all_patterns : ArePatterns d c.width c.patterns.items
+  pub all_plain : c.plain.items ≡ instruction_plain d
+  pub tables : HoldPlain c.patterns.items c.plain.items c.decoder
+  pub apart : AnswersOverlap (instruction_frames d) (instruction_plain d) None
+  pub alias : IsUncoveredVerdict d (option_map faults.NotAnAlias c.uncovered)
+
+-- a plain tree has the word
+abbrev pub HasTree : DescriptionTree → ℕ → Tree ℕ → Type 0
+HasTree d word t = IsPlainTree (coding_table d) (instruction_items d) (is_alias d) (forms_of d) word t
+
+-- exactly one plain tree has the word, and it is of this form
+pub record IsOneTreeOf (d : DescriptionTree) (word k : ℕ) : Type 0 where
+  pub within : k < form_count d
+  pub tree : Tree ℕ
+  pub has : HasTree d word tree
+  pub formed : form tree ≡ form_at (forms_of d) k
+  pub only : (t : Tree ℕ) → HasTree d word t → t ≡ tree
+
+-- no plain tree has the word, or exactly one has, of this form
+abbrev pub IsDecodedAs : DescriptionTree → ℕ → Option ℕ → Type 0
+IsDecodedAs d word result = MatchOption result ((t : Tree ℕ) → HasTree d word t → ⊥) (IsOneTreeOf d word)
