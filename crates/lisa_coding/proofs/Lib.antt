@@ -1,3 +1,5 @@
 pub mod Narrow
 pub mod Formed
 pub mod Decoded
+pub mod Adding
+pub mod Fielded

@@ -1,2 +1,4 @@
+pub mod Rows
 pub mod Verdicts
 pub mod Parts
+pub mod Forms

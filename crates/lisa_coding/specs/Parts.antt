@@ -1,5 +1,5 @@
 -- What is kept of a description's codings, and what a word is decoded as.
-use Rattle.std.specs.Prelude.{◌≡◌, ◌<◌, ℕ, Option, None, option_map, MatchOption}
+use Rattle.std.specs.Prelude.{◌≡◌, ◌<◌, ℕ, Option, None, map, option_map, MatchOption}
 use Rattle.lisa_tree.specs.declared.faults.DescFault.TheVariants as faults
 use Rattle.lisa_tree.specs.Descriptions.{DescriptionTree}
 use Rattle.description_names.specs.Operations.{is_alias}
@@ -10,14 +10,16 @@ use Rattle.instruction_forms.specs.Widths.{HasWidth}
 use Rattle.pattern_tables.specs.Overlaps.{AnswersOverlap}
 use Rattle.pattern_tables.specs.Tables.{HoldPlain}
 use Rattle.pattern_tables.specs.Instructions.{form_at, IsPlainTree}
-use Rattle.form_patterns.specs.Instructions.{instruction_frames, instruction_plain, ArePatterns}
+use Rattle.form_patterns.specs.Instructions.{instruction_frames, instruction_plain, field_places, ArePatterns}
 use Rattle.lisa_coding.specs.declared.coding.Coding.{Coding}
+use Rattle.lisa_coding.specs.Rows.{pairs}
 use Rattle.lisa_coding.specs.Verdicts.{IsUncoveredVerdict}
 
--- these are the masks and patterns of a description no two of whose plain forms overlap, and the tables of its plain forms
+-- these are the masks and patterns of a description and the places of its forms and the places of their fields, and the tables of its plain forms, no two of which overlap
 pub record IsCodingOf (d : DescriptionTree) (c : Coding) : Type 0 where
   pub has_width : HasWidth d c.width
   pub all_patterns : ArePatterns d c.width c.patterns.items
+  pub all_places : map pairs c.places.items ≡ map (field_places d) (forms_of d)
   pub all_plain : c.plain.items ≡ instruction_plain d
   pub tables : HoldPlain c.patterns.items c.plain.items c.decoder
   pub apart : AnswersOverlap (instruction_frames d) (instruction_plain d) None

@@ -2,6 +2,7 @@
 #![tactic(auto)]
 
 mod coding;
+mod fields;
 mod making;
 mod words;
 
