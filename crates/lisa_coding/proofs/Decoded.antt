@@ -4,6 +4,7 @@ use Rattle.std.specs.Prelude.{unwrap_or}
 use Rattle.lisa_tree.specs.Descriptions.{DescriptionTree}
 use Rattle.description_names.specs.Operations.{is_alias}
 use Rattle.instruction_trees.specs.Trees.{tree_at}
+use Rattle.instruction_trees.proofs.FormWords.{read_values}
 use Rattle.coding_tables.specs.Codings.{coding_table}
 use Rattle.coding_tables.specs.Instructions.{instruction_items, forms_of}
 use Rattle.pattern_tables.specs.declared.bit_pattern.BitPattern.{BitPattern}
@@ -26,6 +27,7 @@ module _ (d : DescriptionTree) (w : ℕ) where
     tree = tree_at (coding_table d) w 0 (form_at (forms_of d) k) (instruction_items d);
     has = decoded_tree (coding_table d) (instruction_items d) (is_alias d) (forms_of d) w k (all_fit d) is;
     formed = decoded_form (coding_table d) (instruction_items d) (is_alias d) (forms_of d) w k (all_fit d) is;
+    read = read_values (coding_table d) (instruction_items d) (form_at (forms_of d) k) w;
     only = only_decoded (coding_table d) (instruction_items d) (is_alias d) (forms_of d) w k apart is;
   }
 

@@ -3,7 +3,8 @@ use Rattle.std.specs.Prelude.{◌≡◌, ◌<◌, ℕ, Option, None, map, option
 use Rattle.lisa_tree.specs.declared.faults.DescFault.TheVariants as faults
 use Rattle.lisa_tree.specs.Descriptions.{DescriptionTree}
 use Rattle.description_names.specs.Operations.{is_alias}
-use Rattle.instruction_trees.specs.Trees.{Tree, form}
+use Rattle.instruction_trees.specs.Trees.{Tree, form, slice}
+use Rattle.instruction_trees.specs.Values.{values}
 use Rattle.coding_tables.specs.Codings.{coding_table}
 use Rattle.coding_tables.specs.Instructions.{instruction_items, forms_of, form_count}
 use Rattle.instruction_forms.specs.Widths.{HasWidth}
@@ -15,7 +16,7 @@ use Rattle.lisa_coding.specs.declared.coding.Coding.{Coding}
 use Rattle.lisa_coding.specs.Rows.{pairs}
 use Rattle.lisa_coding.specs.Verdicts.{IsUncoveredVerdict}
 
--- these are the masks and patterns of a description and the places of its forms and the places of their fields, and the tables of its plain forms, no two of which overlap
+-- these are the masks, patterns and places of fields of all forms of a description, and the tables of the plain ones, no two of which overlap
 pub record IsCodingOf (d : DescriptionTree) (c : Coding) : Type 0 where
   pub has_width : HasWidth d c.width
   pub all_patterns : ArePatterns d c.width c.patterns.items
@@ -29,12 +30,13 @@ pub record IsCodingOf (d : DescriptionTree) (c : Coding) : Type 0 where
 abbrev pub HasTree : DescriptionTree → ℕ → Tree ℕ → Type 0
 HasTree d word t = IsPlainTree (coding_table d) (instruction_items d) (is_alias d) (forms_of d) word t
 
--- exactly one plain tree has the word, and it is of this form
+-- exactly one plain tree has the word, and it is of this form; its values are the fields that stand in the word
 pub record IsOneTreeOf (d : DescriptionTree) (word k : ℕ) : Type 0 where
   pub within : k < form_count d
   pub tree : Tree ℕ
   pub has : HasTree d word tree
   pub formed : form tree ≡ form_at (forms_of d) k
+  pub read : values tree ≡ map (slice word) (field_places d (form_at (forms_of d) k))
   pub only : (t : Tree ℕ) → HasTree d word t → t ≡ tree
 
 -- no plain tree has the word, or exactly one has, of this form

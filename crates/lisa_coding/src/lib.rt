@@ -1,4 +1,5 @@
-//! The words of an accepted description's instructions: which form a word has, and whether forms overlap or aliases are covered.
+//! The words of an accepted description's instructions: the word of each form with its values, the form and the values of a word, and
+//! whether forms overlap or aliases are covered.
 #![tactic(auto)]
 
 mod coding;
@@ -7,3 +8,4 @@ mod making;
 mod words;
 
 pub use coding::Coding;
+pub use pattern_tables::{PatternTable, Steps};
