@@ -1,0 +1,4 @@
+pub mod Forms
+pub mod Narrow
+pub mod Sharing
+pub mod Made

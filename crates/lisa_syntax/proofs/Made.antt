@@ -1,0 +1,51 @@
+-- From the parts of texts to the syntax that is made of them.
+use Rattle.std.proofs.Common.{◌≡◌, ◌≤◌, List, Option, None, Some, length, map, refl, sym, ap, ◌∙◌, subst, arith}
+use Rattle.std.specs.Prelude.{Vec}
+use Rattle.std.specs.Global.{Global}
+use Rattle.std.specs.List.{All}
+use Rattle.lisa_tree.specs.declared.descriptions.Description.{Description}
+use Rattle.lisa_tree.specs.declared.faults.DescFault.{DescFault}
+use Rattle.lisa_tree.specs.declared.faults.DescFault.TheVariants as faults
+use Rattle.lisa_tree.specs.Descriptions.{description_tree}
+use Rattle.lisa_machine.specs.Verdicts.{IsAccepted}
+use Rattle.coding_tables.specs.Instructions.{forms_of, form_count}
+use Rattle.instruction_texts.specs.declared.shapes.Shape.{Shape}
+use Rattle.instruction_texts.specs.Shapes.{IsSized}
+use Rattle.form_texts.specs.Instructions.{instruction_shapes, instruction_order}
+use Rattle.text_tables.specs.declared.shared.Shared.{Shared}
+use Rattle.text_tables.specs.Shared.{AnswersShared}
+use Rattle.lisa_forms.specs.Verdicts.{HasForms, form_name_at}
+use Rattle.lisa_syntax.specs.declared.parts.TextParts.{TextParts}
+use Rattle.lisa_syntax.specs.Parts.{ArePartsOf}
+use Rattle.lisa_syntax.specs.Texts.{IsAmbiguityFault, IsAmbiguityVerdict}
+use Rattle.lisa_syntax.proofs.Sharing.{texts, map_long, all_sized, none_shared, first_of}
+
+module _ (m n : Description) (same : n ≡ m) (parts : TextParts) (are : ArePartsOf (description_tree n) parts) (accepted : IsAccepted (description_tree m)) (has : HasForms (description_tree m)) where
+  of_machine : ArePartsOf (description_tree m) parts
+  of_machine = subst (λ (x : Description). ArePartsOf (description_tree x) parts) same are
+
+  module _ (seen : List (Vec Shape Global)) (is : seen ≡ parts.shapes.items) where
+    pieces : map (λ (v : Vec Shape Global). v.items) seen ≡ texts (description_tree m)
+    pieces = ap (map (λ (v : Vec Shape Global). v.items)) is ∙ of_machine.shapes
+
+    pub parts_sized : All (All IsSized) (map (λ (v : Vec Shape Global). v.items) seen)
+    parts_sized = subst (λ (us : List (List Shape)). All (All IsSized) us) (sym pieces) (all_sized (description_tree m) accepted has)
+
+    module _ (found : Option Shared) (answers : AnswersShared (map (λ (v : Vec Shape Global). v.items) seen) found) where
+      of_texts : AnswersShared (texts (description_tree m)) found
+      of_texts = subst (λ (us : List (List Shape)). AnswersShared us found) pieces answers
+
+      pub none_ambiguous : found ≡ None → IsAmbiguityVerdict (description_tree m) None
+      none_ambiguous none = none_shared (description_tree m) accepted has (subst (AnswersShared (texts (description_tree m))) none of_texts)
+
+      pub first_ambiguous : (s : Shared) → found ≡ Some s → (fault : DescFault) → fault ≡ faults.Ambiguous (form_name_at (description_tree m) s.first) (form_name_at (description_tree m) s.second) s.text.items → IsAmbiguityFault (description_tree m) fault
+      first_ambiguous s some fault named = first_of (description_tree m) accepted has s (subst (AnswersShared (texts (description_tree m))) some of_texts) fault named
+
+  counted : length parts.shapes.items ≡ form_count (description_tree m)
+  counted = sym (map_long (λ (v : Vec Shape Global). v.items) parts.shapes.items) ∙ ap length of_machine.shapes ∙ map_long (instruction_shapes (description_tree m)) (forms_of (description_tree m))
+
+  pub parts_level : length parts.orders.items ≡ length parts.shapes.items
+  parts_level = sym (map_long (λ v. v.items) parts.orders.items) ∙ ap length of_machine.orders ∙ map_long (instruction_order (description_tree m)) (forms_of (description_tree m)) ∙ sym counted
+
+  pub parts_few : form_count (description_tree m) ≤ 1024 → length parts.shapes.items ≤ 1024
+  parts_few few = omega (arith, counted, few)

@@ -1,0 +1,33 @@
+use Rattle.std.proofs.Common.{sym, refl, subst, inr, List}
+use Rattle.lisa_tree.specs.declared.descriptions.Description.{Description}
+use Rattle.lisa_tree.specs.Descriptions.{description_tree}
+use Rattle.instruction_forms.specs.declared.form.Form.{Form}
+use Rattle.instruction_forms.specs.Described.{AreForms}
+use Rattle.lisa_syntax.proofs.Made.{parts_sized, parts_level, parts_few, none_ambiguous, first_ambiguous}
+use Rattle.lisa_syntax.proofs.syntax.Syntax.make.Goals as goal
+
+pub text_parts-requires : goal.text_parts-requires
+text_parts-requires c = subst (λ (x : Description). AreForms (description_tree x) c.forms.result.now) (sym c.description.ensures) (subst (λ (fs : List Form). AreForms (description_tree c.args.machine.now) fs) (sym c.forms.ensures) c.requires.forms.all_forms)
+
+pub first_ambiguity-requires : goal.first_ambiguity-requires
+first_ambiguity-requires c = parts_sized c.args.machine.now c.description.result.now c.description.ensures c.in_ok-parts.parts c.in_ok-parts.ensures c.accepted.ensures.accepted c.requires.accepted c.deref.result.now c.deref.ensures.value
+
+pub kept-requires-clause-sized : goal.kept-requires-clause-sized
+kept-requires-clause-sized c = parts_sized c.args.machine.now c.description.result.now c.description.ensures c.in_ok-parts.parts c.in_ok-parts.ensures c.accepted.ensures.accepted c.requires.accepted c.in_ok-parts.parts.shapes.items refl
+
+pub kept-requires-clause-level : goal.kept-requires-clause-level
+kept-requires-clause-level c = parts_level c.args.machine.now c.description.result.now c.description.ensures c.in_ok-parts.parts c.in_ok-parts.ensures c.accepted.ensures.accepted c.requires.accepted
+
+pub kept-requires-clause-few : goal.kept-requires-clause-few
+kept-requires-clause-few c = parts_few c.args.machine.now c.description.result.now c.description.ensures c.in_ok-parts.parts c.in_ok-parts.ensures c.accepted.ensures.accepted c.requires.accepted c.requires.forms.few
+
+pub returns-in_ok-ambiguity-in-Some-clause-fault :
+    goal.returns-in_ok-ambiguity-in-Some-clause-fault
+returns-in_ok-ambiguity-in-Some-clause-fault c =
+    inr (first_ambiguous c.args.machine.now c.description.result.now c.description.ensures c.in_ok-parts.parts c.in_ok-parts.ensures c.accepted.ensures.accepted c.requires.accepted c.deref.result.now c.deref.ensures.value
+    c.in_ok-shared.field-0 c.in_ok-shared.ensures c.in-Some.shared c.in-Some.is c.in_ok-ambiguity-in-Some.field-0 c.in_ok-ambiguity-in-Some.ensures)
+
+pub returns-in_ok-kept-in-None-clause-plain : goal.returns-in_ok-kept-in-None-clause-plain
+returns-in_ok-kept-in-None-clause-plain c =
+    none_ambiguous c.args.machine.now c.description.result.now c.description.ensures c.in_ok-parts.parts c.in_ok-parts.ensures c.accepted.ensures.accepted c.requires.accepted c.deref.result.now c.deref.ensures.value
+    c.in_ok-shared.field-0 c.in_ok-shared.ensures c.in-None.is
