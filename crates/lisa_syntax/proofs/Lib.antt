@@ -1,4 +1,8 @@
 pub mod Forms
-pub mod Narrow
+pub mod Numbers
 pub mod Sharing
 pub mod Made
+pub mod Placing
+pub mod Ordering
+pub mod Shown
+pub mod Lined

@@ -18,6 +18,8 @@ use Rattle.lisa_forms.specs.Verdicts.{HasForms, form_name_at}
 use Rattle.lisa_syntax.specs.declared.parts.TextParts.{TextParts}
 use Rattle.lisa_syntax.specs.Parts.{ArePartsOf}
 use Rattle.lisa_syntax.specs.Texts.{IsAmbiguityFault, IsAmbiguityVerdict}
+use Rattle.lisa_syntax.specs.Orders.{AreOrdersOf}
+use Rattle.lisa_syntax.proofs.Shown.{all_orders}
 use Rattle.lisa_syntax.proofs.Sharing.{texts, map_long, all_sized, none_shared, first_of}
 
 module _ (m n : Description) (same : n ≡ m) (parts : TextParts) (are : ArePartsOf (description_tree n) parts) (accepted : IsAccepted (description_tree m)) (has : HasForms (description_tree m)) where
@@ -49,3 +51,8 @@ module _ (m n : Description) (same : n ≡ m) (parts : TextParts) (are : ArePart
 
   pub parts_few : form_count (description_tree m) ≤ 1024 → length parts.shapes.items ≤ 1024
   parts_few few = omega (arith, counted, few)
+
+  pub parts_ordered : AreOrdersOf (map (λ (v : Vec Shape Global). v.items) parts.shapes.items) (map (λ v. v.items) parts.orders.items)
+  parts_ordered =
+      subst (λ (us : List (List Shape)). AreOrdersOf us (map (λ v. v.items) parts.orders.items)) (sym of_machine.shapes)
+      (subst (AreOrdersOf (texts (description_tree m))) (sym of_machine.orders) (all_orders (description_tree m) accepted has))

@@ -24,9 +24,9 @@ use Rattle.text_tables.specs.Shared.{shapes_at, IsShared, IsFirstShared, Answers
 use Rattle.lisa_forms.specs.Verdicts.{HasForms, form_name_at}
 use Rattle.lisa_syntax.specs.Texts.{InstructionWrites, IsAmbiguity, IsFirstAmbiguity, IsAmbiguityFault, IsAmbiguityVerdict}
 use Rattle.lisa_syntax.proofs.Forms.{fits, readable, writes_texts, form_short}
-use Rattle.lisa_syntax.proofs.Narrow.{narrow_form, pieces_sized}
+use Rattle.lisa_syntax.proofs.Numbers.{narrow_form, pieces_sized}
 
-at_map : {A B : Type 0} (f : A → B) (xs : List A) (k : ℕ) (x : A) (y : B) → k < length xs → slice_index_or (map f xs) k y ≡ f (slice_index_or xs k x)
+pub at_map : {A B : Type 0} (f : A → B) (xs : List A) (k : ℕ) (x : A) (y : B) → k < length xs → slice_index_or (map f xs) k y ≡ f (slice_index_or xs k x)
 at_map f [] k x y h = absurd (omega arith)
 at_map f (z ∷ xs) zero x y h = refl
 at_map f (z ∷ xs) (suc k) x y h = at_map f xs k x y (omega (arith, h))

@@ -3,6 +3,8 @@
 
 mod making;
 mod parts;
+mod reading;
 mod syntax;
 
+pub use reading::{LineFault, Matched};
 pub use syntax::Syntax;

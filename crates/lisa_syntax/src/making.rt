@@ -9,6 +9,7 @@ ghost use Rattle.text_tables.specs.Shared.{AnswersShared};
 ghost use Rattle.lisa_forms.specs.Parts.{AreFormsOf};
 ghost use Rattle.lisa_forms.specs.Verdicts.{HasForms, form_name_at};
 ghost use Rattle.lisa_syntax.specs.Texts.{IsAmbiguityVerdict};
+ghost use Rattle.lisa_syntax.specs.Orders.{AreOrdersOf};
 ghost use Rattle.lisa_syntax.specs.Parts.{IsSyntaxOf};
 
 use crate::parts::{TextParts, slices, text_parts};
@@ -59,6 +60,7 @@ fn kept(alloc: Global, parts: TextParts) -> Result<Syntax, NoMemory>
     requires sized { All (All IsSized) (map (λ v. v.items) parts.shapes.items) }
     requires level { length parts.orders.items ≡ length parts.shapes.items }
     requires few { length parts.shapes.items ≤ 1024 }
+    requires ordered { AreOrdersOf (map (λ v. v.items) parts.shapes.items) (map (λ v. v.items) parts.orders.items) }
     ensures shapes { IfOk result (λ syntax. syntax.table ≡ map (λ v. v.items) parts.shapes.items) }
     ensures orders { IfOk result (λ syntax. syntax.orders ≡ parts.orders) }
 {
