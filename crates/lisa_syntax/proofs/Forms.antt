@@ -1,14 +1,13 @@
 -- The forms of an accepted description whose codings, sizes and texts are as they must be.
-use Rattle.std.proofs.Common.{◌≡◌, ◌&&◌, ◌⊎◌, ◌+◌, ℕ, suc, List, [], ◌∷◌, Option, None, Some, Bool, true, false, cond, length, refl, sym, ap, ◌∙◌, subst, arith, inl, inr}
+use Rattle.std.proofs.Common.{◌≡◌, ◌&&◌, ◌+◌, ℕ, suc, List, [], ◌∷◌, Option, None, Some, Bool, true, false, cond, length, refl, sym, ap, ◌∙◌, subst, arith, inl, inr}
 use Rattle.std.specs.Prelude.{◌↔◌, ◌≤◌, option_map}
 use Rattle.std.proofs.lemmas.List.{length-append}
-use Rattle.lisa_tree.specs.declared.faults.DescFault.{DescFault}
 use Rattle.lisa_tree.specs.Descriptions.{DescriptionTree}
 use Rattle.description_names.specs.Paths.{node_count, choice_node}
 use Rattle.lisa_machine.specs.Verdicts.{IsAccepted, Verdict, before, at_places, nothing}
 use Rattle.coding_checks.specs.Uneven.{IsFirstGroupWidth, group_width}
 use Rattle.coding_checks.specs.Written.{not_written}
-use Rattle.instruction_trees.specs.Trees.{Tree, Done, Pass, Value, Choose, Form, Fits, AnyValue, In, here, there, coding, form_bits}
+use Rattle.instruction_trees.specs.Trees.{Done, Pass, Value, Choose, Form, Fits, AnyValue, In, here, there, coding, form_bits}
 use Rattle.instruction_trees.proofs.Listing.{forms_fit}
 use Rattle.coding_tables.specs.Codings.{coding_table, choice_alternatives}
 use Rattle.coding_tables.specs.Instructions.{forms_of, instruction_items, instruction_choice}
@@ -25,7 +24,7 @@ use Rattle.instruction_forms.proofs.Wide.{whole_width, small_width}
 use Rattle.form_promises.proofs.Readable.{form_readable}
 use Rattle.form_promises.proofs.Rooted.{the_root}
 use Rattle.form_promises.proofs.Wide.{group_wide}
-use Rattle.lisa_forms.specs.Verdicts.{HasForms, IsRootVerdict, IsSizeVerdict, IsTextVerdict, bad_text, from_texts, from_sizes, from_roots, from_writings, from_group_widths}
+use Rattle.lisa_forms.specs.Verdicts.{HasForms, IsRootVerdict, IsSizeVerdict, IsTextVerdict, bad_text, from_texts, from_sizes, from_roots, from_writings}
 use Rattle.lisa_syntax.specs.Texts.{InstructionWrites}
 
 -- ---- no condition is broken

@@ -1,5 +1,5 @@
 -- A line gives as many operands as the form that it is of has numbers.
-use Rattle.std.proofs.Common.{◌≡◌, ℕ, suc, List, length, map, refl, sym, ap, ◌∙◌, subst}
+use Rattle.std.proofs.Common.{◌≡◌, ℕ, suc, List, length, refl, sym, ap, ◌∙◌, subst}
 use Rattle.std.specs.Prelude.{Vec}
 use Rattle.std.specs.Global.{Global}
 use Rattle.asm_source.specs.Plain.{PlainToken}

@@ -1,5 +1,5 @@
 -- From the parts of texts to the syntax that is made of them.
-use Rattle.std.proofs.Common.{◌≡◌, ◌≤◌, List, Option, None, Some, length, map, refl, sym, ap, ◌∙◌, subst, arith}
+use Rattle.std.proofs.Common.{◌≡◌, ◌≤◌, List, Option, None, Some, length, map, sym, ap, ◌∙◌, subst, arith}
 use Rattle.std.specs.Prelude.{Vec}
 use Rattle.std.specs.Global.{Global}
 use Rattle.std.specs.List.{All}

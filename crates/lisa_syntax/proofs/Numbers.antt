@@ -1,6 +1,6 @@
 -- The numbers in the text of a form: each is a field of the form, and has at most as many bits.
 use Rattle.std.proofs.Common.{◌≡◌, ◌<◌, ◌≤◌, ◌+◌, ◌++◌, ℕ, zero, suc, List, [], ◌∷◌, Bool, true, false, cond, nat_eq, length, map, refl, ap, arith}
-use Rattle.std.specs.Prelude.{Option, None, Some, slice_index_or, replicate}
+use Rattle.std.specs.Prelude.{Option, None, slice_index_or, replicate}
 use Rattle.std.specs.List.{All, AllByRecursion}
 use Rattle.std.proofs.lemmas.List.{length-append}
 use Rattle.asm_source.specs.Bytes.{is_word}

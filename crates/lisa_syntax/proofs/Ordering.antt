@@ -1,5 +1,5 @@
 -- The numbers below a bound, each once, are as many as the bound; and a text has as many numbers as its pieces.
-use Rattle.std.proofs.Common.{◌≡◌, ◌⊎◌, ◌<◌, ◌≤◌, ◌+◌, ◌++◌, ℕ, zero, suc, List, [], ◌∷◌, Option, None, Some, Bool, true, false, cond, length, refl, ap, ◌∙◌, subst, arith, inl, inr}
+use Rattle.std.proofs.Common.{◌≡◌, ◌⊎◌, ◌<◌, ◌≤◌, ◌+◌, ◌++◌, ℕ, zero, suc, List, [], ◌∷◌, Some, Bool, true, false, cond, length, refl, ap, ◌∙◌, subst, arith, inl, inr}
 use Rattle.std.specs.Prelude.{slice_get}
 use Rattle.asm_source.specs.Bytes.{is_word}
 use Rattle.instruction_trees.specs.Trees.{In, here, there}
@@ -8,7 +8,7 @@ use Rattle.instruction_trees.specs.Values.{upto}
 use Rattle.instruction_texts.specs.declared.shapes.Shape.{Shape}
 use Rattle.instruction_texts.specs.declared.shapes.Shape.TheVariants.{Other}
 use Rattle.instruction_texts.specs.Symbols.{Decimal, WithSign, Hexadecimal, Sym, Byte, Gap, Shown, gather, flush_shape, shown_values}
-use Rattle.lisa_syntax.specs.Orders.{number_count, IsOrder, IsOrderOf}
+use Rattle.lisa_syntax.specs.Orders.{number_count, IsOrder}
 
 -- ---- places in lists
 

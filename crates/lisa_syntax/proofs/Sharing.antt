@@ -1,14 +1,14 @@
 -- From texts that pieces share to texts that forms write.
-use Rattle.std.proofs.Common.{◌≡◌, ◌<◌, ◌≤◌, ◌+◌, ℕ, zero, suc, List, [], ◌∷◌, Option, None, Some, length, map, refl, sym, ap, ◌∙◌, subst, arith}
+use Rattle.std.proofs.Common.{◌≡◌, ◌<◌, ℕ, zero, suc, List, [], ◌∷◌, None, Some, length, map, refl, sym, ap, ◌∙◌, subst, arith}
 use Rattle.std.specs.Prelude.{slice_index_or}
 use Rattle.std.specs.List.{All}
 use Rattle.lisa_tree.specs.declared.faults.DescFault.{DescFault}
 use Rattle.lisa_tree.specs.declared.faults.DescFault.TheVariants as faults
 use Rattle.lisa_tree.specs.Descriptions.{DescriptionTree}
 use Rattle.lisa_machine.specs.Verdicts.{IsAccepted}
-use Rattle.instruction_trees.specs.Trees.{Tree, Done, Pass, Value, Choose, Form, Fits, AnyValue, In, form_bits}
-use Rattle.coding_tables.specs.Codings.{coding_table, choice_alternatives}
-use Rattle.coding_tables.specs.Instructions.{forms_of, form_count, instruction_items, instruction_choice}
+use Rattle.instruction_trees.specs.Trees.{Done, Pass, Value, Choose, Form, In}
+use Rattle.coding_tables.specs.Codings.{coding_table}
+use Rattle.coding_tables.specs.Instructions.{forms_of, form_count}
 use Rattle.pattern_tables.specs.Instructions.{form_at}
 use Rattle.pattern_tables.proofs.Decoding.{place_in}
 use Rattle.instruction_texts.specs.declared.shapes.Shape.{Shape}
@@ -17,12 +17,10 @@ use Rattle.instruction_texts.specs.Shapes.{IsText, IsSized}
 use Rattle.instruction_texts.specs.Texts.{form_symbols}
 use Rattle.form_texts.specs.Syntaxes.{syntax_table}
 use Rattle.form_texts.specs.Instructions.{instruction_shapes}
-use Rattle.instruction_forms.specs.Widths.{HasInstructionWidth}
-use Rattle.instruction_forms.proofs.Wide.{small_width}
 use Rattle.text_tables.specs.declared.shared.Shared.{Shared}
-use Rattle.text_tables.specs.Shared.{shapes_at, IsShared, IsFirstShared, AnswersShared}
+use Rattle.text_tables.specs.Shared.{shapes_at, IsShared, AnswersShared}
 use Rattle.lisa_forms.specs.Verdicts.{HasForms, form_name_at}
-use Rattle.lisa_syntax.specs.Texts.{InstructionWrites, IsAmbiguity, IsFirstAmbiguity, IsAmbiguityFault, IsAmbiguityVerdict}
+use Rattle.lisa_syntax.specs.Texts.{InstructionWrites, IsAmbiguity, IsAmbiguityFault, IsAmbiguityVerdict}
 use Rattle.lisa_syntax.proofs.Forms.{fits, readable, writes_texts, form_short}
 use Rattle.lisa_syntax.proofs.Numbers.{narrow_form, pieces_sized}
 

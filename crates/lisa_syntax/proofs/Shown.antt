@@ -1,8 +1,8 @@
 -- The orders of fields in the texts of an accepted description's forms.
-use Rattle.std.proofs.Common.{◌≡◌, ◌<◌, ◌+◌, ℕ, List, [], length, map, sym, subst}
+use Rattle.std.proofs.Common.{◌+◌, List, [], map, sym, subst}
 use Rattle.lisa_tree.specs.Descriptions.{DescriptionTree}
 use Rattle.lisa_machine.specs.Verdicts.{IsAccepted}
-use Rattle.instruction_trees.specs.Trees.{Tree, Done, Pass, Value, Choose, Form, In}
+use Rattle.instruction_trees.specs.Trees.{Done, Pass, Value, Choose, Form, In}
 use Rattle.instruction_trees.specs.Values.{owns, inners}
 use Rattle.coding_tables.specs.Codings.{coding_table}
 use Rattle.coding_tables.specs.Instructions.{forms_of}
