@@ -11,7 +11,6 @@ use Rattle.instruction_forms.specs.Described.{instruction_form}
 use Rattle.instruction_forms.specs.Trees.{form_tree}
 use Rattle.lisa_forms.specs.declared.forms.Forms.{Forms}
 use Rattle.lisa_forms.specs.Parts.{AreFormsOf}
-use Rattle.lisa_forms.specs.Verdicts.{HasForms, IsFirstFormFault}
 use Rattle.lisa_outcomes.specs.declared.status.End.{End}
 use Rattle.lisa_outcomes.specs.declared.status.End.TheVariants as ends
 use Rattle.lisa_outcomes.specs.declared.status.Refusal.TheVariants as refusals
@@ -19,9 +18,11 @@ use Rattle.lisa_outcomes.specs.Stages.{Finds}
 use Rattle.lisa_outcomes.proofs.Finding.{found_ok, found_memory, found_refused}
 use Rattle.description_commands.specs.Checks.{AreCounts, IsMisformed, counts_with}
 use Rattle.description_commands.specs.FormCounts.{counts_of}
+use Rattle.description_commands.specs.Instructions.{HasInstructions, IsFirstInstructionFault}
 use Rattle.description_commands.specs.Unread.{unread_end}
 use Rattle.description_commands.proofs.Faulty.{memory_is_no_refusal, unread_is}
-use Rattle.description_commands.proofs.FormVerdicts.{one_width, no_fault_in_forms}
+use Rattle.description_commands.proofs.FormVerdicts.{one_width}
+use Rattle.description_commands.proofs.InstructionVerdicts.{no_fault_in_instructions}
 
 -- what was unfolded has the description's counts
 counted : (d : DescriptionTree) (f : Forms) → AreFormsOf d f → counts_of d f ≡ counts_with d f.width
@@ -32,18 +33,18 @@ counted d f are =
     let shown : length f.items.items ≡ length (items d f.width) = ap length are.all_items in
     λ i. record { operations = length d.operations; forms = forms i; occurrences = occurring i; items = shown i }
 
-pub unfolded_finds : (d : DescriptionTree) (f : Forms) → AreFormsOf d f → HasForms d → Finds {X = Forms} (counts_of d) (AreCounts d) (IsMisformed d) (Ok f)
+pub unfolded_finds : (d : DescriptionTree) (f : Forms) → AreFormsOf d f → HasInstructions d → Finds {X = Forms} (counts_of d) (AreCounts d) (IsMisformed d) (Ok f)
 unfolded_finds d f are well = found_ok (counts_of d) (AreCounts d) (IsMisformed d) f
     (record { well = well; width = f.width; has_width = are.has_width; are = counted d f are })
     (λ c told. counted d f are ∙ ap (counts_with d) (one_width d f.width told.width are.has_width told.has_width) ∙ sym told.are)
-    (λ r wrong. no_fault_in_forms d wrong.0 well wrong.1)
+    (λ r wrong. no_fault_in_instructions d wrong.0 well wrong.1)
 
-pub misformed_finds : (d : DescriptionTree) (f : DescFault) → ((f ≡ descriptions.NoMemory) ⊎ IsFirstFormFault d f)
+pub misformed_finds : (d : DescriptionTree) (f : DescFault) → ((f ≡ descriptions.NoMemory) ⊎ IsFirstInstructionFault d f)
     → Finds {X = Forms} (counts_of d) (AreCounts d) (IsMisformed d) (Err (unread_end f))
 misformed_finds d f broken = ⊎_elim
     (λ m. subst (λ (e : End). Finds {X = Forms} (counts_of d) (AreCounts d) (IsMisformed d) (Err e)) (sym m) (found_memory (counts_of d) (AreCounts d) (IsMisformed d)))
     (λ r. subst (λ (e : End). Finds {X = Forms} (counts_of d) (AreCounts d) (IsMisformed d) (Err e)) (sym r)
-    (⊎_elim (λ w. absurd (wanted w r)) (λ b. found_refused (counts_of d) (AreCounts d) (IsMisformed d) (refusals.Description f) (f, b, refl) (λ c told. no_fault_in_forms d f told.well b)) broken))
+    (⊎_elim (λ w. absurd (wanted w r)) (λ b. found_refused (counts_of d) (AreCounts d) (IsMisformed d) (refusals.Description f) (f, b, refl) (λ c told. no_fault_in_instructions d f told.well b)) broken))
     (unread_is f)
   where
     wanted : f ≡ descriptions.NoMemory → unread_end f ≡ ends.Refused (refusals.Description f) → ⊥

@@ -7,4 +7,6 @@ pub mod Stopped
 mod Accepting
 mod Settling
 mod FormVerdicts
+mod Steps
+mod InstructionVerdicts
 mod Forming

@@ -7,11 +7,11 @@ use Rattle.activation_trees.specs.Unfolding.{occurrences}
 use Rattle.description_sizes.specs.Sizes.{items}
 use Rattle.instruction_forms.specs.Widths.{HasWidth}
 use Rattle.lisa_machine.specs.Verdicts.{IsAccepted, IsFirstFault}
-use Rattle.lisa_forms.specs.Verdicts.{HasForms, IsFirstFormFault}
 use Rattle.lisa_outcomes.specs.declared.status.Refusal.{Refusal}
 use Rattle.lisa_outcomes.specs.declared.status.Refusal.TheVariants as refusals
 use Rattle.lisa_outcomes.specs.Outcomes.{Outcome, Finished, After}
 use Rattle.description_commands.specs.declared.counts.Counts.{Counts}
+use Rattle.description_commands.specs.Instructions.{HasInstructions, IsFirstInstructionFault}
 
 -- the description itself, where no condition is broken in it
 abbrev pub IsSound : DescriptionTree → DescriptionTree → Type 0
@@ -21,22 +21,22 @@ IsSound d checked = (checked ≡ d) × IsAccepted d
 abbrev pub IsFaulty : DescriptionTree → Refusal → Type 0
 IsFaulty d refusal = (fault : DescFault) × IsFirstFault d fault × (refusal ≡ refusals.Description fault)
 
--- ---- its codings, sizes and texts
+-- ---- its instructions
 
 -- of a description whose instructions have this width
 abbrev pub counts_with : DescriptionTree → Option ℕ → Counts
 counts_with d width = record { operations = length d.operations; forms = form_count d; occurrences = length (occurrences d); items = length (items d width) }
 
--- what it unfolds to, where its codings, sizes and texts are as they must be
+-- what it unfolds to, where its instructions are as they must be
 pub record AreCounts (d : DescriptionTree) (counts : Counts) : Type 0 where
-  pub well : HasForms d
+  pub well : HasInstructions d
   pub width : Option ℕ
   pub has_width : HasWidth d width
   pub are : counts ≡ counts_with d width
 
--- the first fault of them
+-- the first fault of its instructions
 abbrev pub IsMisformed : DescriptionTree → Refusal → Type 0
-IsMisformed d refusal = (fault : DescFault) × IsFirstFormFault d fault × (refusal ≡ refusals.Description fault)
+IsMisformed d refusal = (fault : DescFault) × IsFirstInstructionFault d fault × (refusal ≡ refusals.Description fault)
 
 -- ---- the text
 
@@ -52,7 +52,7 @@ counts_text counts =
 
 -- ---- the command
 
--- the lines of an accepted description, where it has forms
+-- the lines of an accepted description, where its instructions are as they must be
 abbrev pub Unfolds : DescriptionTree → Outcome → Type 0
 Unfolds d = After (AreCounts d) (IsMisformed d) (λ counts outcome. outcome ≡ Finished (counts_text counts))
 

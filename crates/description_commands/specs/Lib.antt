@@ -5,5 +5,6 @@ pub mod ThinStates
 pub mod ThinRuns
 pub mod Tasks
 pub mod Unread
+pub mod Instructions
 pub mod Checks
 pub mod FormCounts

@@ -15,6 +15,7 @@ ghost use Rattle.lisa_outcomes.specs.Writes.{Writes};
 
 use crate::commands::DESCRIPTION_LIMIT;
 use crate::counts::{Counts, put_counts};
+use crate::instructions::checked_forms;
 use crate::reading::{description_of, unread};
 use lisa_forms::Forms;
 use lisa_io::{Files, Sink};
@@ -34,12 +35,12 @@ fn machine_of(alloc: Global, description: Description) -> Result<Machine, End>
     }
 }
 
-// The forms of an accepted description, or the first fault of its codings, sizes and texts.
+// The forms of an accepted description, or the end with the first fault of its instructions.
 fn forms_of(alloc: Global, machine: &Machine) -> Result<Forms, End>
     ensures found { Finds (counts_of (description_tree machine.now)) (AreCounts (description_tree machine.now)) (IsMisformed (description_tree machine.now)) result }
     ensures forms { IfOk result (λ f. AreFormsOf (description_tree machine.now) f) }
 {
-    match Forms::make(alloc, machine) {
+    match checked_forms(alloc, machine) {
         Ok(forms) => Ok(forms),
         Err(fault) => Err(unread(fault)),
     }

@@ -6,6 +6,7 @@
 mod checks;
 mod commands;
 mod counts;
+mod instructions;
 mod parts;
 mod reading;
 mod running;
