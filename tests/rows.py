@@ -215,7 +215,7 @@ def counts(operations, forms, occurrences, items):
 
 
 for name, told in (("a.lisa", counts(2, 0, 1, 1)), ("b.lisa", counts(2, 0, 1, 4)), ("c.lisa", counts(7, 3, 6, 8)),
-                   ("d.lisa", counts(3, 0, 3, 2)), ("e.lisa", counts(4, 0, 4, 6)), ("f.lisa", counts(4, 2, 1, 1))):
+                   ("d.lisa", counts(3, 0, 3, 2)), ("e.lisa", counts(4, 0, 4, 6))):
     row(f"check of the sample {name}", {"X": SAMPLES[name]}, step("check X", told))
 for name, text, out, err in DESCRIPTIONS:
     row(f"check: {name}", {"X": text}, step("check X", out, err))
@@ -238,6 +238,24 @@ F = SAMPLES["f.lisa"]
 row("two texts that differ", {"F": swap(F, ('SYNTAX { "R1" }', 'SYNTAX { "R16" }'))}, step("check F", counts(4, 2, 1, 1)))
 row("a number that stands apart", {"F": swap(F, ('"R" ~ n=#U', '"R" n=#U'), ('SYNTAX { "R1" }', 'SYNTAX { "R" "16" }'))},
     step("check F", counts(4, 2, 1, 1)))
+row("two forms with one word", {"C": swap(C, ("0b00 0bx[6]", "0b01100111"))},
+    step("check C", err="lisa: description 24 Overlap first=addi(reg) second=nop word=0x67\n"))
+row("two forms with one text", {"F": F}, step("check F", err='lisa: description 25 Ambiguous first=p second=q text="R1"\n'))
+row("a negative number and a sign", {"F": swap(F, ('"R" ~ n=#U', '"ADD" n=#S'), ('OPERATION q { CODING { 0b1000 } SYNTAX { "R1" } }',
+    'OPERATION q { DECLARE { LABEL m; } CODING { 0b1 m=0bx[3] } SYNTAX { "ADD" "-" ~ m=#U } }'))},
+    step("check F", err=re.compile(r'lisa: description 25 Ambiguous first=p second=q text="ADD-[1-4]"\n')))
+
+
+def alias(coding, syntax):
+    return swap(C, ("addi || nop || br }", "addi || nop || br || inc }")) + (
+        f"ALIAS OPERATION inc {{ DECLARE {{ GROUP dst = {{ reg }}; }} CODING {{ {coding} }} SYNTAX {{ {syntax} }} }}\n")
+
+
+row("a second text for an instruction", {"C": alias("0b01 dst 0b00001", '"INC" dst')}, step("check C", counts(8, 4, 6, 8)))
+row("an alias of nothing", {"C": alias("0b11 dst 0b00001", '"INC" dst')},
+    step("check C", err="lisa: description 26 NotAnAlias form=inc(reg)\n"))
+row("an alias with a text that stands already", {"C": alias("0b01 dst 0b00001", '"ADDI" dst ~ "," "1"')},
+    step("check C", err=re.compile(r'lisa: description 25 Ambiguous first=addi\(reg\) second=inc\(reg\) text="ADDI R[01],1"\n')))
 row("a cell too many", {"X": "RESOURCE { " + "".join(f"MEMORY uint8 m{k}[1048576]; " for k in range(4)) + "REGISTER uint8 r[2]; } OPERATION main { }"},
     step("check X", err="lisa: description 22 TooMany what=cells count=4194306 limit=4194304\n"))
 row("a statement too many", {"X": "RESOURCE { REGISTER uint8 n; } OPERATION main { BEHAVIOR { " + "n = n; " * 4097 + "} }"},
