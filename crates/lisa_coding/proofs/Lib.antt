@@ -3,3 +3,4 @@ pub mod Formed
 pub mod Decoded
 pub mod Adding
 pub mod Fielded
+pub mod Known

@@ -4,8 +4,10 @@
 
 mod coding;
 mod fields;
+mod laws;
 mod making;
 mod words;
 
 pub use coding::Coding;
+pub use laws::words_are_decoded;
 pub use pattern_tables::{PatternTable, Steps};

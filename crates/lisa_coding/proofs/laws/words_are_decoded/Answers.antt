@@ -1,0 +1,8 @@
+use Rattle.lisa_coding.proofs.Known.{plain_known, covered_known}
+use Rattle.lisa_coding.proofs.laws.words_are_decoded.Goals as goal
+
+pub returns-clause-plain : goal.returns-clause-plain
+returns-clause-plain c = plain_known
+
+pub returns-clause-covered : goal.returns-clause-covered
+returns-clause-covered c = covered_known
