@@ -6,3 +6,4 @@ pub mod Placing
 pub mod Ordering
 pub mod Shown
 pub mod Lined
+pub mod Texts

@@ -2,3 +2,4 @@ pub mod Texts
 pub mod Parts
 pub mod Orders
 pub mod Lines
+pub mod Trees

@@ -5,6 +5,7 @@ mod making;
 mod parts;
 mod reading;
 mod syntax;
+mod writing;
 
 pub use reading::{LineFault, Matched};
 pub use syntax::Syntax;
