@@ -22,7 +22,7 @@ use lisa_words::{Name, NoMemory};
 use std::alloc::Global;
 use text_tables::{Shared, TextTable, first_shared};
 
-// The first two texts that are in part the same.
+// The first two forms that have a text in common.
 fn first_ambiguity(alloc: Global, texts: &[Vec<Shape>]) -> Result<Option<Shared>, NoMemory>
     requires { All (All IsSized) (map (λ v. v.items) texts.now) }
     ensures { IfOk result (AnswersShared (map (λ v. v.items) texts.now)) }
