@@ -12,6 +12,7 @@ whether each was; the exit status is 0 where all were, else 1.
 
 import argparse
 import os
+import string
 import subprocess
 import sys
 import tempfile
@@ -159,6 +160,19 @@ def listed_often(size):
             + "; } }\nOPERATION leaf { EXPRESSION { a } }\n")
 
 
+def declared_by_all(size):
+    """One operation that refers to a name for each letter, and as many operations above it as fit, which declare them all."""
+    names = ",".join(string.ascii_uppercase)
+    return fill(size, HEAD + MAIN + "OPERATION leaf { EXPRESSION { r[0] } }\nOPERATION below { DECLARE { REFERENCE " + names + "; } }\n",
+                lambda k: f"OPERATION o{k} {{ DECLARE {{ INSTANCE below; GROUP {names} = {{ leaf }}; }} }}\n")
+
+
+def lacked_by_all(size):
+    """One operation that refers to many names, and many operations above it, none of which declares any of them."""
+    references = ", ".join(f"n{k}" for k in range(size // 52))
+    return HEAD + MAIN + "OPERATION below { DECLARE { REFERENCE " + references + "; } }\n" + "".join(f"OPERATION o{k} {{ DECLARE {{ INSTANCE below; }} }}\n" for k in range(size // 104))
+
+
 SHAPES = {
     "many operations": many_operations,
     "many statements": many_statements,
@@ -177,6 +191,8 @@ SHAPES = {
     "many stages": many_stages,
     "a chain between two circles": between_circles,
     "one operation listed often": listed_often,
+    "references that all above declare": declared_by_all,
+    "references that all above lack": lacked_by_all,
 }
 
 

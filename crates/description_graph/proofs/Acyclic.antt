@@ -1,7 +1,7 @@
 -- A circle of nodes has an operation, or one of operations stands beside it.
-use Rattle.std.proofs.Common.{◌≡◌, ◌||◌, ◌++◌, ℕ, suc, List, [], ◌∷◌, Option, None, Some, Bool, true, false, nat_eq, refl, ap, sym, ◌∙◌, arith, inl, inr, subst}
+use Rattle.std.proofs.Common.{◌≡◌, ◌||◌, ◌++◌, ℕ, suc, List, [], ◌∷◌, Option, None, Some, Bool, true, false, cond, nat_eq, refl, ap, sym, ◌∙◌, arith, inl, inr, subst}
 use Rattle.std.specs.Prelude.{slice_get}
-use Rattle.std.specs.List.{list_any}
+use Rattle.std.specs.List.{list_any, dedup, dedup_from}
 use Rattle.std.specs.Global.{Vec}
 use Rattle.std.proofs.lemmas.Bool.{or_cases, eqb-true, and_parts, eq-eqb}
 use Rattle.std.proofs.lemmas.List.Folds.{list_any-append}
@@ -61,9 +61,25 @@ listed d o p (c ∷ cs) e = by (is_alias d c.operation) refl (λ f. next_listed 
           | inr later ↦ rest later
         ]
 
+once_from : (p k : ℕ) (xs : List ℕ) → is_in p (dedup_from nat_eq k xs) ≡ true → is_in p (k ∷ xs) ≡ true
+once_from p k [] e = e
+once_from p k (x ∷ xs) e = by (nat_eq x k) (once_from p k xs) (once_from p x xs) e
+  where
+    by : (b : Bool) → (is_in p (dedup_from nat_eq k xs) ≡ true → is_in p (k ∷ xs) ≡ true) → (is_in p (dedup_from nat_eq x xs) ≡ true → is_in p (x ∷ xs) ≡ true)
+        → is_in p (cond b (dedup_from nat_eq k xs) (k ∷ dedup_from nat_eq x xs)) ≡ true → is_in p (k ∷ x ∷ xs) ≡ true
+    by true same other e = let f = same e in grind arith
+    by false same other e = elim (or_cases (nat_eq p k) (is_in p (dedup_from nat_eq x xs)) e) [
+      | inl here ↦ grind arith
+      | inr later ↦ (let f = other later in grind arith)
+    ]
+
+once : (p : ℕ) (xs : List ℕ) → is_in p (dedup nat_eq xs) ≡ true → is_in p xs ≡ true
+once p [] e = e
+once p (x ∷ xs) e = once_from p x xs e
+
 above_leads : (d : DescriptionTree) (o p : ℕ) → is_in p (above d o) ≡ true → Reaches d (Operation p) (Operation o)
 above_leads d o p e =
-    let l = listed d o p (choices d) e in
+    let l = listed d o p (choices d) (once p (above_in d o (choices d)) e) in
     let q : nat_eq l.x.operation p ≡ true = eq-eqb l.x.operation p l.owner in
     more (edge {a = Operation p} {b = Choosing l.c} (owned l.c l.x l.at q)) (lists l.c l.x l.at l.lists)
   where

@@ -1,6 +1,6 @@
 -- Declared names with the names of others.
-use Rattle.std.proofs.Common.{◌≡◌, ◌<◌, ◌≤◌, ◌+◌, ◌-◌, ◌&&◌, ◌||◌, ℕ, suc, zero, List, [], ◌∷◌, Option, None, Some, Bool, true, false, cond, nat_eq, nat_lt, length, get_or, take, refl, ap, sym, ◌∙◌, arith, ⊎_elim, inl, inr}
-use Rattle.std.specs.Prelude.{slice_get, slice_index}
+use Rattle.std.proofs.Common.{◌≡◌, ◌<◌, ◌≤◌, ◌-◌, ◌&&◌, ℕ, suc, zero, List, [], ◌∷◌, Option, None, Some, Bool, true, false, cond, nat_eq, nat_lt, length, refl, ap, sym, ◌∙◌, arith, ⊎_elim, inl, inr}
+use Rattle.std.specs.Prelude.{slice_get}
 use Rattle.std.specs.List.{list_any, position_or_len}
 use Rattle.std.specs.Global.{Vec}
 use Rattle.std.specs.Cmp.Lexicographic.{same_text}
@@ -8,10 +8,7 @@ use Rattle.std.proofs.lemmas.Bool.{cases_Bool, or_cases, ltb-false, eq-eqb, lt-l
 use Rattle.std.proofs.lemmas.Bool.Decides.{nat_tests}
 use Rattle.std.proofs.lemmas.Option.{slice_get_within, get_or_from_slice_get}
 use Rattle.std.proofs.lemmas.List.Quantifiers.{position-Some}
-use Rattle.std.proofs.lemmas.Grind.{take_at_read}
-use Rattle.std.proofs.lemmas.List.Folds.{list_any-append}
 use Rattle.graph_paths.specs.Paths.{targets, is_in}
-use Rattle.graph_paths.proofs.Seen.{in-push}
 use Rattle.lisa_tree.specs.Descriptions.{DescriptionTree}
 use Rattle.description_names.specs.Same.{same_name}
 use Rattle.description_names.specs.Declarations.{Entry, entries, owner_at, entry_name_at, declared_at}
@@ -141,17 +138,7 @@ both_same false false f g = refl
 pub either_way : (d : DescriptionTree) (o p x y : ℕ) → (first_in d p y && hits d o y x) ≡ (first_in d o x && hits d p x y)
 either_way d o p x y = both_same (first_in d p y && hits d o y x) (first_in d o x && hits d p x y) (one_way d o p x y) (one_way d p o y x)
 
--- ---- operations that stand again
-
-pub stood_before : (xs : List ℕ) (i : ℕ) → i < length xs → 0 < i → slice_index xs (i - 1) ≡ slice_index xs i → is_in (slice_index xs i) (take i xs) ≡ true
-stood_before xs i h some same =
-    let j : ℕ = i - 1 in
-    let k : j < length xs = omega arith in
-    let n : j + 1 ≡ i = omega arith in
-    ap (λ (m : ℕ). is_in (slice_index xs i) (take m xs)) (sym n)
-    ∙ ap (is_in (slice_index xs i)) ((take_at_read xs j 0 k).1)
-    ∙ in-push (slice_index xs i) (take j xs) (get_or xs j 0)
-    ∙ (let e : nat_eq (slice_index xs i) (get_or xs j 0) ≡ true = eq-eqb (slice_index xs i) (get_or xs j 0) (sym same) in grind arith)
+-- ---- one of a list
 
 pub any_at : (test : ℕ → Bool) (p : ℕ) (xs : List ℕ) → is_in p xs ≡ true → test p ≡ true → list_any test xs ≡ true
 any_at test p [] e t = absurd (cc e)
@@ -159,14 +146,3 @@ any_at test p (x ∷ xs) e t = elim (or_cases (nat_eq p x) (is_in p xs) e) [
   | inl same ↦ (let u : test x ≡ true = sym (ap test (eqb-true p x same)) ∙ t in grind arith)
   | inr more ↦ (let u = any_at test p xs more t in grind arith)
 ]
-
-pub any_next : (test : ℕ → Bool) (xs : List ℕ) (i : ℕ) → i < length xs → list_any test (take (i + 1) xs) ≡ (list_any test (take i xs) || test (slice_index xs i))
-any_next test xs i h = ap (list_any test) ((take_at_read xs i 0 h).1) ∙ (let e = list_any-append test (take i xs) (get_or xs i 0 ∷ []) in grind arith)
-
--- what an operation that stands again adds is there
-pub known_hit : (old first : Bool) (test : ℕ → Bool) (p : ℕ) (xs : List ℕ) → is_in p xs ≡ true → (first && test p) ≡ true → (old || (first && list_any test xs)) ≡ true
-known_hit old first test p xs e h =
-    let parts = and_parts first (test p) h in
-    let a : first ≡ true = parts.0 in
-    let b : list_any test xs ≡ true = any_at test p xs e parts.1 in
-    grind arith

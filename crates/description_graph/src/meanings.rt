@@ -1,6 +1,6 @@
 //! Which declared names have the names of others, in the operations above theirs.
 
-ghost use Rattle.std.specs.Prelude.{◌≡◌, ◌<◌, ◌||◌, ◌&&◌, ℕ, IfOk, IfSome, OnOk, length, nat_eq, take, slice_index, true};
+ghost use Rattle.std.specs.Prelude.{◌≡◌, ◌<◌, ◌||◌, ◌&&◌, ℕ, IfOk, IfSome, OnOk, length, nat_eq, true};
 ghost use Rattle.std.specs.List.{list_any};
 ghost use Rattle.graph_paths.specs.Paths.{targets, is_in};
 ghost use Rattle.description_names.specs.Declarations.{entries, above};
@@ -167,36 +167,6 @@ fn join<N: Names>(
     Ok(())
 }
 
-// The same, unless it is done.
-fn join_unless<N: Names>(
-    names: &N,
-    firsts: &[Vec<usize>],
-    operation: usize,
-    upper: usize,
-    done: bool,
-    rows: &mut Vec<Vec<usize>>,
-) -> Result<(), AllocError>
-    requires firsts { (o i : ℕ) → is_in i (targets firsts.now o) ≡ first_in (N.tree names.now) o i }
-    requires done { done ≡ true → (x y : ℕ) → (first_in (N.tree names.now) operation x && hits (N.tree names.now) upper x y) ≡ true → is_in y (targets rows.old.items x) ≡ true }
-    requires rows { length rows.old.items ≡ length (entries (N.tree names.now)) }
-    ensures rows { length rows.new.items ≡ length rows.old.items }
-    ensures added { OnOk result ((x y : ℕ) → is_in y (targets rows.new.items x) ≡ (is_in y (targets rows.old.items x) || (first_in (N.tree names.now) operation x && hits (N.tree names.now) upper x y))) }
-{
-    if !done {
-        join(names, firsts, operation, upper, rows)?;
-    }
-    Ok(())
-}
-
-// Whether an operation stands here again, as one that lists another more than once does.
-#[tactic(auto, using(crate::proofs::Hits::stood_before))]
-fn is_repeated(all: &[usize], place: usize) -> bool
-    requires { place < length all.now }
-    ensures { result ≡ true → is_in (slice_index all.now place) (take place all.now) ≡ true }
-{
-    place > 0 && all[place - 1] == all[place]
-}
-
 // Notes what all operations above one declare by its names.
 fn join_all<N: Names>(
     names: &N,
@@ -210,15 +180,8 @@ fn join_all<N: Names>(
     ensures added { OnOk result ((x y : ℕ) → is_in y (targets rows.new.items x) ≡ (is_in y (targets rows.old.items x) || (first_in (N.tree names.now) operation x && list_any (λ p. hits (N.tree names.now) p x y) (above (N.tree names.now) operation)))) }
 {
     let all = names.above(operation);
-    for (place, upper) in all.iter().enumerate() {
-        join_unless(
-            names,
-            firsts,
-            operation,
-            *upper,
-            is_repeated(all, place),
-            rows,
-        )?;
+    for upper in all {
+        join(names, firsts, operation, *upper, rows)?;
     }
     Ok(())
 }

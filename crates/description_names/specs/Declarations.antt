@@ -1,12 +1,12 @@
 -- What operations declare: names, and the operations that groups and instances choose among.
-use Rattle.std.specs.Prelude.{ℕ, ◌+◌, Bool, true, false, List, [], ◌∷◌, ◌++◌, length, map, flat_map, filter, not, take, Option, None, Some, cond, nat_eq, ◌&&◌, position, slice_get}
-use Rattle.std.specs.List.{list_any}
+use Rattle.std.specs.Prelude.{ℕ, ◌+◌, Bool, true, false, List, [], ◌∷◌, ◌++◌, length, map, filter, not, take, Option, None, Some, cond, nat_eq, ◌&&◌, position, slice_get}
+use Rattle.std.specs.List.{dedup}
 use Rattle.lisa_tree.specs.Descriptions as trees
 use Rattle.lisa_tree.specs.Descriptions.{DeclareTree, OperationTree, DescriptionTree}
 use Rattle.description_names.specs.declared.declared.What.{What}
 use Rattle.description_names.specs.declared.declared.What.TheVariants as whats
 use Rattle.description_names.specs.Same.{same_name}
-use Rattle.description_names.specs.Operations.{numbers_of, operation_at, is_alias, declares_in}
+use Rattle.description_names.specs.Operations.{numbers_of, is_alias, declares_in}
 
 -- a declared name: of a group or an instance with the number of what it chooses among, of a label, or a reference
 pub record Entry : Type 0 where
@@ -91,18 +91,19 @@ alternatives_at d c = numbers_in_choice d (slice_get (choices d) c)
 abbrev pub plain_at : DescriptionTree → ℕ → List ℕ
 plain_at d c = filter (λ o. not (is_alias d o)) (alternatives_at d c)
 
--- ---- the operations above one: those, no aliases, that list it in a group or an instance, once for each time
+-- ---- the operations above one: those, no aliases, that list it in a group or an instance, each once
 
 abbrev pub listings : ℕ → ℕ → List ℕ → List ℕ
 listings p o [] = []
 listings p o (x ∷ rest) = cond (nat_eq x o) (p ∷ listings p o rest) (listings p o rest)
 
+-- once for each time that they list it, so that the times of each operation stand side by side
 abbrev pub above_in : DescriptionTree → ℕ → List Choice → List ℕ
 above_in d o [] = []
 above_in d o (c ∷ rest) = cond (is_alias d c.operation) (above_in d o rest) (listings c.operation o (numbers_of d c.alternatives) ++ above_in d o rest)
 
 abbrev pub above : DescriptionTree → ℕ → List ℕ
-above d o = above_in d o (choices d)
+above d o = dedup nat_eq (above_in d o (choices d))
 
 -- how many names the operations before one declare
 abbrev pub entries_before : DescriptionTree → ℕ → ℕ

@@ -1,9 +1,9 @@
 -- The operations of a description by their names, and the sections of an operation.
-use Rattle.std.specs.Prelude.{ℕ, Bool, true, false, List, [], ◌∷◌, Option, None, Some, position, slice_get, map, not}
-use Rattle.std.specs.Option.{option_map_or, option_to_list}
+use Rattle.std.specs.Prelude.{ℕ, Bool, true, false, List, [], ◌∷◌, Option, None, Some, position, slice_get}
+use Rattle.std.specs.Option.{option_map_or}
 use Rattle.lisa_tree.specs.declared.descriptions.SyntaxItem.{SyntaxItem}
 use Rattle.lisa_tree.specs.Expressions.{ExprTree}
-use Rattle.lisa_tree.specs.Statements.{StmtTrees, End}
+use Rattle.lisa_tree.specs.Statements.{StmtTrees}
 use Rattle.lisa_tree.specs.Activations.{ActTrees}
 use Rattle.lisa_tree.specs.Descriptions as trees
 use Rattle.lisa_tree.specs.Descriptions.{CodingTree, DeclareTree, SectionTree, OperationTree, DescriptionTree}

@@ -1,5 +1,5 @@
 -- What leads where: operations to what they list and to their references, and these to what they may mean.
-use Rattle.std.specs.Prelude.{ℕ, ◌+◌, ◌-◌, Bool, true, false, List, [], ◌∷◌, length, Option, None, Some, cond, nat_eq, nat_lt, ◌&&◌, slice_get}
+use Rattle.std.specs.Prelude.{ℕ, ◌+◌, ◌-◌, Bool, true, false, length, Option, None, Some, cond, nat_eq, nat_lt, ◌&&◌, slice_get}
 use Rattle.std.specs.List.{list_any}
 use Rattle.lisa_tree.specs.Descriptions.{DescriptionTree}
 use Rattle.description_names.specs.declared.declared.What.{What}

@@ -2,9 +2,11 @@
 #![tactic(auto)]
 
 mod declared;
+mod laws;
 mod names;
 mod sections;
 
 pub use declared::{Meaning, What};
+pub use laws::above_rises;
 pub use names::Names;
 pub use sections::{activation, behavior, coding, declares, expression, syntax};

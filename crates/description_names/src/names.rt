@@ -81,7 +81,7 @@ pub trait Names {
     fn plain_at(&self, choice: usize) -> &[usize]
         ensures { result.now ≡ plain_at (tree self.now) choice };
 
-    /// The operations, no aliases, that list this one, once for each time.
+    /// The operations, no aliases, that list this one in a group or an instance, each once.
     fn above(&self, operation: usize) -> &[usize]
         ensures { result.now ≡ above (tree self.now) operation };
 }

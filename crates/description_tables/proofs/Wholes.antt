@@ -1,6 +1,6 @@
 -- What holds of all entries and choices of a description.
-use Rattle.std.proofs.Common.{◌≡◌, ◌<◌, ◌≤◌, ◌+◌, ℕ, List, [], ◌∷◌, ◌++◌, Option, None, Some, Bool, true, false, cond, nat_lt, length, map, refl, ap, sym, ◌∙◌, arith}
-use Rattle.std.specs.List.{list_all}
+use Rattle.std.proofs.Common.{◌≡◌, ◌<◌, ◌≤◌, ◌+◌, ℕ, List, [], ◌∷◌, ◌++◌, Option, None, Some, Bool, true, false, cond, nat_eq, nat_lt, length, map, refl, ap, sym, ◌∙◌, arith}
+use Rattle.std.specs.List.{list_all, dedup}
 use Rattle.std.proofs.lemmas.Bool.{lt-ltb, and_from}
 use Rattle.std.proofs.lemmas.List.Folds.{list_all-append}
 use Rattle.std.proofs.lemmas.List.{length-map}
@@ -78,8 +78,8 @@ above_all : (d : DescriptionTree) (o : ℕ) (cs : List Choice) → above_chosen 
 above_all d o [] = refl
 above_all d o (c ∷ cs) = unless (is_alias d c.operation) (listings c.operation o (numbers_of d c.alternatives)) _ _ (above_all d o cs)
 
-pub above_is : (d : DescriptionTree) (o : ℕ) → above_chosen d o (map (chosen d) (choices d)) ≡ above d o
-above_is d o = above_all d o (choices d)
+pub above_is : (d : DescriptionTree) (o : ℕ) → dedup nat_eq (above_chosen d o (map (chosen d) (choices d))) ≡ above d o
+above_is d o = ap (dedup nat_eq) (above_all d o (choices d))
 
 -- ---- the operations of two descriptions that are one
 

@@ -1,6 +1,6 @@
 -- What the tables of a description say.
-use Rattle.std.specs.Prelude.{ℕ, zero, suc, Bool, not, ◌&&◌, nat_eq, nat_lt, List, [], ◌∷◌, ◌++◌, Option, Some, None, cond, filter}
-use Rattle.std.specs.List.{list_all}
+use Rattle.std.specs.Prelude.{ℕ, zero, suc, ◌≡◌, Bool, false, not, ◌&&◌, nat_eq, nat_lt, List, [], ◌∷◌, ◌++◌, Option, Some, None, cond, filter}
+use Rattle.std.specs.List.{list_all, dedup}
 use Rattle.std.specs.Option.{option_or}
 use Rattle.indexmap.specs.IndexMap.{IndexMap, get}
 use Rattle.lisa_tree.specs.Descriptions.{DescriptionTree}
@@ -43,7 +43,18 @@ are_below count numbers = list_all (λ x. nat_lt x count) numbers
 abbrev pub chooses_below : ℕ → Chosen → Bool
 chooses_below count c = are_below count c.alternatives
 
--- the operations above one, by choices whose operations are numbers
+-- the operations above one, once for each time that they list it, by choices whose operations are numbers
 abbrev pub above_chosen : DescriptionTree → ℕ → List Chosen → List ℕ
 above_chosen d o [] = []
 above_chosen d o (c ∷ rest) = cond (is_alias d c.operation) [] (listings c.operation o c.alternatives) ++ above_chosen d o rest
+
+-- ---- rows in which no number stands directly behind itself
+
+abbrev pub ends_in : List ℕ → ℕ → Bool
+ends_in [] x = false
+ends_in (y ∷ []) x = nat_eq x y
+ends_in (y ∷ z ∷ rest) x = ends_in (z ∷ rest) x
+
+-- A row becomes another one by these: where it had some numbers, each once, the other has them and these, each once.
+abbrev pub Joins : List ℕ → List ℕ → List ℕ → Type 0
+Joins old new more = (all : List ℕ) → old ≡ dedup nat_eq all → new ≡ dedup nat_eq (all ++ more)

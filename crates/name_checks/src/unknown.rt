@@ -35,16 +35,21 @@ fn unknown_in(operation: &Name, found: bool, name: &Name) -> Result<Option<DescF
     Ok(Some(DescFault::Unknown { operation, name }))
 }
 
-// Whether an operation above lacks the name. One that stands there several times in a row is looked up once.
+// Whether an operation lacks the name.
+fn lacks<N: Names>(names: &N, name: &Name, operation: usize) -> bool
+    ensures { result ≡ lacks (N.tree names.now) name.now operation }
+{
+    names.declared_at(operation, name).is_none()
+}
+
+// Whether an operation above lacks the name.
 fn is_lacking<N: Names>(names: &N, name: &Name, above: &[usize]) -> bool
     ensures { result ≡ list_any (lacks (N.tree names.now) name.now) above.now }
 {
-    let mut last = None;
     for operation in above {
-        if last != Some(*operation) && names.declared_at(*operation, name).is_none() {
+        if lacks(names, name, *operation) {
             return true;
         }
-        last = Some(*operation);
     }
     false
 }

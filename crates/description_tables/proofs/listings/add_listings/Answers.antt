@@ -7,5 +7,5 @@ loop-number-preserved c =
     let h : c.loop-number.number-index < length c.args.numbers.now = omega arith in
     record {
       count = search rules;
-      added = λ o. listings_step c.args.owner o c.args.numbers.now c.loop-number.number-index _ _ _ h (c.in_ok-add_listing.ensures.added o) (c.loop-number.invariant.added o);
+      added = λ o. listings_step c.args.owner o c.args.numbers.now c.loop-number.number-index _ _ _ h (c.loop-number.invariant.added o) (c.in_ok-add_listing.ensures.added o);
     }

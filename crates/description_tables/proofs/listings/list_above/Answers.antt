@@ -10,5 +10,5 @@ loop-choice-preserved c =
       count = search rules;
       added = λ o.
           above_step (description_tree c.args.globals.now.description.now) o c.args.choices.now c.loop-choice.choice-index c.choice-item.result _ _ h c.choice-item.is
-          (c.in_ok-add_choice.ensures.added o) (c.loop-choice.invariant.added o);
+          (c.loop-choice.invariant.added o) (c.in_ok-add_choice.ensures.added o);
     }

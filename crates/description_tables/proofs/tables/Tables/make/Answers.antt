@@ -1,6 +1,6 @@
-use Rattle.std.proofs.Common.{ℕ, ◌≡◌, ◌<◌, List, length, map, take, ap, ap₂, sym, ◌∙◌, arith}
+use Rattle.std.proofs.Common.{ℕ, ◌≡◌, ◌<◌, List, nat_eq, length, map, take, ap, ap₂, sym, ◌∙◌, arith}
 use Rattle.std.specs.Prelude.{position}
-use Rattle.std.specs.List.{list_all}
+use Rattle.std.specs.List.{list_all, dedup}
 use Rattle.std.proofs.lemmas.List.{take-map}
 use Rattle.lisa_tree.specs.Descriptions.{OperationTree, description_tree, operation_tree}
 use Rattle.lisa_tree.specs.declared.descriptions.Description.{Description}
@@ -50,5 +50,5 @@ invariant_of-result c =
           c.in_ok-entries.ensures.before o k
           ∙ ap (λ (ts : List OperationTree). length (entries_from 0 0 ts)) (sym (take-map operation_tree o c.deref.result.now) ∙ ap (take o) all);
       of_declared = λ o n. c.in_ok-declared.ensures o n ∙ ap (position (declares o n)) (c.deref-2.ensures.value ∙ of_entries);
-      of_above = λ o. c.in_ok-above.ensures o ∙ ap (above_chosen d o) (c.deref-3.ensures.value ∙ of_choices) ∙ above_is d o;
+      of_above = λ o. c.in_ok-above.ensures o ∙ ap (λ (cs : List Chosen). dedup nat_eq (above_chosen d o cs)) (c.deref-3.ensures.value ∙ of_choices) ∙ above_is d o;
     }
