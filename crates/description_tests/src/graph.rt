@@ -150,7 +150,7 @@ fn are_numbered(t: &Tables<'_>) -> bool {
         && t.choice_count() == 4
         && t.alternatives_at(0) == [1, 2, 3].as_slice()
         && t.plain_at(0) == [1, 2].as_slice()
-        && t.above(1) == [0, 0].as_slice()
+        && t.above(1) == [0].as_slice()
         && t.above(3) == [0].as_slice()
 }
 

@@ -11,6 +11,7 @@ mod digest;
 mod graph;
 #[cfg(test)]
 mod lexer;
+mod meant;
 #[cfg(test)]
 mod places;
 #[cfg(test)]

@@ -1,0 +1,4 @@
+pub mod Direct
+pub mod Walks
+pub mod Leading
+pub mod Differ

@@ -1,0 +1,10 @@
+//! Which declarations a declared name may mean: a reference means what the operations above its own declare by its name, and where that is
+//! a reference too, what it means.
+#![tactic(auto)]
+
+mod differing;
+mod directly;
+mod meanings;
+mod walking;
+
+pub use meanings::Meanings;

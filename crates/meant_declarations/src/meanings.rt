@@ -1,0 +1,118 @@
+//! What holds of the declarations that a declared name may mean.
+
+ghost use Rattle.std.specs.Prelude.{◌≡◌, ◌<◌, ◌↔◌, ◌&&◌, ℕ, true, length, IfOk};
+ghost use Rattle.description_names.specs.Declarations.{entries, what_at};
+ghost use Rattle.graph_paths.specs.Paths.{saw, targets};
+ghost use Rattle.least_fixed_points.specs.Settles.{entry};
+ghost use Rattle.meant_declarations.specs.Meant.{IsFound, Differ};
+ghost use Rattle.meant_declarations.specs.Meanings.{Meant, AreMeanings, SomeLedTo, direct_meanings};
+ghost use Rattle.meant_declarations.specs.Walks.{is_declaration};
+
+use crate::differing::{found_values, mixed};
+use crate::directly::{all_direct_meanings, is_declaration};
+use crate::walking::{are_some, is_marked, origins};
+use description_names::Names;
+use graph_paths::{reversed, row};
+use lisa_words::NoMemory;
+use std::alloc::{AllocError, Global};
+use std::marker::Model;
+
+/// What each declared name of a description directly means, both ways. It is to be used with the names from which it was made.
+#[derive(Drop)]
+pub struct Meanings {
+    next: Vec<Vec<usize>>,
+    back: Vec<Vec<usize>>,
+}
+
+impl Model for Meanings {
+    ghost Value = { Meant };
+
+    ghost view = { λ m. record { next = m.next.items; back = m.back.items } };
+}
+
+// The marks on declarations, without those on references.
+fn marked_declarations<N: Names>(
+    alloc: Global,
+    names: &N,
+    marked: &[bool],
+) -> Result<Vec<bool>, AllocError>
+    ensures { IfOk result (λ starts. (i : ℕ) → saw starts.items i ≡ (saw marked.now i && is_declaration (what_at (N.tree names.now) i))) }
+{
+    let mut starts = Vec::new(alloc);
+    for entry in 0..names.entry_count() {
+        starts.push(is_marked(marked, entry) && is_declaration(names.what_at(entry)))?;
+    }
+    Ok(starts)
+}
+
+impl Meanings {
+    /// Looks up what each reference directly means.
+    pub fn make<N: Names>(alloc: Global, names: &N) -> Result<Meanings, NoMemory>
+        ensures { IfOk result (λ m. AreMeanings (N.tree names.now) m) }
+    {
+        let next = all_direct_meanings(alloc, names)?;
+        let back = reversed(alloc, &next)?;
+        Ok(Meanings { next, back })
+    }
+
+    /// What a declared name directly means.
+    pub fn direct<N: Names>(&self, names: &N, entry: usize) -> &[usize]
+        requires meanings { AreMeanings (N.tree names.now) self.now }
+        requires entry { entry < length (entries (N.tree names.now)) }
+        ensures { result.now ≡ direct_meanings (N.tree names.now) entry }
+    {
+        row(&self.next, entry)
+    }
+
+    /// For each declared name a marked declaration that it may mean, if there is one. Marks on references count nothing. The time is in
+    /// proportion to the declared names and the direct meanings.
+    pub fn find<N: Names>(
+        &self,
+        alloc: Global,
+        names: &N,
+        marked: &[bool],
+    ) -> Result<Vec<Option<usize>>, NoMemory>
+        requires { AreMeanings (N.tree names.now) self.now }
+        ensures length { IfOk result (λ found. length found.items ≡ length (entries (N.tree names.now))) }
+        ensures exact { IfOk result (λ found. (i : ℕ) → IsFound (N.tree names.now) marked.now i (entry found.items i)) }
+    {
+        let starts = marked_declarations(alloc, names, marked)?;
+        let found = origins(alloc, &self.back, &starts)?;
+        Ok(found)
+    }
+
+    /// For each declared name whether it is marked or leads to a marked one, references among them, in the same time.
+    pub fn reach<N: Names>(
+        &self,
+        alloc: Global,
+        names: &N,
+        marked: &[bool],
+    ) -> Result<Vec<bool>, NoMemory>
+        requires { AreMeanings (N.tree names.now) self.now }
+        ensures length { IfOk result (λ reached. length reached.items ≡ length (entries (N.tree names.now))) }
+        ensures exact { IfOk result (λ reached. (i : ℕ) → (saw reached.items i ≡ true) ↔ SomeLedTo (N.tree names.now) (λ j. saw marked.now j ≡ true) i) }
+    {
+        let found = origins(alloc, &self.back, marked)?;
+        let reached = are_some(alloc, &found)?;
+        Ok(reached)
+    }
+
+    /// For each declared name whether two declarations that it may mean have values that aren't equal, in the same time. Values of
+    /// references count nothing.
+    pub fn differ<N: Names, T: Eq + Copy>(
+        &self,
+        alloc: Global,
+        names: &N,
+        values: &[Option<T>],
+    ) -> Result<Vec<bool>, NoMemory>
+        requires { AreMeanings (N.tree names.now) self.now }
+        ensures length { IfOk result (λ differ. length differ.items ≡ length (entries (N.tree names.now))) }
+        ensures exact { IfOk result (λ differ. (i : ℕ) → (saw differ.items i ≡ true) ↔ Differ (N.tree names.now) T.PartialEq.eq (entry values.now) i) }
+    {
+        let known = are_some(alloc, values)?;
+        let found = self.find(alloc, names, &known)?;
+        let own = found_values(alloc, values, &found)?;
+        let mixed = mixed(alloc, &self.next, &own)?;
+        self.reach(alloc, names, &mixed)
+    }
+}
