@@ -161,6 +161,39 @@ refused("an expression by a reference of which one can be assigned",
         "8 WrongKind operation=x name=n")
 refused("a reference that is activated", ABOVE % ("INSTANCE n = u;", "INSTANCE n = v;", "ACTIVATION { n }"), "8 WrongKind operation=x name=n")
 
+# a use that is refused itself makes nothing else at fault by what its expression would be
+PIPED = PIPE + "OPERATION main { DECLARE { GROUP g = { x || y }; } CODING { g } BEHAVIOR { a = g; } } OPERATION y { CODING { 0b1 } EXPRESSION { (uint16) a } } "
+WRONG = PIPED + "OPERATION x { CODING { 0b0 } EXPRESSION { %s } }"
+refused("an alternative that reads no boundary", WRONG % "IN.f", "8 WrongKind operation=x name=f")
+refused("an alternative that reads a boundary of stages apart", WRONG % "PIPELINE_REGISTER(p, A/C).f", "8 WrongKind operation=x name=f")
+refused("an alternative of decoded", WRONG % "decoded", "8 WrongKind operation=x name=decoded")
+refused("an alternative that rests on no boundary", WRONG % "a > 1 ? 1 + ~IN.f : a", "8 WrongKind operation=x name=f")
+refused("an alternative that casts no boundary", WRONG % "(uint8) IN.f", "8 WrongKind operation=main name=g")
+refused("an alternative that is shifted by no boundary", WRONG % "a << IN.f", "8 WrongKind operation=main name=g")
+refused("an alternative that compares no boundary", WRONG % "IN.f == 1", "8 WrongKind operation=main name=g")
+refused("an alternative that reads a child of a stage",
+        PIPED + "OPERATION x { DECLARE { INSTANCE s; } CODING { 0b0 } EXPRESSION { s } } OPERATION s IN p.B { EXPRESSION { a } }", "8 WrongKind operation=x name=s")
+refused("an alternative that reads a group outside of its coding",
+        PIPED + "OPERATION x { DECLARE { GROUP h = { u || v }; } CODING { 0b0 } EXPRESSION { h } } OPERATION u { EXPRESSION { a } } OPERATION v { EXPRESSION { a } }",
+        "8 WrongKind operation=x name=h")
+ASSIGNED = PIPE + "OPERATION main { DECLARE { INSTANCE x; } BEHAVIOR { x = 1; } } OPERATION x { DECLARE { INSTANCE y; } EXPRESSION { %s } } OPERATION y { } "
+refused("no boundary that is assigned through a child", ASSIGNED % "IN.f", "8 WrongKind operation=x name=f")
+refused("decoded that is assigned through a child", ASSIGNED % "decoded", "8 WrongKind operation=x name=decoded")
+refused("a child without expression that is assigned through a child", ASSIGNED % "y", "8 WrongKind operation=x name=y")
+refused("a sum with no boundary that is assigned through a child", ASSIGNED % "a + IN.f", "8 WrongKind operation=main name=x")
+
+# a declaration that is open hides nothing of what the others that a reference may mean break
+BESIDE = REGS + MAIN + " OPERATION y { DECLARE { INSTANCE x; %s } } OPERATION z { DECLARE { INSTANCE x, n = o; } } OPERATION t { DECLARE { INSTANCE x; %s } } OPERATION x { DECLARE { REFERENCE n; } %s } OPERATION o { DECLARE { INSTANCE n = o; } EXPRESSION { n } } OPERATION u { EXPRESSION { a } } OPERATION w { EXPRESSION { b } } OPERATION k { EXPRESSION { a + c } } OPERATION e { } "
+refused("declarations of one type beside an open one", BESIDE % ("INSTANCE n = u;", "INSTANCE n = u;", "BEHAVIOR { a = n; n = 1; }"), "14 Circular operation=o")
+refused("a declaration without expression beside an open one", BESIDE % ("INSTANCE n = e;", "INSTANCE n = e;", "BEHAVIOR { a = n; }"), "8 WrongKind operation=x name=n")
+refused("a sum assigned beside an open declaration", BESIDE % ("INSTANCE n = k;", "INSTANCE n = k;", "BEHAVIOR { n = 1; }"), "8 WrongKind operation=x name=n")
+refused("two types beside an open declaration", BESIDE % ("INSTANCE n = u;", "INSTANCE n = w;", ""), "8 WrongKind operation=x name=n")
+refused("a type and none beside an open declaration", BESIDE % ("INSTANCE n = u;", "INSTANCE n = e;", ""), "8 WrongKind operation=x name=n")
+refused("one that can be assigned beside an open declaration", BESIDE % ("INSTANCE n = u;", "INSTANCE n = k;", ""), "8 WrongKind operation=x name=n")
+refused("a call into a stage beside references in a circle",
+        "RESOURCE { PIPELINE p = { A; B }; } OPERATION main { } OPERATION y { DECLARE { INSTANCE x, n = s; } } OPERATION z { DECLARE { INSTANCE x, t; REFERENCE n; } } OPERATION t { DECLARE { INSTANCE z; REFERENCE n; } } OPERATION x { DECLARE { REFERENCE n; } BEHAVIOR { n(); } } OPERATION s IN p.A { }",
+        "8 WrongKind operation=x name=n")
+
 ALIASED = "RESOURCE { REGISTER uint4 ir; PIPELINE p = { A; B }; } OPERATION main { } OPERATION d { DECLARE { GROUP g = { x || y }; } CODING { ir == g } } OPERATION x { CODING { 0b0000 } SYNTAX { \"X\" } } "
 accepted("an alias", ALIASED + "ALIAS OPERATION y { CODING { 0b0000 } SYNTAX { \"Y\" } }", 4, 2, 1, 1)
 refused("an alias of a stage", ALIASED + "ALIAS OPERATION y IN p.B { CODING { 0b0000 } }", "8 WrongKind operation=y name=y")

@@ -217,6 +217,18 @@ fn alternatives_agree_in_type(rt: HostRuntime) -> Result<(), Fail> {
             "8 y y",
         ),
         ("n = g; } } ALIAS OPERATION y { SYNTAX { \"y\" }", "8 y y"),
+        (
+            "n = g; } } OPERATION y { CODING { 0b1 } SYNTAX { \"y\" } EXPRESSION { IN.f + w }",
+            "8 y f",
+        ),
+        (
+            "n = g; } } OPERATION y { CODING { 0b1 } SYNTAX { \"y\" } EXPRESSION { (uint16) IN.f }",
+            "8 u g",
+        ),
+        (
+            "g = n; } } OPERATION y { CODING { 0b1 } SYNTAX { \"y\" } EXPRESSION { decoded }",
+            "8 y decoded",
+        ),
     ];
     let alloc = rt.alloc();
     let mut before = String::from_str(alloc, ROOT)?;
@@ -310,6 +322,13 @@ const CHILD: &str = "INSTANCE v = k; } CODING { z v } SYNTAX { z v } } ";
 
 const CAST: &str = "INSTANCE v = h; } CODING { z v } SYNTAX { z v } } ";
 
+// A child whose type rests on itself.
+const CIRCLE: &str =
+    "INSTANCE v = o; } CODING { z } SYNTAX { z } } OPERATION o { DECLARE { INSTANCE v = o; } EXPRESSION { v } } ";
+
+// A child without an expression.
+const BARE: &str = "INSTANCE v = e; } CODING { z } SYNTAX { z } } OPERATION e { } ";
+
 #[test]
 fn what_a_reference_may_mean_is_alike(rt: HostRuntime) -> Result<(), Fail> {
     let cases = [
@@ -322,6 +341,9 @@ fn what_a_reference_may_mean_is_alike(rt: HostRuntime) -> Result<(), Fail> {
         (NARROW, NARROW, "BEHAVIOR { v = n; }", "8 z v"),
         (NARROW, NARROW, "BEHAVIOR { v(); }", "8 z v"),
         (CHILD, CHILD, "ACTIVATION { v }", "8 z v"),
+        (CIRCLE, CHILD, "BEHAVIOR { n = v; v = n; }", "fine"),
+        (CIRCLE, BARE, "BEHAVIOR { n = v; }", "8 z v"),
+        (CIRCLE, CAST, "BEHAVIOR { v = n; }", "8 z v"),
     ];
     let alloc = rt.alloc();
     for (one, other, below, expected) in cases.as_slice() {

@@ -1,5 +1,5 @@
 -- What may be assigned is known of each name, and what is assigned may be.
-use Rattle.std.proofs.Common.{◌≡◌, ◌⊎◌, ◌<◌, ℕ, List, [], ◌∷◌, Option, None, Some, Bool, true, false, length, refl, sym, ap, ◌∙◌, subst, inl, inr, ⊎_elim}
+use Rattle.std.proofs.Common.{◌≡◌, ◌≢◌, ◌⊎◌, ◌<◌, ℕ, List, [], ◌∷◌, Option, None, Some, Bool, true, false, cond, length, refl, sym, ap, ◌∙◌, subst, inl, inr, ⊎_elim}
 use Rattle.std.specs.Prelude.{slice_get, option_map}
 use Rattle.std.proofs.lemmas.Option.{slice_get_within}
 use Rattle.lisa_tree.specs.declared.tokens.Shape.{Shape}
@@ -20,20 +20,22 @@ use Rattle.description_names.specs.Resources.{is_named, resource_at}
 use Rattle.description_names.specs.Operations.{name_at, sections_at, expression_in}
 use Rattle.description_names.specs.Declarations.{Entry, entries, choices, declared_at, what_at, above, plain_at}
 use Rattle.description_names.specs.Meanings.{meaning, meaning_of}
-use Rattle.description_names.specs.Paths.{choice_node, entry_node}
+use Rattle.description_names.specs.Paths.{choice_node, entry_node, refers}
 use Rattle.description_graph.proofs.Hits.{found}
 use Rattle.description_graph.proofs.Nodes.{alternatives_below}
 use Rattle.graph_paths.specs.Paths.{is_in}
+use Rattle.meant_declarations.specs.Meant.{MayMean}
 use Rattle.description_types.specs.declared.values.Assignable.{Assignable}
 use Rattle.description_types.specs.declared.values.Assignable.TheVariants as assigns
 use Rattle.description_types.specs.Types.{element_shape, meant_element}
-use Rattle.description_types.specs.Facts.{merged, at_entry as value_at, declared_value, entry_value, added, known_together, any_open}
+use Rattle.description_types.specs.Refused.{is_apart, is_refused}
+use Rattle.description_types.specs.Facts.{Fact, IsSteady, merged, at_entry as value_at, declared_value, entry_value, added, known_together, any_open}
 use Rattle.description_types.specs.Kinds.{resource_assignable, settled_assignable, meant_assignable, array_assignable, value_assignable, expression_assignable, both_assignable, choice_assignable, either_assignable, assignable_fact}
 use Rattle.description_types.specs.Steady.{assignables_steady}
-use Rattle.description_types.specs.Tables.{Known, AreKinds}
+use Rattle.description_types.specs.Tables.{unfit, DifferInAssigning, Known, AreKinds}
 use Rattle.name_checks.specs.Doubled.{duplicate}
 use Rattle.name_checks.specs.Unknown.{unknown, is_something, is_known}
-use Rattle.kind_checks.specs.Uses.{is_no_word, is_no_array, lacks_type, is_apart, is_unassignable, types_differ, sorts_differ, assignables_differ, meant_misread, is_misread, meant_misindexed, is_misindexed, meant_miswritten, is_miswritten, what_misdeclared}
+use Rattle.kind_checks.specs.Uses.{is_no_word, is_no_array, sorts_differ, meant_misread, is_misread, meant_misindexed, is_misindexed, meant_miswritten, is_miswritten, what_misdeclared}
 use Rattle.kind_checks.specs.WrongKinds.{wrong_kind, owner_name}
 use Rattle.stage_checks.specs.Resets.{is_scalar}
 use Rattle.description_promises.specs.Freedom.{IsFree, Stands, AllStand}
@@ -45,9 +47,11 @@ use Rattle.description_promises.proofs.Decoding.{off_right, is_found, is_right_f
 use Rattle.description_promises.proofs.Named.{what_is}
 use Rattle.description_promises.proofs.Choosing.{rightly_declared}
 use Rattle.description_promises.proofs.Chosen.{IsSome, in_here, in_later, none_open, together_some, merged_only, known_only, closed_known, plain_listed}
+use Rattle.description_promises.proofs.Agreeing.{meant_entry, Apart, agrees}
+use Rattle.description_promises.proofs.Unrefused.{use_fits, unless}
 use Rattle.description_promises.proofs.Settling.{choice_there, operation_is, choice_is, entry_is, child_is, reference_is, all_settled}
 
--- declarations that are meant don't differ
+-- declarations that are meant aren't known to differ
 abbrev IsOne : Option Assignable → Type 0
 IsOne r = r ≡ Some assigns.Mixed → ⊥
 
@@ -173,28 +177,63 @@ settled_yes (Some assigns.Yes) e = refl
 settled_yes (Some assigns.No) e = absurd (cc e)
 settled_yes (Some assigns.Mixed) e = absurd (cc e)
 
-yes_of : (r : Option Assignable) → IsSome r → is_unassignable r ≡ false → r ≡ Some assigns.Yes
-yes_of None k e = absurd (cc k.1)
-yes_of (Some assigns.Yes) k e = refl
-yes_of (Some assigns.No) k e = absurd (cc e)
-yes_of (Some assigns.Mixed) k e = absurd (cc e)
+yes_of : (r : Option Assignable) → IsSome r → (r ≡ Some assigns.No → ⊥) → IsOne r → r ≡ Some assigns.Yes
+yes_of None k off one = absurd (cc k.1)
+yes_of (Some assigns.Yes) k off one = refl
+yes_of (Some assigns.No) k off one = absurd (off refl)
+yes_of (Some assigns.Mixed) k off one = absurd (one refl)
+
+unless_one : (refused : Bool) (r : Option Assignable) → IsOne r → IsOne (cond refused None r)
+unless_one true r one = λ e. absurd (cc e)
+unless_one false r one = one
+
+unless_yes : (refused : Bool) (r : Option Assignable) → cond refused None r ≡ Some assigns.Yes → r ≡ Some assigns.Yes
+unless_yes true r e = absurd (cc e)
+unless_yes false r e = e
+
+-- ---- two are the same or differ
+
+either_same : (x : Assignable) → either_assignable x x ≡ x
+either_same assigns.Yes = refl
+either_same assigns.No = refl
+either_same assigns.Mixed = refl
+
+decides : (x y : Assignable) → (x ≡ y) ⊎ (x ≢ y)
+decides assigns.Yes assigns.Yes = inl refl
+decides assigns.Yes assigns.No = inr (λ e. absurd (cc e))
+decides assigns.Yes assigns.Mixed = inr (λ e. absurd (cc e))
+decides assigns.No assigns.Yes = inr (λ e. absurd (cc e))
+decides assigns.No assigns.No = inl refl
+decides assigns.No assigns.Mixed = inr (λ e. absurd (cc e))
+decides assigns.Mixed assigns.Yes = inr (λ e. absurd (cc e))
+decides assigns.Mixed assigns.No = inr (λ e. absurd (cc e))
+decides assigns.Mixed assigns.Mixed = inl refl
 
 module _ (d : DescriptionTree) (known : Known) (kinds : AreKinds d known) (names : IsFree (duplicate d) d) (stand : IsFree (unknown d) d) (uses_free : IsFree (wrong_kind known d) d) where
-  operation_value : (o : ℕ) → o < length d.operations → known.assignables o ≡ expression_assignable known.assignables d o (expression_in (sections_at d o))
-  operation_value o h = operation_is d known names stand uses_free (assignable_fact d) (assignables_steady d) known.assignables kinds.assignables o h
+  abbrev no_value : ℕ → Bool
+  no_value = unfit known.traits known.typeless
+
+  abbrev fact : Fact Assignable
+  fact = assignable_fact d no_value
+
+  abbrev steady : IsSteady fact
+  steady = assignables_steady d no_value
+
+  operation_value : (o : ℕ) → o < length d.operations → known.assignables o ≡ expression_assignable no_value known.assignables d o (expression_in (sections_at d o))
+  operation_value o h = operation_is d known names stand uses_free fact steady known.assignables kinds.assignables o h
 
   choice_value : (c : ℕ) → c < length (choices d) → known.assignables (choice_node d c) ≡ choice_assignable (any_open known.assignables (plain_at d c)) (known_together both_assignable known.assignables (plain_at d c))
-  choice_value c h = choice_is d known names stand uses_free (assignable_fact d) (assignables_steady d) known.assignables kinds.assignables c h
+  choice_value c h = choice_is d known names stand uses_free fact steady known.assignables kinds.assignables c h
 
-  entry_value_is : (i : ℕ) (e : Entry) → slice_get (entries d) i ≡ Some e → known.assignables (entry_node d i) ≡ entry_value d (assignable_fact d) known.assignables i (Some e.what)
-  entry_value_is i e is = entry_is d known names stand uses_free (assignable_fact d) (assignables_steady d) known.assignables kinds.assignables i e is
+  entry_value_is : (i : ℕ) (e : Entry) → slice_get (entries d) i ≡ Some e → known.assignables (entry_node d i) ≡ entry_value d fact known.assignables i (Some e.what)
+  entry_value_is i e is = entry_is d known names stand uses_free fact steady known.assignables kinds.assignables i e is
 
-  same_child : (i : ℕ) (r : Option Assignable) → option_map ((assignable_fact d).of_child i) r ≡ r
+  same_child : (i : ℕ) (r : Option Assignable) → option_map (fact.of_child i) r ≡ r
   same_child i None = refl
   same_child i (Some t) = refl
 
   child_value : (i : ℕ) (e : Entry) → slice_get (entries d) i ≡ Some e → (c : ℕ) → (e.what ≡ whats.Group c) ⊎ (e.what ≡ whats.Instance c) → known.assignables (entry_node d i) ≡ known.assignables (choice_node d c)
-  child_value i e is c which = child_is d known names stand uses_free (assignable_fact d) (assignables_steady d) known.assignables kinds.assignables i e is c which ∙ same_child i (known.assignables (choice_node d c))
+  child_value i e is c which = child_is d known names stand uses_free fact steady known.assignables kinds.assignables i e is c which ∙ same_child i (known.assignables (choice_node d c))
 
   -- ---- no name means declarations that differ
 
@@ -203,20 +242,23 @@ module _ (d : DescriptionTree) (known : Known) (kinds : AreKinds d known) (names
   meant_one (meanings.Resource k) = resource_one (slice_get d.resources k)
   meant_one (meanings.Declared i) = settled_one (known.assignables (entry_node d i))
 
-  expression_one : (o : ℕ) (e : Option ExprTree) → IsOne (expression_assignable known.assignables d o e)
+  value_one : (o : ℕ) (e : ExprTree) → IsOne (value_assignable known.assignables d o e)
+  value_one o (exprs.Named n) = meant_one (meaning d o n)
+  value_one o (exprs.Element n index) = array_one (meant_element d (meaning d o n))
+  value_one o (exprs.Number v base) = λ e. absurd (cc e)
+  value_one o (exprs.Input field) = λ e. absurd (cc e)
+  value_one o (exprs.Output field) = λ e. absurd (cc e)
+  value_one o (exprs.Boundary p b a f) = λ e. absurd (cc e)
+  value_one o exprs.Decoded = λ e. absurd (cc e)
+  value_one o (exprs.Cast shape a) = λ e. absurd (cc e)
+  value_one o (exprs.Complement a) = λ e. absurd (cc e)
+  value_one o (exprs.Negate a) = λ e. absurd (cc e)
+  value_one o (exprs.Two op a b) = λ e. absurd (cc e)
+  value_one o (exprs.Choose c a b) = λ e. absurd (cc e)
+
+  expression_one : (o : ℕ) (e : Option ExprTree) → IsOne (expression_assignable no_value known.assignables d o e)
   expression_one o None = λ e. absurd (cc e)
-  expression_one o (Some (exprs.Named n)) = meant_one (meaning d o n)
-  expression_one o (Some (exprs.Element n index)) = array_one (meant_element d (meaning d o n))
-  expression_one o (Some (exprs.Number v base)) = λ e. absurd (cc e)
-  expression_one o (Some (exprs.Input field)) = λ e. absurd (cc e)
-  expression_one o (Some (exprs.Output field)) = λ e. absurd (cc e)
-  expression_one o (Some (exprs.Boundary p b a f)) = λ e. absurd (cc e)
-  expression_one o (Some exprs.Decoded) = λ e. absurd (cc e)
-  expression_one o (Some (exprs.Cast shape a)) = λ e. absurd (cc e)
-  expression_one o (Some (exprs.Complement a)) = λ e. absurd (cc e)
-  expression_one o (Some (exprs.Negate a)) = λ e. absurd (cc e)
-  expression_one o (Some (exprs.Two op a b)) = λ e. absurd (cc e)
-  expression_one o (Some (exprs.Choose c a b)) = λ e. absurd (cc e)
+  expression_one o (Some x) = unless_one (is_refused no_value d o x) (value_assignable known.assignables d o x) (value_one o x)
 
   operation_one : (o : ℕ) → o < length d.operations → IsOne (known.assignables o)
   operation_one o h = subst IsOne (sym (operation_value o h)) (expression_one o (expression_in (sections_at d o)))
@@ -227,22 +269,58 @@ module _ (d : DescriptionTree) (known : Known) (kinds : AreKinds d known) (names
       (chosen_one (any_open known.assignables (plain_at d c)) (known_together both_assignable known.assignables (plain_at d c))
       (together_one known.assignables (plain_at d c) (λ o e. operation_one o (alternatives_below d c o (plain_listed d c o e)))))
 
-  entry_one : (i : ℕ) (e : Entry) → slice_get (entries d) i ≡ Some e → IsOne (known.assignables (entry_node d i))
-  entry_one i e is = by e.what refl
+  declaration_one : (i : ℕ) (e : Entry) → slice_get (entries d) i ≡ Some e → refers e.what ≡ false → IsOne (known.assignables (entry_node d i))
+  declaration_one i e is off = by e.what refl
     where
       child : (c : ℕ) → (e.what ≡ whats.Group c) ⊎ (e.what ≡ whats.Instance c) → IsOne (known.assignables (entry_node d i))
       child c which = let x = choice_there d known names stand uses_free i e is c which in subst IsOne (sym (child_value i e is c which)) (choice_is_one c (slice_get_within (choices d) c x.0 x.1))
 
-      differ : (r : Option Assignable) → assignables_differ r ≡ false → IsOne r
-      differ r off same = absurd (cc (sym off ∙ ap assignables_differ same))
-
       by : (w : What) → e.what ≡ w → IsOne (known.assignables (entry_node d i))
       by (whats.Group c) what = child c (inl what)
       by (whats.Instance c) what = child c (inr what)
-      by whats.Label what = subst IsOne (sym (entry_value_is i e is ∙ ap (λ (x : What). entry_value d (assignable_fact d) known.assignables i (Some x)) what)) (λ f. absurd (cc f))
-      by whats.Reference what =
-          let b : what_misdeclared known d i (Some whats.Reference) ≡ false = ap (λ (x : What). what_misdeclared known d i (Some x)) (sym what) ∙ rightly_declared d known names uses_free i e is in
-          differ (known.assignables (entry_node d i)) (off_right (types_differ (known.types (entry_node d i))) (assignables_differ (known.assignables (entry_node d i))) (off_right (sorts_differ (known.traits (entry_node d i))) _ b))
+      by whats.Label what = subst IsOne (sym (entry_value_is i e is ∙ ap (λ (x : What). entry_value d fact known.assignables i (Some x)) what)) (λ f. absurd (cc f))
+      by whats.Reference what = absurd (cc (sym off ∙ ap refers what))
+
+  meant_declared : {i j : ℕ} → MayMean d i j → IsOne (known.assignables (entry_node d j))
+  meant_declared {j = j} m = let e = meant_entry d m in declaration_one j e.0 e.1 e.2
+
+  -- declarations that aren't the same differ in assigning
+  apart_so : (i : ℕ) → Apart d known.assignables i → DifferInAssigning d known.assignables i
+  apart_so i x = by x.value_of_one x.value_of_other refl refl
+    where
+      by : (u v : Assignable) → x.value_of_one ≡ u → x.value_of_other ≡ v → DifferInAssigning d known.assignables i
+      by assigns.Yes assigns.No e f = (
+        (x.one, (x.means_one, x.is_one ∙ ap (λ (t : Assignable). Some t) e)),
+        (x.other, (x.means_other, x.is_other ∙ ap (λ (t : Assignable). Some t) f)),
+      )
+      by assigns.No assigns.Yes e f = (
+        (x.other, (x.means_other, x.is_other ∙ ap (λ (t : Assignable). Some t) f)),
+        (x.one, (x.means_one, x.is_one ∙ ap (λ (t : Assignable). Some t) e)),
+      )
+      by assigns.Yes assigns.Yes e f = absurd (x.differ (e ∙ sym f))
+      by assigns.No assigns.No e f = absurd (x.differ (e ∙ sym f))
+      by assigns.Mixed v e f = absurd (meant_declared x.means_one (x.is_one ∙ ap (λ (t : Assignable). Some t) e))
+      by assigns.Yes assigns.Mixed e f = absurd (meant_declared x.means_other (x.is_other ∙ ap (λ (t : Assignable). Some t) f))
+      by assigns.No assigns.Mixed e f = absurd (meant_declared x.means_other (x.is_other ∙ ap (λ (t : Assignable). Some t) f))
+
+  entry_one : (i : ℕ) (e : Entry) → slice_get (entries d) i ≡ Some e → IsOne (known.assignables (entry_node d i))
+  entry_one i e is = by (refers e.what) refl
+    where
+      reference : (w : What) → refers w ≡ true → w ≡ whats.Reference
+      reference whats.Reference on = refl
+      reference (whats.Group c) on = absurd (cc on)
+      reference (whats.Instance c) on = absurd (cc on)
+      reference whats.Label on = absurd (cc on)
+
+      by : (b : Bool) → refers e.what ≡ b → IsOne (known.assignables (entry_node d i))
+      by false off = declaration_one i e is off
+      by true on = λ mixed.
+          (let b : what_misdeclared known d i (Some whats.Reference) ≡ false = ap (λ (x : What). what_misdeclared known d i (Some x)) (sym (reference e.what on)) ∙ rightly_declared d known names uses_free i e is in
+          let off : known.assignables_differ i ≡ false = off_right (known.types_differ i) (known.assignables_differ i) (off_right (sorts_differ (known.traits i)) _ b) in
+          ⊎_elim
+          (λ some. meant_declared some.1.0 some.1.1)
+          (λ x. absurd (cc (sym off ∙ (kinds.assignables_differ i).1 (apart_so i x))))
+          (agrees d known.assignables fact kinds.assignables either_same decides i assigns.Mixed mixed))
 
   -- ---- each expression either may be assigned or may not
 
@@ -287,11 +365,13 @@ module _ (d : DescriptionTree) (known : Known) (kinds : AreKinds d known) (names
     operation_some : o < length d.operations → IsSome (known.assignables o)
     operation_some h = subst IsSome (sym (operation_value o h)) (by (expression_in (sections_at d o)) refl)
       where
-        by : (r : Option ExprTree) → expression_in (sections_at d o) ≡ r → IsSome (expression_assignable known.assignables d o r)
+        by : (r : Option ExprTree) → expression_in (sections_at d o) ≡ r → IsSome (expression_assignable no_value known.assignables d o r)
         by None is = (assigns.No, refl)
-        by (Some e) is = value_some e (expression_stand d o e is)
+        by (Some e) is =
+            let fits = use_fits d known uses_free no_value (λ i f. f) o e (expression_stand d o e is) in
+            subst IsSome (sym (unless (is_refused no_value d o e) (value_assignable known.assignables d o e) fits)) (value_some e (expression_stand d o e is))
 
-  choice_some : (c : ℕ) → 0 < length (plain_at d c) → ((o : ℕ) → is_in o (plain_at d c) ≡ true → IsSome (known.assignables o)) → IsSome ((assignable_fact d).of_choice known.assignables c)
+  choice_some : (c : ℕ) → 0 < length (plain_at d c) → ((o : ℕ) → is_in o (plain_at d c) ≡ true → IsSome (known.assignables o)) → IsSome (fact.of_choice known.assignables c)
   choice_some c some each =
       subst (λ (b : Bool). IsSome (choice_assignable b (known_together both_assignable known.assignables (plain_at d c)))) (sym (none_open known.assignables (plain_at d c) each))
       (chosen_some (known_together both_assignable known.assignables (plain_at d c)) (together_some both_assignable known.assignables (plain_at d c) some each))
@@ -303,9 +383,15 @@ module _ (d : DescriptionTree) (known : Known) (kinds : AreKinds d known) (names
       let e : is_miswritten known d o n (local_named n scope) ≡ false = is_right_first (owner_name d o region) (is_miswritten known d o n (local_named n scope)) n (free_place (wrong_kind known d) d uses_free _ s) in
       let f : meant_miswritten known d (meaning d o n) ≡ false = ap (is_miswritten known d o n) (sym no_local) ∙ e in
       let g : meant_miswritten known d (meanings.Declared i) ≡ false = ap (λ (r : Option ℕ). meant_miswritten known d (meaning_of r (resource_at d n))) (sym at) ∙ f in
+      let off : known.unassignable i ≡ false = off_right (is_apart (known.traits i)) (known.unassignable i) (off_right (known.typeless i) _ g) in
+      let x = found d o n i at in
       yes_of (known.assignables (entry_node d i))
-      (all_settled d known names stand uses_free (assignable_fact d) (assignables_steady d) known.assignables kinds.assignables operation_some choice_some ranks o n i at)
-      (off_right (is_apart (known.traits (entry_node d i))) (is_unassignable (known.assignables (entry_node d i))) (off_right (lacks_type (known.types (entry_node d i))) _ g))
+      (all_settled d known names stand uses_free fact steady known.assignables kinds.assignables operation_some choice_some ranks o n i at)
+      (λ denied. ⊎_elim
+      (λ some. absurd (cc (sym off ∙ (kinds.unassignable i).1 some)))
+      (λ y. absurd (cc (sym off ∙ (kinds.unassignable i).1 (apart_so i y).1)))
+      (agrees d known.assignables fact kinds.assignables either_same decides i assigns.No denied))
+      (entry_one i x.e x.at)
 
   pub child_yes : (i c : ℕ) → (what_at d i ≡ Some (whats.Group c)) ⊎ (what_at d i ≡ Some (whats.Instance c)) → known.assignables (entry_node d i) ≡ Some assigns.Yes → (o : ℕ) → is_in o (plain_at d c) ≡ true → known.assignables o ≡ Some assigns.Yes
   child_yes i c which assigned = by (slice_get (entries d) i) refl
@@ -329,7 +415,7 @@ module _ (d : DescriptionTree) (known : Known) (kinds : AreKinds d known) (names
       → (p : ℕ) → is_in p (above d e.operation) ≡ true → (j : ℕ) × (declared_at d p e.name ≡ Some j) × (known.assignables (entry_node d j) ≡ Some assigns.Yes)
   reference_yes i e is what assigned p h =
       let value : merged either_assignable (declared_value d known.assignables e.name) (above d e.operation) ≡ Some assigns.Yes
-      = sym (reference_is d known names stand uses_free (assignable_fact d) (assignables_steady d) known.assignables kinds.assignables i e is what) ∙ assigned in
+      = sym (reference_is d known names stand uses_free fact steady known.assignables kinds.assignables i e is what) ∙ assigned in
       by (declared_at d p e.name) refl (merged_only either_assignable assigns.Yes either_yes (declared_value d known.assignables e.name) (above d e.operation) value p h)
     where
       by : (r : Option ℕ) → declared_at d p e.name ≡ r → value_at d known.assignables r ≡ Some assigns.Yes → (j : ℕ) × (declared_at d p e.name ≡ Some j) × (known.assignables (entry_node d j) ≡ Some assigns.Yes)
@@ -363,6 +449,6 @@ module _ (d : DescriptionTree) (known : Known) (kinds : AreKinds d known) (names
   pub operation_yes : (o : ℕ) → o < length d.operations → known.assignables o ≡ Some assigns.Yes → (e : ExprTree) × (expression_in (sections_at d o) ≡ Some e) × IsPlace known.assignables d o e
   operation_yes o h assigned = by (expression_in (sections_at d o)) refl (sym (operation_value o h) ∙ assigned)
     where
-      by : (r : Option ExprTree) → expression_in (sections_at d o) ≡ r → expression_assignable known.assignables d o r ≡ Some assigns.Yes → (e : ExprTree) × (expression_in (sections_at d o) ≡ Some e) × IsPlace known.assignables d o e
+      by : (r : Option ExprTree) → expression_in (sections_at d o) ≡ r → expression_assignable no_value known.assignables d o r ≡ Some assigns.Yes → (e : ExprTree) × (expression_in (sections_at d o) ≡ Some e) × IsPlace known.assignables d o e
       by None is e = absurd (cc e)
-      by (Some e) is y = (e, is, place_of o e y)
+      by (Some e) is y = (e, is, place_of o e (unless_yes (is_refused no_value d o e) (value_assignable known.assignables d o e) y))

@@ -8,11 +8,10 @@ use Rattle.description_places.specs.Places.{at}
 use Rattle.description_names.specs.declared.declared.What.TheVariants as whats
 use Rattle.description_names.specs.Operations.{number_of, numbers_of, name_at, is_alias}
 use Rattle.description_names.specs.Declarations.{Entry, Choice, choice, entries, choices, declared_at, what_at, alternatives_at, plain_at}
-use Rattle.description_names.specs.Paths.{entry_node}
 use Rattle.description_types.specs.Tables.{Known}
 use Rattle.name_checks.specs.Doubled.{duplicate}
 use Rattle.name_checks.specs.Unknown.{unknown, alternatives_unknown, operation_unknown}
-use Rattle.kind_checks.specs.Uses.{is_empty, is_misplaced, is_misdeclared, what_misdeclared}
+use Rattle.kind_checks.specs.Uses.{is_empty, is_misdeclared, what_misdeclared}
 use Rattle.kind_checks.specs.WrongKinds.{wrong_kind}
 use Rattle.description_promises.specs.Freedom.{IsFree}
 use Rattle.description_promises.specs.Declaring.{Chooses, IsOperation}
@@ -83,7 +82,7 @@ module _ (d : DescriptionTree) where
         by None at = absurd (cc (at, is))
         by (Some e) at =
             let same : Some e.what ≡ Some (whats.Group c) = sym (what_is d i e at) ∙ is in
-            some_left (plain_at d c) (off_left (is_empty (plain_at d c)) (is_misplaced (known.traits (entry_node d i))) (ap (what_misdeclared known d i) (sym same) ∙ rightly_declared i e at))
+            some_left (plain_at d c) (off_left (is_empty (plain_at d c)) (known.traits i).misplaced (ap (what_misdeclared known d i) (sym same) ∙ rightly_declared i e at))
 
     pub instance_left : (i c : ℕ) → what_at d i ≡ Some (whats.Instance c) → 0 < length (plain_at d c)
     instance_left i c is = by (slice_get (entries d) i) refl
@@ -92,7 +91,7 @@ module _ (d : DescriptionTree) where
         by None at = absurd (cc (at, is))
         by (Some e) at =
             let same : Some e.what ≡ Some (whats.Instance c) = sym (what_is d i e at) ∙ is in
-            some_left (plain_at d c) (off_left (is_empty (plain_at d c)) (is_misplaced (known.traits (entry_node d i))) (ap (what_misdeclared known d i) (sym same) ∙ rightly_declared i e at))
+            some_left (plain_at d c) (off_left (is_empty (plain_at d c)) (known.traits i).misplaced (ap (what_misdeclared known d i) (sym same) ∙ rightly_declared i e at))
 
     -- an instance's one operation is no alias
     plain_one : (o : ℕ) (all : List ℕ) → all ≡ o ∷ [] → 0 < length (filter (λ x. not (is_alias d x)) all) → is_alias d o ≡ false

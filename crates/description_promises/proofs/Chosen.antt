@@ -12,7 +12,7 @@ use Rattle.description_types.specs.declared.values.TypeOf.TheVariants as types
 use Rattle.description_types.specs.Shapes.{same_shape}
 use Rattle.description_types.specs.Types.{Types}
 use Rattle.description_types.specs.Facts.{together, merged_from, merged, added, known_together, any_open}
-use Rattle.description_types.specs.Kinds.{both_types, choice_type, either_type, type_fact}
+use Rattle.description_types.specs.Kinds.{both_types, choice_type, type_fact}
 use Rattle.description_types.specs.Steady.{shapes_same}
 
 abbrev pub IsKnown : Option TypeOf → Type 0
@@ -20,10 +20,6 @@ IsKnown r = (t : TypeOf) × (r ≡ Some t)
 
 abbrev pub IsSome : {T : Type 0} → Option T → Type 0
 IsSome {T = T} r = (t : T) × (r ≡ Some t)
-
--- the declarations that are meant don't differ
-abbrev pub IsOne : Option TypeOf → Type 0
-IsOne r = (some : Bool) → r ≡ Some (types.Mixed some) → ⊥
 
 pub in_here : (a : ℕ) (xs : List ℕ) → is_in a (a ∷ xs) ≡ true
 in_here a xs = let e = eq-eqb a a refl in grind arith
@@ -64,68 +60,21 @@ none_open value (a ∷ rest) each = ap₂ (λ (x y : Bool). x || y) (ap is_none 
 
 -- ---- choices
 
-no_mix : (s : Shape) (same some : Bool) → cond same (types.Typed s) types.NoType ≡ types.Mixed some → ⊥
-no_mix s true some e = absurd (cc e)
-no_mix s false some e = absurd (cc e)
-
-both_one : (x y : TypeOf) (some : Bool) → both_types x y ≡ types.Mixed some → ⊥
-both_one (types.Typed s) (types.Typed t) some e = no_mix s (same_shape s t) some e
-both_one (types.Typed s) types.NoType some e = absurd (cc e)
-both_one (types.Typed s) (types.Mixed b) some e = absurd (cc e)
-both_one types.NoType y some e = absurd (cc e)
-both_one (types.Mixed b) y some e = absurd (cc e)
-
-added_one : (x y : Option TypeOf) → IsOne x → IsOne y → IsOne (added both_types x y)
-added_one None y a b = b
-added_one (Some x) None a b = a
-added_one (Some x) (Some y) a b = λ some e. both_one x y some (cc e)
-
-all_one : (value : ℕ → Option TypeOf) (all : List ℕ) → ((a : ℕ) → is_in a all ≡ true → IsOne (value a)) → IsOne (known_together both_types value all)
-all_one value [] each = λ some e. absurd (cc e)
-all_one value (a ∷ rest) each = added_one (value a) (known_together both_types value rest) (each a (in_here a rest)) (all_one value rest (λ b h. each b (in_later b a rest h)))
-
-chosen_one : (some_open : Bool) (r : Option TypeOf) → IsOne r → IsOne (choice_type some_open r)
-chosen_one some_open (Some types.NoType) one = λ some e. absurd (cc e)
-chosen_one true None one = λ some e. absurd (cc e)
-chosen_one true (Some (types.Typed s)) one = λ some e. absurd (cc e)
-chosen_one true (Some (types.Mixed b)) one = λ some e. absurd (cc e)
-chosen_one false None one = one
-chosen_one false (Some (types.Typed s)) one = one
-chosen_one false (Some (types.Mixed b)) one = one
-
 chosen_known : (r : Option TypeOf) → IsKnown r → IsKnown (choice_type false r)
 chosen_known None k = absurd (cc k.1)
 chosen_known (Some types.NoType) k = (types.NoType, refl)
 chosen_known (Some (types.Typed s)) k = (types.Typed s, refl)
-chosen_known (Some (types.Mixed some)) k = (types.Mixed some, refl)
 
 -- ---- what values that make a type are
 
-both_typed : (x y : TypeOf) (s : Shape) → both_types x y ≡ types.Typed s → (x ≡ types.Typed s) × (y ≡ types.Typed s)
+pub both_typed : (x y : TypeOf) (s : Shape) → both_types x y ≡ types.Typed s → (x ≡ types.Typed s) × (y ≡ types.Typed s)
 both_typed (types.Typed u) (types.Typed v) s e = by (same_shape u v) refl e
   where
     by : (b : Bool) → same_shape u v ≡ b → cond b (types.Typed u) types.NoType ≡ types.Typed s → (types.Typed u ≡ types.Typed s) × (types.Typed v ≡ types.Typed s)
     by true same f = (f, ap (λ (w : Shape). types.Typed w) (sym (shapes_same u v same)) ∙ f)
     by false same f = absurd (cc f)
 both_typed (types.Typed u) types.NoType s e = absurd (cc e)
-both_typed (types.Typed u) (types.Mixed some) s e = absurd (cc e)
 both_typed types.NoType y s e = absurd (cc e)
-both_typed (types.Mixed some) y s e = absurd (cc e)
-
-pub either_typed : (x y : TypeOf) (s : Shape) → either_type x y ≡ types.Typed s → (x ≡ types.Typed s) × (y ≡ types.Typed s)
-either_typed (types.Typed u) (types.Typed v) s e = by (same_shape u v) refl e
-  where
-    by : (b : Bool) → same_shape u v ≡ b → cond b (types.Typed u) (types.Mixed false) ≡ types.Typed s → (types.Typed u ≡ types.Typed s) × (types.Typed v ≡ types.Typed s)
-    by true same f = (f, ap (λ (w : Shape). types.Typed w) (sym (shapes_same u v same)) ∙ f)
-    by false same f = absurd (cc f)
-either_typed types.NoType types.NoType s e = absurd (cc e)
-either_typed types.NoType (types.Typed v) s e = absurd (cc e)
-either_typed types.NoType (types.Mixed b) s e = absurd (cc e)
-either_typed (types.Typed u) types.NoType s e = absurd (cc e)
-either_typed (types.Typed u) (types.Mixed b) s e = absurd (cc e)
-either_typed (types.Mixed b) types.NoType s e = absurd (cc e)
-either_typed (types.Mixed b) (types.Typed v) s e = absurd (cc e)
-either_typed (types.Mixed b) (types.Mixed q) s e = absurd (cc e)
 
 -- a value that is made of others is this one only where they all are
 module _ {T : Type 0} (f : T → T → T) (t : T) (only : (x y : T) → f x y ≡ t → (x ≡ t) × (y ≡ t)) (value : ℕ → Option T) where
@@ -191,22 +140,17 @@ chosen_typed : (some_open : Bool) (r : Option TypeOf) (s : Shape) → choice_typ
 chosen_typed some_open (Some types.NoType) s e = absurd (cc e)
 chosen_typed true None s e = absurd (cc e)
 chosen_typed true (Some (types.Typed t)) s e = absurd (cc e)
-chosen_typed true (Some (types.Mixed b)) s e = absurd (cc e)
 chosen_typed false None s e = absurd (cc e)
 chosen_typed false (Some (types.Typed t)) s e = (refl, e)
-chosen_typed false (Some (types.Mixed b)) s e = absurd (cc e)
 
-module _ (d : DescriptionTree) (known : Types) (c : ℕ) where
-  pub choice_known : 0 < length (plain_at d c) → ((o : ℕ) → is_in o (plain_at d c) ≡ true → IsKnown (known o)) → IsKnown ((type_fact d).of_choice known c)
+module _ (d : DescriptionTree) (unfit : ℕ → Bool) (known : Types) (c : ℕ) where
+  pub choice_known : 0 < length (plain_at d c) → ((o : ℕ) → is_in o (plain_at d c) ≡ true → IsKnown (known o)) → IsKnown ((type_fact d unfit).of_choice known c)
   choice_known some each =
       subst (λ (b : Bool). IsKnown (choice_type b (known_together both_types known (plain_at d c)))) (sym (none_open known (plain_at d c) each))
       (chosen_known (known_together both_types known (plain_at d c)) (together_some both_types known (plain_at d c) some each))
 
-  pub choice_one : ((o : ℕ) → is_in o (plain_at d c) ≡ true → IsOne (known o)) → IsOne ((type_fact d).of_choice known c)
-  choice_one each = chosen_one (any_open known (plain_at d c)) (known_together both_types known (plain_at d c)) (all_one known (plain_at d c) each)
-
   -- each alternative has the type of the choice
-  pub choice_typed : (s : Shape) → (type_fact d).of_choice known c ≡ Some (types.Typed s) → (o : ℕ) → is_in o (plain_at d c) ≡ true → known o ≡ Some (types.Typed s)
+  pub choice_typed : (s : Shape) → (type_fact d unfit).of_choice known c ≡ Some (types.Typed s) → (o : ℕ) → is_in o (plain_at d c) ≡ true → known o ≡ Some (types.Typed s)
   choice_typed s e =
       let p = chosen_typed (any_open known (plain_at d c)) (known_together both_types known (plain_at d c)) s e in
       known_only both_types (types.Typed s) (λ x y f. both_typed x y s f) known (plain_at d c) (closed_known known (plain_at d c) p.0) p.1

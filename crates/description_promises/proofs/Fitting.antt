@@ -30,21 +30,24 @@ use Rattle.description_names.specs.Resources.{is_named, resource_at, field_shape
 use Rattle.description_names.specs.Operations.{name_at, own_stage, sections_at, declares_in, coding_in, behavior_in, expression_in, activation_in}
 use Rattle.description_names.specs.Declarations.{declared_at, what_at, entry_name_at}
 use Rattle.description_names.specs.Meanings.{meaning, meaning_of}
-use Rattle.description_names.specs.Paths.{entry_node}
+use Rattle.description_names.specs.Paths.{entry_node, refers}
 use Rattle.coded_names.specs.Codings.{pattern_width, field_width}
 use Rattle.least_fixed_points.specs.Settles.{settled}
+use Rattle.meant_declarations.specs.Meant.{itself}
 use Rattle.description_graph.proofs.Hits.{found}
 use Rattle.description_graph.proofs.Nodes.{at_entry}
 use Rattle.description_types.specs.declared.values.CodedName.{CodedName}
+use Rattle.description_types.specs.declared.values.TypeOf.{TypeOf}
 use Rattle.description_types.specs.declared.values.TypeOf.TheVariants as types
 use Rattle.description_types.specs.Shapes.{shape_of}
 use Rattle.description_types.specs.Codings.{width_type, label_type, name_coding, coding_at}
 use Rattle.description_types.specs.Facts.{entry_value, node_value, follows}
 use Rattle.description_types.specs.Kinds.{type_fact}
-use Rattle.description_types.specs.Tables.{Known, AreKinds}
+use Rattle.description_types.specs.Tables.{apart, LacksType, Known, AreKinds}
 use Rattle.name_checks.specs.Unknown.{unknown, is_something, stands, is_known, is_field, register_unknown, part_unknown}
 use Rattle.shape_checks.specs.Shapes.{bad_width, bit_count}
-use Rattle.kind_checks.specs.Uses.{by_sort, is_free, lacks_type, is_rooted, is_wrong_operand, is_wrong_root_group, is_wrong_field, is_wrong_number, is_wrong_shown, is_misstarted, is_wrong_register, is_no_register, may_input}
+use Rattle.kind_checks.specs.Uses.{by_sort, is_free, is_wrong_operand, is_wrong_root_group, is_wrong_field, is_wrong_number, is_wrong_shown, is_misstarted, is_wrong_register, is_no_register}
+use Rattle.description_types.specs.Refused.{may_input}
 use Rattle.kind_checks.specs.WrongKinds.{wrong_kind, faulty, has_references, lacks_coding, is_wrong_alias, stage_name, head_name, register_name, root_name}
 use Rattle.stage_checks.specs.Resets.{is_scalar}
 use Rattle.stage_checks.specs.Running.{acts_names}
@@ -52,6 +55,7 @@ use Rattle.description_promises.specs.Freedom.{IsFree, Stands, AllStand}
 use Rattle.description_promises.specs.Declaring.{IsChild}
 use Rattle.description_promises.specs.Codings.{FitsField, FitsItem, IsScalar, IsInput, FitsWord, FitsCoding, FitsNumber, FitsPart, FitsSyntax, IsNoReference, FitsAlias}
 use Rattle.description_promises.proofs.Among.{free_place, among_left, among_right}
+use Rattle.description_promises.proofs.Named.{what_is}
 use Rattle.description_promises.proofs.Starting.{all_map, Started, acts_started}
 use Rattle.description_promises.proofs.Decoding.{off_left, off_right, not_off, or_left, or_right, some_of, none_of, is_found, is_right, no_name, not_faulty, width_is, position_there}
 
@@ -214,7 +218,7 @@ module _ (d : DescriptionTree) (known : Known) (stand : IsFree (unknown d) d) (u
       let found : stands d o group ≡ true = is_found (name_at d o) (stands d o group) group (or_right (register_unknown d o register) (part_unknown d o group) u) in
       let right = not_faulty (is_wrong_root_group known d (meaning d o group)) group (or_right (register_name known d o register) (faulty (is_wrong_root_group known d (meaning d o group)) group) w) in
       let r = rightly d o group (is_wrong_root_group known d) (λ k. refl) found right in
-      let g = sort_group d r.number (is_rooted (known.traits (entry_node d r.number))) true r.right refl in (
+      let g = sort_group d r.number (known.traits r.number).rooted true r.right refl in (
         word_fits o register (or_left (register_unknown d o register) (part_unknown d o group) u) (or_left (register_name known d o register) (faulty (is_wrong_root_group known d (meaning d o group)) group) w),
         (g.0, record { number = r.number; declared = r.declared; is = g.1 }),
       )
@@ -229,19 +233,23 @@ module _ (d : DescriptionTree) (known : Known) (stand : IsFree (unknown d) d) (u
     label_type_is : (i : ℕ) → what_at d i ≡ Some whats.Label → known.types (entry_node d i) ≡ Some (coding_at d i).label
     label_type_is i is = (kinds.types (entry_node d i) (coding_at d i).label).1 (settled (λ b. None) (λ b u e. absurd (cc e)) follows_so)
       where
-        follows_so : follows d (type_fact d) (λ b. None) (entry_node d i) ≡ Some (coding_at d i).label
-        follows_so = ap (node_value d (type_fact d) (λ b. None)) (at_entry d (entry_node d i) i refl) ∙ ap (entry_value d (type_fact d) (λ b. None) i) is
+        follows_so : follows d (type_fact d (apart known.traits)) (λ b. None) (entry_node d i) ≡ Some (coding_at d i).label
+        follows_so = ap (node_value d (type_fact d (apart known.traits)) (λ b. None)) (at_entry d (entry_node d i) i refl) ∙ ap (entry_value d (type_fact d (apart known.traits)) (λ b. None) i) is
 
-    width_of : (kind : Kind) (w : Option ℕ) → lacks_type (Some (width_type kind w)) ≡ false → (k : ℕ) × (w ≡ Some k)
-    width_of kind None e = absurd (cc e)
-    width_of kind (Some k) e = (k, refl)
+    width_of : (kind : Kind) (w : Option ℕ) → (width_type kind w ≡ types.NoType → ⊥) → (k : ℕ) × (w ≡ Some k)
+    width_of kind None some = absurd (some refl)
+    width_of kind (Some k) some = (k, refl)
 
-    label_width : (o i : ℕ) (n : List ℕ) → declared_at d o n ≡ Some i → what_at d i ≡ Some whats.Label → lacks_type (known.types (entry_node d i)) ≡ false → (w : ℕ) × (field_width n (coding_in (sections_at d o)) ≡ Some w)
+    label_width : (o i : ℕ) (n : List ℕ) → declared_at d o n ≡ Some i → what_at d i ≡ Some whats.Label → known.typeless i ≡ false → (w : ℕ) × (field_width n (coding_in (sections_at d o)) ≡ Some w)
     label_width o i n at is typed =
         let f = found d o n i at in
         let coding : coding_at d i ≡ name_coding (sections_at d o) (Some n) = ap (λ (k : ℕ). name_coding (sections_at d k) (entry_name_at d i)) f.owner ∙ ap (name_coding (sections_at d o)) f.name in
-        let label : lacks_type (Some (label_type (sections_at d o) n)) ≡ false = sym (ap lacks_type (label_type_is i is ∙ ap (λ (c : CodedName). Some c.label) coding)) ∙ typed in
-        width_of _ (field_width n (coding_in (sections_at d o))) label
+        let what : f.e.what ≡ whats.Label = of_some f.e.what (sym (what_is d i f.e f.at) ∙ is) in
+        let lacks : label_type (sections_at d o) n ≡ types.NoType → LacksType d known.types i = λ none. label_type_is i is ∙ ap (λ (c : CodedName). Some c.label) coding ∙ ap (λ (t : TypeOf). Some t) none in
+        width_of _ (field_width n (coding_in (sections_at d o))) (λ (none : label_type (sections_at d o) n ≡ types.NoType). absurd (cc (sym typed ∙ (kinds.typeless i).1 (i, (itself f.e f.at (ap refers what) refl, lacks none)))))
+      where
+        of_some : (w : What) → Some w ≡ Some whats.Label → w ≡ whats.Label
+        of_some w e = cc e
 
     -- a label's type has the width of its field
     pub label_shape : (o i : ℕ) (n : List ℕ) (s : Shape) → declared_at d o n ≡ Some i → what_at d i ≡ Some whats.Label → known.types (entry_node d i) ≡ Some (types.Typed s) → field_width n (coding_in (sections_at d o)) ≡ Some s.width
@@ -264,7 +272,7 @@ module _ (d : DescriptionTree) (known : Known) (stand : IsFree (unknown d) d) (u
     number_fits o n format s =
         let found : stands d o n ≡ true = is_found (name_at d o) (stands d o n) n (free_place (unknown d) d stand _ s) in
         let r = rightly d o n (is_wrong_number known d) (λ k. refl) found (is_right (name_at d o) (is_wrong_number known d (meaning d o n)) n (free_place (wrong_kind known d) d uses_free _ s)) in
-        let l = sort_label d r.number (lacks_type (known.types (entry_node d r.number))) r.right in
+        let l = sort_label d r.number (known.typeless r.number) r.right in
         let w = label_width o r.number n r.declared l.0 l.1 in
         record { label = record { number = r.number; declared = r.declared; is = l.0 }; width = w.0; field = w.1 }
 

@@ -17,3 +17,5 @@ pub mod Settling
 pub mod Typing
 pub mod Resolved
 pub mod Assigned
+pub mod Agreeing
+pub mod Unrefused

@@ -32,7 +32,8 @@ use Rattle.name_checks.specs.Doubled.{duplicate}
 use Rattle.name_checks.specs.Unknown.{unknown, is_something, stands, is_known, is_field, is_stage, name_unknown, stage_unknown, field_unknown, control_unknown, behind_unknown}
 use Rattle.shape_checks.specs.Bounds.{bounds_of, holds_values}
 use Rattle.shape_checks.specs.Shapes.{is_width, width_fault, field_fault, resource_width, bad_width, is_depth, depth_fault, array_fault, resource_depth, bad_depth, counter_width}
-use Rattle.kind_checks.specs.Uses.{is_no_word, is_no_register, is_no_array, lacks_type, is_apart, meant_misread, is_misread, meant_misindexed, is_misindexed, meant_miswritten, is_miswritten, may_input, may_output, are_apart, tells_decoded}
+use Rattle.description_types.specs.Refused.{may_input, are_apart, is_apart}
+use Rattle.kind_checks.specs.Uses.{is_no_word, is_no_register, is_no_array, meant_misread, is_misread, meant_misindexed, is_misindexed, meant_miswritten, is_miswritten, may_output, tells_decoded}
 use Rattle.kind_checks.specs.WrongKinds.{wrong_kind, owner_name, faulty, boundary_name}
 use Rattle.stage_checks.specs.Resets.{is_scalar}
 use Rattle.description_promises.specs.Freedom.{IsFree, Stands}
@@ -43,7 +44,7 @@ use Rattle.description_promises.proofs.Among.{free_place}
 use Rattle.description_promises.proofs.Standing.{resource_stands}
 use Rattle.description_promises.proofs.Decoding.{off_left, not_off, or_left, or_right, some_of, is_found, is_right_first, no_name, not_faulty, width_is, position_there}
 use Rattle.description_promises.proofs.Fitting.{input_of}
-use Rattle.description_promises.proofs.Typing.{HasShape, typed_of, word_of, element_of, all_declared, entry_there, entry_one}
+use Rattle.description_promises.proofs.Typing.{HasShape, typed_of, word_of, element_of, all_declared, entry_there, some_type}
 
 -- ---- resources
 
@@ -60,7 +61,6 @@ shape_typed : (r : Option TypeOf) → HasShape (typed r) → (s : Shape) × (r �
 shape_typed None h = absurd (cc h.1)
 shape_typed (Some types.NoType) h = absurd (cc h.1)
 shape_typed (Some (types.Typed s)) h = (s, refl)
-shape_typed (Some (types.Mixed some)) h = absurd (cc h.1)
 
 module _ (d : DescriptionTree) where
   there : (n : List ℕ) (k : ℕ) → resource_at d n ≡ Some k → (x : ResourceTree) × (slice_get d.resources k ≡ Some x)
@@ -194,10 +194,10 @@ module _ (d : DescriptionTree) where
     -- ---- names
 
     module _ (kinds : AreKinds d known) (names : IsFree (duplicate d) d) (ranks : Ranks d) where
-      value_of : (o : ℕ) (scope : Scope) (n : List ℕ) (i : ℕ) → local_named n scope ≡ None → declared_at d o n ≡ Some i → lacks_type (known.types (entry_node d i)) ≡ false → (s : Shape) × IsValue known.types d o scope n s
+      value_of : (o : ℕ) (scope : Scope) (n : List ℕ) (i : ℕ) → local_named n scope ≡ None → declared_at d o n ≡ Some i → known.typeless i ≡ false → (s : Shape) × IsValue known.types d o scope n s
       value_of o scope n i no_local is right =
           let e = entry_there d known kinds names stand uses_free o n i is in
-          let t = shape_typed (known.types (entry_node d i)) (typed_of (known.types (entry_node d i)) (all_declared d known kinds names stand uses_free ranks o n i is) (entry_one d known kinds names stand uses_free i e.0 e.1) right) in
+          let t = shape_typed (known.types (entry_node d i)) (typed_of (known.types (entry_node d i)) (all_declared d known kinds names stand uses_free ranks o n i is) (some_type d known kinds names stand uses_free i e.0 e.1 right)) in
           (t.0, record { no_local = no_local; number = i; declared = is; type = t.1 })
 
       pub readable : (o : ℕ) (region : Region) (scope : Scope) (n : List ℕ) → Stands d (at o region scope (places.Reads n)) → Readable known.types d o scope n
@@ -206,7 +206,7 @@ module _ (d : DescriptionTree) where
           (is_right_first (owner_name d o region) (is_misread known d o n (local_named n scope)) n (free_place (wrong_kind known d) d uses_free _ s))
         where
           meant : local_named n scope ≡ None → (x y : Option ℕ) → declared_at d o n ≡ x → resource_at d n ≡ y → is_something (meaning_of x y) ≡ true → meant_misread known d (meaning_of x y) ≡ false → Readable known.types d o scope n
-          meant no_local (Some i) y is named s r = let v = value_of o scope n i no_local is (off_left (lacks_type (known.types (entry_node d i))) (is_apart (known.traits (entry_node d i))) r) in reads_value v.0 v.1
+          meant no_local (Some i) y is named s r = let v = value_of o scope n i no_local is (off_left (known.typeless i) (is_apart (known.traits i)) r) in reads_value v.0 v.1
           meant no_local None (Some k) is named s r =
               let x = there n k named in
               let w = word_of (Some x.0) x.0 refl (ap is_no_word (sym x.1) ∙ r) in
@@ -223,7 +223,7 @@ module _ (d : DescriptionTree) where
           (is_right_first (owner_name d o region) (is_miswritten known d o n (local_named n scope)) n (free_place (wrong_kind known d) d uses_free _ s))
         where
           meant : local_named n scope ≡ None → (x y : Option ℕ) → declared_at d o n ≡ x → resource_at d n ≡ y → is_something (meaning_of x y) ≡ true → meant_miswritten known d (meaning_of x y) ≡ false → Writable known.types d o scope n
-          meant no_local (Some i) y is named s r = let v = value_of o scope n i no_local is (off_left (lacks_type (known.types (entry_node d i))) _ r) in writes_value v.0 v.1
+          meant no_local (Some i) y is named s r = let v = value_of o scope n i no_local is (off_left (known.typeless i) _ r) in writes_value v.0 v.1
           meant no_local None (Some k) is named s r =
               let x = there n k named in
               writes_register x.0 (record { no_local = no_local; undeclared = is; number = k; named = named; is = x.1 }) (scalar_of x.0 (ap is_no_register (sym x.1) ∙ r))

@@ -32,7 +32,7 @@ use Rattle.description_promises.specs.Declaring.{Chooses}
 use Rattle.description_promises.proofs.Among.{free_place}
 use Rattle.description_promises.proofs.Entries.{entry_stands, entry_chooses}
 use Rattle.description_promises.proofs.Decoding.{off_left, off_right, not_off, some_of, is_found}
-use Rattle.description_promises.proofs.Sound.{same_option}
+use Rattle.description_types.proofs.OneKnown.{same_option}
 use Rattle.description_promises.proofs.Named.{entry_found, what_is}
 use Rattle.description_promises.proofs.Choosing.{group_left, instance_left}
 use Rattle.description_promises.proofs.Chosen.{IsSome, merged_known, plain_listed}

@@ -1,12 +1,11 @@
 -- From a verdict to its conditions, and back.
 use Rattle.std.proofs.Common.{◌≡◌, ℕ, Bool, true, false, Option, None, Some, cond, refl, sym, subst, inl, inr}
-use Rattle.std.proofs.Math.Path.{fun_ext}
 use Rattle.std.specs.Prelude.{option_map}
 use Rattle.lisa_tree.specs.declared.faults.DescFault.TheVariants as faults
 use Rattle.lisa_tree.specs.Descriptions.{DescriptionTree}
 use Rattle.description_graph.specs.Circles.{IsFirstCircularOperation}
-use Rattle.description_types.specs.Facts.{Fact}
-use Rattle.description_types.specs.Tables.{AreValues, Known, AreKinds}
+use Rattle.description_types.specs.Tables.{Known}
+use Rattle.description_types.proofs.OneKnown.{one_known}
 use Rattle.name_checks.specs.Doubled.{duplicate}
 use Rattle.name_checks.specs.Unknown.{unknown}
 use Rattle.shape_checks.specs.Shapes.{bad_width, bad_depth, without_bound, too_long}
@@ -18,23 +17,6 @@ use Rattle.stage_checks.specs.Backward.{IsBackwardVerdict, IsMainVerdict}
 use Rattle.lisa_machine.specs.Verdicts.{Verdict, before, at_places, circular, nothing, from_resets, from_mains, from_controls, from_backwards, from_circles, from_long_loops, from_loops, from_narrowings, from_depths, from_widths, from_kinds, from_unknowns, IsCircleVerdict, IsBadMainVerdict, IsAccepted}
 use Rattle.description_promises.specs.Freedom.{IsFree}
 use Rattle.description_promises.specs.Soundness.{IsSound}
-
--- ---- what is known is unique
-
-pub same_option : {T : Type 0} (x y : Option T) → ((t : T) → x ≡ Some t → y ≡ Some t) → ((t : T) → y ≡ Some t → x ≡ Some t) → x ≡ y
-same_option None None f g = refl
-same_option None (Some t) f g = g t refl
-same_option (Some t) y f g = sym (f t refl)
-
-one_table : {T : Type 0} (d : DescriptionTree) (fact : Fact T) (known other : ℕ → Option T) → AreValues d fact known → AreValues d fact other → known ≡ other
-one_table d fact known other w v = fun_ext (λ a. same_option (known a) (other a) (λ t e. (v a t).1 ((w a t).0 e)) (λ t e. (w a t).1 ((v a t).0 e)))
-
-pub one_known : (d : DescriptionTree) (known other : Known) → AreKinds d known → AreKinds d other → known ≡ other
-one_known d known other w v =
-    let types = one_table d _ known.types other.types w.types v.types in
-    let assignables = one_table d _ known.assignables other.assignables w.assignables v.assignables in
-    let traits = one_table d _ known.traits other.traits w.traits v.traits in
-    λ i. record { types = types i; assignables = assignables i; traits = traits i }
 
 -- ---- one condition behind the other
 

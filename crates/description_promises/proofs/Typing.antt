@@ -1,9 +1,8 @@
 -- In a description in which nothing is wrong each expression has a type.
-use Rattle.std.proofs.Common.{◌≡◌, ◌⊎◌, ◌<◌, ◌||◌, ◌++◌, ℕ, List, [], Option, None, Some, Bool, true, false, length, refl, sym, ap, ◌∙◌, subst, inl, inr, ⊎_elim}
+use Rattle.std.proofs.Common.{◌≡◌, ◌⊎◌, ◌<◌, ◌||◌, ◌++◌, ℕ, List, [], Option, None, Some, Bool, true, false, cond, length, refl, sym, ap, ◌∙◌, subst, inl, inr, ⊎_elim}
 use Rattle.std.specs.Prelude.{slice_get, option_map}
 use Rattle.std.specs.Option.{is_some}
 use Rattle.std.proofs.lemmas.Option.{slice_get_within}
-use Rattle.lisa_words.specs.declared.words.Kind.{Kind}
 use Rattle.lisa_tree.specs.declared.tokens.Shape.{Shape}
 use Rattle.lisa_tree.specs.declared.expressions.Operator.{Operator}
 use Rattle.lisa_tree.specs.declared.expressions.Operator.TheVariants as operators
@@ -23,25 +22,25 @@ use Rattle.description_names.specs.declared.declared.Meaning.{Meaning}
 use Rattle.description_names.specs.declared.declared.Meaning.TheVariants as meanings
 use Rattle.description_names.specs.Resources.{is_named, resource_at, field_shape}
 use Rattle.description_names.specs.Operations.{name_at, sections_at, expression_in}
-use Rattle.description_names.specs.Declarations.{Entry, entries, choices, declared_at, owner_at, entry_name_at, above, plain_at, what_at, is_reference}
+use Rattle.description_names.specs.Declarations.{Entry, entries, choices, declared_at, above, plain_at, what_at}
 use Rattle.description_names.specs.Meanings.{meaning, meaning_of}
-use Rattle.description_names.specs.Paths.{choice_node, entry_node}
+use Rattle.description_names.specs.Paths.{choice_node, entry_node, refers}
 use Rattle.description_graph.proofs.Hits.{found}
-use Rattle.description_graph.proofs.Nodes.{alternatives_below}
 use Rattle.graph_paths.specs.Paths.{is_in}
 use Rattle.description_types.specs.declared.values.TypeOf.{TypeOf}
 use Rattle.description_types.specs.declared.values.TypeOf.TheVariants as types
-use Rattle.description_types.specs.Codings.{width_type, coding_at, name_coding}
 use Rattle.description_types.specs.Shapes.{bit, joined, beside, paired}
 use Rattle.description_types.specs.Types.{word_shape, element_shape, typed, meant_type, or_meant_type, name_type, meant_element, or_meant_element, element_type, two_type, type_of}
-use Rattle.description_types.specs.Facts.{merged, at_entry as value_at, declared_value, entry_value}
-use Rattle.description_types.specs.Kinds.{as_type, expression_type, either_type, type_fact}
+use Rattle.description_types.specs.Refused.{is_apart, rests_on_refused}
+use Rattle.description_types.specs.Facts.{Fact, IsSteady, merged, at_entry as value_at, declared_value}
+use Rattle.description_types.specs.Kinds.{as_type, expression_type, both_types, type_fact}
 use Rattle.description_types.specs.Steady.{types_steady}
-use Rattle.description_types.specs.Tables.{Known, AreKinds}
+use Rattle.description_types.specs.Tables.{apart, DifferInType, Known, AreKinds}
+use Rattle.description_types.proofs.KnownTypes.{self_shape, types_decide}
 use Rattle.name_checks.specs.Doubled.{duplicate}
 use Rattle.name_checks.specs.Unknown as unknowns
 use Rattle.name_checks.specs.Unknown.{unknown, is_something, stands, is_known, is_field, is_main, lacks, is_loose, what_of, control_unknown, behind_unknown, stage_unknown, field_unknown}
-use Rattle.kind_checks.specs.Uses.{is_no_word, is_no_register, is_no_array, lacks_type, types_differ, is_apart, sorts_differ, assignables_differ, meant_misread, is_misread, meant_misindexed, is_misindexed, meant_miswritten, is_miswritten, what_misdeclared}
+use Rattle.kind_checks.specs.Uses.{is_no_word, is_no_register, is_no_array, sorts_differ, meant_misread, is_misread, meant_misindexed, is_misindexed, meant_miswritten, is_miswritten, what_misdeclared}
 use Rattle.kind_checks.specs.WrongKinds.{wrong_kind, owner_name}
 use Rattle.description_promises.specs.Freedom.{IsFree, Stands, AllStand}
 use Rattle.description_promises.specs.Ranks.{Ranks}
@@ -50,8 +49,10 @@ use Rattle.description_promises.proofs.Standing.{expression_stand, expression_nu
 use Rattle.description_promises.proofs.Decoding.{off_left, off_right, or_right, some_of, is_found, is_right_first, position_there}
 use Rattle.description_promises.proofs.Named.{what_is}
 use Rattle.description_promises.proofs.Choosing.{rightly_declared}
-use Rattle.description_promises.proofs.Settling.{choice_there, operation_is, choice_is, entry_is, child_is, reference_is, all_settled}
-use Rattle.description_promises.proofs.Chosen.{IsKnown, IsOne, choice_known, choice_one, choice_typed, merged_only, either_typed, plain_listed}
+use Rattle.description_promises.proofs.Settling.{choice_there, operation_is, choice_is, child_is, reference_is, all_settled}
+use Rattle.description_promises.proofs.Agreeing.{only_itself, agrees}
+use Rattle.description_promises.proofs.Unrefused.{uses_fit, unless}
+use Rattle.description_promises.proofs.Chosen.{IsKnown, choice_known, choice_typed, merged_only, both_typed}
 use Rattle.description_places.specs.Literals.{literal}
 
 abbrev pub HasShape : Option Shape → Type 0
@@ -116,72 +117,77 @@ element_of (Some (trees.Pin shape n)) x is e = absurd (cc e)
 element_of (Some (trees.Pipeline n stages)) x is e = absurd (cc e)
 element_of (Some (trees.Fields pipe fields)) x is e = absurd (cc e)
 
--- a type that is known and one, and isn't missing
-pub typed_of : (r : Option TypeOf) → IsKnown r → IsOne r → lacks_type r ≡ false → HasShape (typed r)
-typed_of None k one e = absurd (cc k.1)
-typed_of (Some types.NoType) k one e = absurd (cc e)
-typed_of (Some (types.Typed s)) k one e = (s, refl)
-typed_of (Some (types.Mixed some)) k one e = absurd (one some refl)
+-- a type that is known, and isn't missing
+pub typed_of : (r : Option TypeOf) → IsKnown r → (r ≡ Some types.NoType → ⊥) → HasShape (typed r)
+typed_of None k some = absurd (cc k.1)
+typed_of (Some types.NoType) k some = absurd (some refl)
+typed_of (Some (types.Typed s)) k some = (s, refl)
+
+-- what two of the same type make
+both_same : (x : TypeOf) → both_types x x ≡ x
+both_same types.NoType = refl
+both_same (types.Typed s) = ap (λ (b : Bool). cond b (types.Typed s) types.NoType) (self_shape s)
 
 module _ (d : DescriptionTree) (known : Known) (kinds : AreKinds d known) (names : IsFree (duplicate d) d) (stand : IsFree (unknown d) d) (uses_free : IsFree (wrong_kind known d) d) where
   -- ---- what is known of a node follows
 
-  operation_value : (o : ℕ) → o < length d.operations → known.types o ≡ expression_type known.types d o (expression_in (sections_at d o))
-  operation_value o h = operation_is d known names stand uses_free (type_fact d) (types_steady d) known.types kinds.types o h
+  abbrev fact : Fact TypeOf
+  fact = type_fact d (apart known.traits)
 
-  choice_value : (c : ℕ) → c < length (choices d) → known.types (choice_node d c) ≡ (type_fact d).of_choice known.types c
-  choice_value c h = choice_is d known names stand uses_free (type_fact d) (types_steady d) known.types kinds.types c h
+  abbrev steady : IsSteady fact
+  steady = types_steady d (apart known.traits)
 
-  same_child : (i : ℕ) (r : Option TypeOf) → option_map ((type_fact d).of_child i) r ≡ r
+  operation_value : (o : ℕ) → o < length d.operations → known.types o ≡ expression_type (apart known.traits) known.types d o (expression_in (sections_at d o))
+  operation_value o h = operation_is d known names stand uses_free fact steady known.types kinds.types o h
+
+  choice_value : (c : ℕ) → c < length (choices d) → known.types (choice_node d c) ≡ fact.of_choice known.types c
+  choice_value c h = choice_is d known names stand uses_free fact steady known.types kinds.types c h
+
+  same_child : (i : ℕ) (r : Option TypeOf) → option_map (fact.of_child i) r ≡ r
   same_child i None = refl
   same_child i (Some t) = refl
 
   child_value : (i : ℕ) (e : Entry) → slice_get (entries d) i ≡ Some e → (c : ℕ) → (e.what ≡ whats.Group c) ⊎ (e.what ≡ whats.Instance c) → known.types (entry_node d i) ≡ known.types (choice_node d c)
-  child_value i e is c which = child_is d known names stand uses_free (type_fact d) (types_steady d) known.types kinds.types i e is c which ∙ same_child i (known.types (choice_node d c))
+  child_value i e is c which = child_is d known names stand uses_free fact steady known.types kinds.types i e is c which ∙ same_child i (known.types (choice_node d c))
 
-  -- ---- no name means declarations that differ
+  -- ---- no name means declarations that differ, and none that is a value means one without a type
 
-  as_one : (r : Option Shape) → IsOne (as_type r)
-  as_one None some e = absurd (cc e)
-  as_one (Some s) some e = absurd (cc e)
-
-  expression_one : (o : ℕ) (e : Option ExprTree) → IsOne (expression_type known.types d o e)
-  expression_one o None = λ some e. absurd (cc e)
-  expression_one o (Some x) = as_one (type_of known.types d o [] x)
-
-  operation_one : (o : ℕ) → o < length d.operations → IsOne (known.types o)
-  operation_one o h = subst IsOne (sym (operation_value o h)) (expression_one o (expression_in (sections_at d o)))
-
-  choice_is_one : (c : ℕ) → c < length (choices d) → IsOne (known.types (choice_node d c))
-  choice_is_one c h = subst IsOne (sym (choice_value c h)) (choice_one d known.types c (λ o e. operation_one o (alternatives_below d c o (plain_listed d c o e))))
-
-  width_one : (kind : Kind) (w : Option ℕ) → IsOne (Some (width_type kind w))
-  width_one kind None some e = absurd (cc e)
-  width_one kind (Some k) some e = absurd (cc e)
-
-  label_one : (i : ℕ) → IsOne (Some (coding_at d i).label)
-  label_one i = by (entry_name_at d i) refl
+  alike : (i : ℕ) (e : Entry) → slice_get (entries d) i ≡ Some e → DifferInType d known.types i → ⊥
+  alike i e is x = by e.what refl
     where
-      by : (r : Option (List ℕ)) → entry_name_at d i ≡ r → IsOne (Some (coding_at d i).label)
-      by None is = subst (λ (n : Option (List ℕ)). IsOne (Some (name_coding (sections_at d (owner_at d i)) n).label)) (sym is) (λ some e. absurd (cc e))
-      by (Some n) is = subst (λ (m : Option (List ℕ)). IsOne (Some (name_coding (sections_at d (owner_at d i)) m).label)) (sym is) (width_one _ _)
+      some_same : (s t : TypeOf) → Some s ≡ Some t → s ≡ t
+      some_same s t h = cc h
 
-  pub entry_one : (i : ℕ) (e : Entry) → slice_get (entries d) i ≡ Some e → IsOne (known.types (entry_node d i))
-  entry_one i e is = by e.what refl
-    where
-      child : (c : ℕ) → (e.what ≡ whats.Group c) ⊎ (e.what ≡ whats.Instance c) → IsOne (known.types (entry_node d i))
-      child c which = let x = choice_there d known names stand uses_free i e is c which in subst IsOne (sym (child_value i e is c which)) (choice_is_one c (slice_get_within (choices d) c x.0 x.1))
+      alone : refers e.what ≡ false → ⊥
+      alone off =
+          let one : i ≡ x.one = only_itself d e is off x.means_one in
+          let other : i ≡ x.other = only_itself d e is off x.means_other in
+          x.differ (some_same x.type_of_one x.type_of_other (sym x.is_one ∙ ap (λ (j : ℕ). known.types (entry_node d j)) (sym one ∙ other) ∙ x.is_other))
 
-      differ : (r : Option TypeOf) → types_differ r ≡ false → IsOne r
-      differ r off some same = absurd (cc (sym off ∙ ap types_differ same))
-
-      by : (w : What) → e.what ≡ w → IsOne (known.types (entry_node d i))
-      by (whats.Group c) what = child c (inl what)
-      by (whats.Instance c) what = child c (inr what)
-      by whats.Label what = subst IsOne (sym (entry_is d known names stand uses_free (type_fact d) (types_steady d) known.types kinds.types i e is ∙ ap (λ (x : What). entry_value d (type_fact d) known.types i (Some x)) what)) (label_one i)
+      by : (w : What) → e.what ≡ w → ⊥
+      by (whats.Group c) what = alone (ap refers what)
+      by (whats.Instance c) what = alone (ap refers what)
+      by whats.Label what = alone (ap refers what)
       by whats.Reference what =
-          let b : what_misdeclared known d i (Some whats.Reference) ≡ false = ap (λ (x : What). what_misdeclared known d i (Some x)) (sym what) ∙ rightly_declared d known names uses_free i e is in
-          differ (known.types (entry_node d i)) (off_left (types_differ (known.types (entry_node d i))) (assignables_differ (known.assignables (entry_node d i))) (off_right (sorts_differ (known.traits (entry_node d i))) _ b))
+          let b : what_misdeclared known d i (Some whats.Reference) ≡ false = ap (λ (y : What). what_misdeclared known d i (Some y)) (sym what) ∙ rightly_declared d known names uses_free i e is in
+          let off : known.types_differ i ≡ false = off_left (known.types_differ i) (known.assignables_differ i) (off_right (sorts_differ (known.traits i)) _ b) in
+          absurd (cc (sym off ∙ (kinds.types_differ i).1 x))
+
+  pub some_type : (i : ℕ) (e : Entry) → slice_get (entries d) i ≡ Some e → known.typeless i ≡ false → known.types (entry_node d i) ≡ Some types.NoType → ⊥
+  some_type i e is off none = ⊎_elim
+      (λ some. absurd (cc (sym off ∙ (kinds.typeless i).1 some)))
+      (λ x. alike i e is (record {
+        one = x.one;
+        other = x.other;
+        means_one = x.means_one;
+        means_other = x.means_other;
+        type_of_one = x.value_of_one;
+        type_of_other = x.value_of_other;
+        is_one = x.is_one;
+        is_other = x.is_other;
+        differ = x.differ;
+      }))
+      (agrees d known.types fact kinds.types both_same types_decide i types.NoType none)
 
   -- ---- expressions, where each name that the operation declares has a type
 
@@ -193,11 +199,11 @@ module _ (d : DescriptionTree) (known : Known) (kinds : AreKinds d known) (names
 
   module _ (o : ℕ) (ready : (n : List ℕ) (i : ℕ) → declared_at d o n ≡ Some i → IsKnown (known.types (entry_node d i))) where
     meant_typed : (n : List ℕ) (wrong : Meaning → Bool) → ((k : ℕ) (x : ResourceTree) → slice_get d.resources k ≡ Some x → wrong (meanings.Resource k) ≡ false → HasShape (word_shape (slice_get d.resources k)))
-        → ((i : ℕ) → wrong (meanings.Declared i) ≡ false → lacks_type (known.types (entry_node d i)) ≡ false) → is_something (meaning d o n) ≡ true → wrong (meaning d o n) ≡ false → HasShape (meant_type known.types d (meaning d o n))
+        → ((i : ℕ) → wrong (meanings.Declared i) ≡ false → known.typeless i ≡ false) → is_something (meaning d o n) ≡ true → wrong (meaning d o n) ≡ false → HasShape (meant_type known.types d (meaning d o n))
     meant_typed n wrong resource declared some right = by (declared_at d o n) (resource_at d n) refl refl some right
       where
         by : (x y : Option ℕ) → declared_at d o n ≡ x → resource_at d n ≡ y → is_something (meaning_of x y) ≡ true → wrong (meaning_of x y) ≡ false → HasShape (meant_type known.types d (meaning_of x y))
-        by (Some i) y at there s r = let e = entry_there o n i at in typed_of (known.types (entry_node d i)) (ready n i at) (entry_one i e.0 e.1) (declared i r)
+        by (Some i) y at there s r = let e = entry_there o n i at in typed_of (known.types (entry_node d i)) (ready n i at) (some_type i e.0 e.1 (declared i r))
         by None (Some k) at there s r = let x = resource_there n k there in resource k x.0 x.1 r
         by None None at there s r = absurd (cc s)
 
@@ -209,7 +215,7 @@ module _ (d : DescriptionTree) (known : Known) (kinds : AreKinds d known) (names
         by (Some local) k e = (local.shape, refl)
         by None k e =
             meant_typed n (meant_misread known d) (λ m x is f. word_of (slice_get d.resources m) x is f)
-            (λ i f. off_left (lacks_type (known.types (entry_node d i))) (is_apart (known.traits (entry_node d i))) f) k e
+            (λ i f. off_left (known.typeless i) (is_apart (known.traits i)) f) k e
 
     written_typed : (region : Region) (scope : Scope) (n : List ℕ) → Stands d (at o region scope (places.Writes n)) → HasShape (name_type known.types d o scope n)
     written_typed region scope n s =
@@ -219,7 +225,7 @@ module _ (d : DescriptionTree) (known : Known) (kinds : AreKinds d known) (names
         by (Some local) k e = (local.shape, refl)
         by None k e =
             meant_typed n (meant_miswritten known d) (λ m x is f. register_of (slice_get d.resources m) x is f)
-            (λ i f. off_left (lacks_type (known.types (entry_node d i))) _ f) k e
+            (λ i f. off_left (known.typeless i) _ f) k e
 
     meant_elements : (n : List ℕ) → is_something (meaning d o n) ≡ true → meant_misindexed known d (meaning d o n) ≡ false → HasShape (meant_element d (meaning d o n))
     meant_elements n some right = by (declared_at d o n) (resource_at d n) refl some right
@@ -279,27 +285,33 @@ module _ (d : DescriptionTree) (known : Known) (kinds : AreKinds d known) (names
     target_typed region scope (exprs.Two operator a b) s = expression_typed region scope (exprs.Two operator a b) s
     target_typed region scope (exprs.Choose c a b) s = expression_typed region scope (exprs.Choose c a b) s
 
+    -- in its expression no use is refused
+    unrefused : (e : ExprTree) → expression_in (sections_at d o) ≡ Some e → expression_type (apart known.traits) known.types d o (Some e) ≡ as_type (type_of known.types d o [] e)
+    unrefused e is =
+        unless (rests_on_refused (apart known.traits) d o e) (as_type (type_of known.types d o [] e))
+        (uses_fit d known uses_free (apart known.traits) (λ i f. off_right (known.typeless i) (is_apart (known.traits i)) f) o e (expression_stand d o e is))
+
     -- an operation of which each declared name has a type
     pub operation_known : o < length d.operations → IsKnown (known.types o)
     operation_known h = subst IsKnown (sym (operation_value o h)) (by (expression_in (sections_at d o)) refl)
       where
-        by : (r : Option ExprTree) → expression_in (sections_at d o) ≡ r → IsKnown (expression_type known.types d o r)
+        by : (r : Option ExprTree) → expression_in (sections_at d o) ≡ r → IsKnown (expression_type (apart known.traits) known.types d o r)
         by None is = (types.NoType, refl)
-        by (Some e) is = let t = expression_typed regions.Expression [] e (expression_stand d o e is) in (types.Typed t.0, ap as_type t.1)
+        by (Some e) is = let t = expression_typed regions.Expression [] e (expression_stand d o e is) in (types.Typed t.0, unrefused e is ∙ ap as_type t.1)
 
   -- ---- going up along the ranks
 
   module _ (ranks : Ranks d) where
     pub all_declared : (o : ℕ) (n : List ℕ) (i : ℕ) → declared_at d o n ≡ Some i → IsKnown (known.types (entry_node d i))
     all_declared o n i at =
-        all_settled d known names stand uses_free (type_fact d) (types_steady d) known.types kinds.types operation_known (λ c some each. choice_known d known.types c some each) ranks o n i at
+        all_settled d known names stand uses_free fact steady known.types kinds.types operation_known (λ c some each. choice_known d (apart known.traits) known.types c some each) ranks o n i at
 
     pub operation_typed : (o : ℕ) (e : ExprTree) → expression_in (sections_at d o) ≡ Some e → (s : Shape) × (type_of known.types d o [] e ≡ Some s) × (known.types o ≡ Some (types.Typed s))
     operation_typed o e is =
         let t = expression_typed o (all_declared o) regions.Expression [] e (expression_stand d o e is) in
         let k = expression_number (sections_at d o) e is in
         let h = has_section d o k.0 (trees.Expression e) k.1 in
-        (t.0, t.1, operation_value o (slice_get_within d.operations o h.operation h.is) ∙ ap (expression_type known.types d o) is ∙ ap as_type t.1)
+        (t.0, t.1, operation_value o (slice_get_within d.operations o h.operation h.is) ∙ ap (expression_type (apart known.traits) known.types d o) is ∙ unrefused o (all_declared o) e is ∙ ap as_type t.1)
 
   -- ---- a type comes from all that a name may mean
 
@@ -317,13 +329,13 @@ module _ (d : DescriptionTree) (known : Known) (kinds : AreKinds d known) (names
       by (Some e) at =
           let w : (e.what ≡ whats.Group c) ⊎ (e.what ≡ whats.Instance c) = ⊎_elim (λ f. inl (same_what e at (whats.Group c) f)) (λ f. inr (same_what e at (whats.Instance c) f)) which in
           let x = choice_there d known names stand uses_free i e at c w in
-          choice_typed d known.types c s (sym (choice_value c (slice_get_within (choices d) c x.0 x.1)) ∙ sym (child_value i e at c w) ∙ typed)
+          choice_typed d (apart known.traits) known.types c s (sym (choice_value c (slice_get_within (choices d) c x.0 x.1)) ∙ sym (child_value i e at c w) ∙ typed)
 
   pub reference_types : (i : ℕ) (e : Entry) (s : Shape) → slice_get (entries d) i ≡ Some e → e.what ≡ whats.Reference → known.types (entry_node d i) ≡ Some (types.Typed s)
       → (p : ℕ) → is_in p (above d e.operation) ≡ true → (j : ℕ) × (declared_at d p e.name ≡ Some j) × (known.types (entry_node d j) ≡ Some (types.Typed s))
   reference_types i e s is what typed p h =
-      let value : merged either_type (declared_value d known.types e.name) (above d e.operation) ≡ Some (types.Typed s) = sym (reference_is d known names stand uses_free (type_fact d) (types_steady d) known.types kinds.types i e is what) ∙ typed in
-      by (declared_at d p e.name) refl (merged_only either_type (types.Typed s) (λ x y f. either_typed x y s f) (declared_value d known.types e.name) (above d e.operation) value p h)
+      let value : merged both_types (declared_value d known.types e.name) (above d e.operation) ≡ Some (types.Typed s) = sym (reference_is d known names stand uses_free fact steady known.types kinds.types i e is what) ∙ typed in
+      by (declared_at d p e.name) refl (merged_only both_types (types.Typed s) (λ x y f. both_typed x y s f) (declared_value d known.types e.name) (above d e.operation) value p h)
     where
       by : (r : Option ℕ) → declared_at d p e.name ≡ r → value_at d known.types r ≡ Some (types.Typed s) → (j : ℕ) × (declared_at d p e.name ≡ Some j) × (known.types (entry_node d j) ≡ Some (types.Typed s))
       by None at f = absurd (cc f)

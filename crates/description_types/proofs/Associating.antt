@@ -23,17 +23,10 @@ last_ends : (s : Shape) (first : Bool) → both_types (cond first (types.Typed s
 last_ends s true = refl
 last_ends s false = refl
 
-last_mixed : (s : Shape) (first some : Bool) → both_types (cond first (types.Typed s) types.NoType) (types.Mixed some) ≡ types.NoType
-last_mixed s true some = refl
-last_mixed s false some = refl
-
 pub types_associate : (x y z : TypeOf) → both_types (both_types x y) z ≡ both_types x (both_types y z)
 types_associate types.NoType y z = refl
-types_associate (types.Mixed some) y z = refl
 types_associate (types.Typed s) types.NoType z = refl
-types_associate (types.Typed s) (types.Mixed some) z = refl
 types_associate (types.Typed s) (types.Typed t) types.NoType = last_ends s (same_shape s t)
-types_associate (types.Typed s) (types.Typed t) (types.Mixed some) = last_mixed s (same_shape s t) some
 types_associate (types.Typed s) (types.Typed t) (types.Typed u) = three_shapes s t u (same_shape s t) (same_shape t u) refl refl
 
 pub assignables_associate : (x y z : Assignable) → both_assignable (both_assignable x y) z ≡ both_assignable x (both_assignable y z)

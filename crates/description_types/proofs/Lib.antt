@@ -1,4 +1,8 @@
 pub mod ByNumber
 pub mod Merging
 pub mod Associating
-pub mod EachCoding
+pub mod EachEntry
+pub mod MeantMarks
+pub mod KnownMarks
+pub mod KnownTypes
+pub mod OneKnown

@@ -1,7 +1,5 @@
--- The types of operations, choices and declared names, whether they may be assigned, and how they may be used.
-use Rattle.std.specs.Prelude.{ℕ, Bool, true, false, [], Option, None, Some, cond, ◌&&◌, ◌||◌, not, nat_lt, length, slice_get}
-use Rattle.std.specs.Option.{is_some}
-use Rattle.std.specs.List.{list_any}
+-- The types of operations, choices and declared names, and whether they may be assigned.
+use Rattle.std.specs.Prelude.{ℕ, Bool, true, false, [], Option, None, Some, cond, slice_get}
 use Rattle.lisa_tree.specs.declared.tokens.Shape.{Shape}
 use Rattle.lisa_tree.specs.Expressions as exprs
 use Rattle.lisa_tree.specs.Expressions.{ExprTree}
@@ -9,19 +7,17 @@ use Rattle.lisa_tree.specs.Descriptions as trees
 use Rattle.lisa_tree.specs.Descriptions.{ResourceTree, DescriptionTree}
 use Rattle.description_names.specs.declared.declared.Meaning.{Meaning}
 use Rattle.description_names.specs.declared.declared.Meaning.TheVariants as meanings
-use Rattle.description_names.specs.Operations.{coding_in, expression_in, sections_at, own_stage, is_root}
-use Rattle.description_names.specs.Declarations.{alternatives_at, plain_at}
+use Rattle.description_names.specs.Operations.{expression_in, sections_at}
+use Rattle.description_names.specs.Declarations.{plain_at}
 use Rattle.description_names.specs.Meanings.{meaning}
 use Rattle.description_names.specs.Paths.{entry_node}
 use Rattle.description_types.specs.declared.values.TypeOf.{TypeOf}
 use Rattle.description_types.specs.declared.values.TypeOf.TheVariants as types
 use Rattle.description_types.specs.declared.values.Assignable.{Assignable}
 use Rattle.description_types.specs.declared.values.Assignable.TheVariants as assigns
-use Rattle.description_types.specs.declared.values.Traits.{Traits}
 use Rattle.description_types.specs.Shapes.{same_shape}
 use Rattle.description_types.specs.Types.{Types, type_of, meant_element}
-use Rattle.coded_names.specs.Codings.{is_coding}
-use Rattle.description_types.specs.declared.values.CodedName.{CodedName}
+use Rattle.description_types.specs.Refused.{is_refused, rests_on_refused}
 use Rattle.description_types.specs.Codings.{coding_at}
 use Rattle.description_types.specs.Facts.{Fact, known_together, any_open}
 
@@ -31,12 +27,12 @@ abbrev pub as_type : Option Shape → Option TypeOf
 as_type None = None
 as_type (Some shape) = Some (types.Typed shape)
 
--- An operation without an expression has no type; one whose expression is open has no value.
-abbrev pub expression_type : Types → DescriptionTree → ℕ → Option ExprTree → Option TypeOf
-expression_type known d o None = Some types.NoType
-expression_type known d o (Some e) = as_type (type_of known d o [] e)
+-- An operation without an expression has no type; one whose expression is open, or rests on a refused use, has no value.
+abbrev pub expression_type : (ℕ → Bool) → Types → DescriptionTree → ℕ → Option ExprTree → Option TypeOf
+expression_type unfit known d o None = Some types.NoType
+expression_type unfit known d o (Some e) = cond (rests_on_refused unfit d o e) None (as_type (type_of known d o [] e))
 
--- two alternatives of a choice have one type together where theirs are the same
+-- two alternatives of a choice, or two declarations that a reference may mean, have one type together where theirs are the same
 abbrev pub both_types : TypeOf → TypeOf → TypeOf
 both_types (types.Typed s) (types.Typed t) = cond (same_shape s t) (types.Typed s) types.NoType
 both_types _ _ = types.NoType
@@ -48,25 +44,13 @@ choice_type some_open (Some types.NoType) = Some types.NoType
 choice_type true _ = None
 choice_type false others = others
 
--- some declaration that is meant has no type
-abbrev pub lacks_type : TypeOf → Bool
-lacks_type types.NoType = true
-lacks_type (types.Typed s) = false
-lacks_type (types.Mixed some) = some
-
--- two declarations that a reference may mean
-abbrev pub either_type : TypeOf → TypeOf → TypeOf
-either_type types.NoType types.NoType = types.NoType
-either_type (types.Typed s) (types.Typed t) = cond (same_shape s t) (types.Typed s) (types.Mixed false)
-either_type x y = types.Mixed (lacks_type x || lacks_type y)
-
-abbrev pub type_fact : DescriptionTree → Fact TypeOf
-type_fact d = record {
-  of_operation = λ known o. expression_type known d o (expression_in (sections_at d o));
+abbrev pub type_fact : DescriptionTree → (ℕ → Bool) → Fact TypeOf
+type_fact d unfit = record {
+  of_operation = λ known o. expression_type unfit known d o (expression_in (sections_at d o));
   of_choice = λ known c. choice_type (any_open known (plain_at d c)) (known_together both_types known (plain_at d c));
   of_label = λ i. (coding_at d i).label;
   of_child = λ i value. value;
-  either = either_type;
+  either = both_types;
 }
 
 -- ---- what may be assigned
@@ -98,10 +82,10 @@ value_assignable known d o (exprs.Named n) = meant_assignable known d (meaning d
 value_assignable known d o (exprs.Element n index) = array_assignable (meant_element d (meaning d o n))
 value_assignable known d o _ = Some assigns.No
 
--- an operation without an expression may not
-abbrev pub expression_assignable : (ℕ → Option Assignable) → DescriptionTree → ℕ → Option ExprTree → Option Assignable
-expression_assignable known d o None = Some assigns.No
-expression_assignable known d o (Some e) = value_assignable known d o e
+-- an operation without an expression may not, and for one that is a refused use it is open
+abbrev pub expression_assignable : (ℕ → Bool) → (ℕ → Option Assignable) → DescriptionTree → ℕ → Option ExprTree → Option Assignable
+expression_assignable unfit known d o None = Some assigns.No
+expression_assignable unfit known d o (Some e) = cond (is_refused unfit d o e) None (value_assignable known d o e)
 
 abbrev pub both_assignable : Assignable → Assignable → Assignable
 both_assignable assigns.Yes assigns.Yes = assigns.Yes
@@ -118,61 +102,11 @@ either_assignable assigns.Yes assigns.Yes = assigns.Yes
 either_assignable assigns.No assigns.No = assigns.No
 either_assignable _ _ = assigns.Mixed
 
-abbrev pub assignable_fact : DescriptionTree → Fact Assignable
-assignable_fact d = record {
-  of_operation = λ known o. expression_assignable known d o (expression_in (sections_at d o));
+abbrev pub assignable_fact : DescriptionTree → (ℕ → Bool) → Fact Assignable
+assignable_fact d unfit = record {
+  of_operation = λ known o. expression_assignable unfit known d o (expression_in (sections_at d o));
   of_choice = λ known c. choice_assignable (any_open known (plain_at d c)) (known_together both_assignable known (plain_at d c));
   of_label = λ i. assigns.No;
   of_child = λ i value. value;
   either = either_assignable;
-}
-
--- ---- traits
-
-abbrev pub label_traits : Traits
-label_traits = record { label = true; child = false; staged = false; rooted = false; uncoded = false; misplaced = false; instructions = false }
-
--- of a choice, as of a child that stands in no coding
-abbrev pub choice_traits : DescriptionTree → ℕ → Traits
-choice_traits d c = record {
-  label = false;
-  child = true;
-  staged = list_any (λ o. is_some (own_stage d o)) (plain_at d c);
-  rooted = list_any (is_root d) (plain_at d c);
-  uncoded = nat_lt 1 (length (plain_at d c));
-  misplaced = list_any (λ o. is_coding (coding_in (sections_at d o))) (alternatives_at d c);
-  instructions = false;
-}
-
--- of a child of a choice, by how it stands in the coding of its own operation
-abbrev pub child_traits : CodedName → Traits → Traits
-child_traits name t = record {
-  label = t.label;
-  child = t.child;
-  staged = t.staged;
-  rooted = t.rooted;
-  uncoded = t.uncoded && not name.coded;
-  misplaced = t.misplaced && not name.coded;
-  instructions = name.instructions;
-}
-
--- of a reference that may mean two declarations
-abbrev pub either_traits : Traits → Traits → Traits
-either_traits s t = record {
-  label = s.label || t.label;
-  child = s.child || t.child;
-  staged = s.staged || t.staged;
-  rooted = s.rooted || t.rooted;
-  uncoded = s.uncoded || t.uncoded;
-  misplaced = s.misplaced || t.misplaced;
-  instructions = s.instructions || t.instructions;
-}
-
-abbrev pub traits_fact : DescriptionTree → Fact Traits
-traits_fact d = record {
-  of_operation = λ known o. None;
-  of_choice = λ known c. Some (choice_traits d c);
-  of_label = λ i. label_traits;
-  of_child = λ i t. child_traits (coding_at d i) t;
-  either = either_traits;
 }

@@ -2,7 +2,10 @@ pub mod Shapes
 pub mod Types
 pub mod Facts
 pub mod Codings
+pub mod Refused
 pub mod Kinds
+pub mod Uses
+pub mod Known
 pub mod Larger
 pub mod Ends
 pub mod Steady

@@ -1,4 +1,4 @@
--- The rules of types, of what may be assigned and of traits give more from a larger table.
+-- The rules of types and of what may be assigned give more from a larger table.
 use Rattle.std.proofs.Common.{◌≡◌, ◌⊎◌, ℕ, Bool, true, false, List, [], Option, None, Some, cond, nat_eq, refl, ap, ap₂, sym, ◌∙◌, inl, inr}
 use Rattle.std.proofs.lemmas.Bool.{and_parts, eqb-true}
 use Rattle.lisa_words.specs.declared.words.Kind.{Kind}
@@ -25,8 +25,9 @@ use Rattle.description_types.specs.declared.values.Assignable.{Assignable}
 use Rattle.description_types.specs.declared.values.Assignable.TheVariants as assigns
 use Rattle.description_types.specs.Shapes.{shape_of, same_kind, same_shape, joined, number_like, beside, paired}
 use Rattle.description_types.specs.Types.{Types, typed, meant_type, or_meant_type, two_type, type_of}
+use Rattle.description_types.specs.Refused.{is_refused, rests_on_refused}
 use Rattle.description_types.specs.Facts.{known_together, any_open, IsSteady}
-use Rattle.description_types.specs.Kinds.{as_type, expression_type, both_types, choice_type, type_fact, settled_assignable, meant_assignable, value_assignable, expression_assignable, both_assignable, choice_assignable, assignable_fact, traits_fact}
+use Rattle.description_types.specs.Kinds.{as_type, expression_type, both_types, choice_type, type_fact, settled_assignable, meant_assignable, value_assignable, expression_assignable, both_assignable, choice_assignable, assignable_fact}
 use Rattle.description_types.specs.Larger.{IsNarrowing, Less, none_less, same_less, strict_less, within_less, Grows, known_grows, all_known, least_stays}
 
 joined_less : (x y x' y' : Option Shape) → Less x x' → Less y y' → Less (joined x y) (joined x' y')
@@ -56,6 +57,11 @@ two_less operators.Or a b x y x' y' l m = paired_less a b x y x' y' l m
 two_less operators.Xor a b x y x' y' l m = paired_less a b x y x' y' l m
 two_less _ a b x y x' y' l m = same_less _
 
+-- what is open where a use is refused
+unless_refused : {T : Type 0} (refused : Bool) (x y : Option T) → Less x y → Less (cond refused None x) (cond refused None y)
+unless_refused true x y l = same_less _
+unless_refused false x y l = l
+
 module _ (d : DescriptionTree) (known table : Types) (within : IsWithin known table) where
   meant_less : (m : Meaning) → Less (meant_type known d m) (meant_type table d m)
   meant_less meanings.Nothing = same_less _
@@ -80,9 +86,9 @@ module _ (d : DescriptionTree) (known table : Types) (within : IsWithin known ta
   type_less o scope (exprs.Two operator a b) = two_less operator (literal a) (literal b) _ _ _ _ (type_less o scope a) (type_less o scope b)
   type_less o scope (exprs.Choose c a b) = paired_less (literal a) (literal b) _ _ _ _ (type_less o scope a) (type_less o scope b)
 
-  expression_less : (o : ℕ) (e : Option ExprTree) → Less (expression_type known d o e) (expression_type table d o e)
-  expression_less o None = same_less _
-  expression_less o (Some e) = strict_less as_type refl _ _ (type_less o [] e)
+  expression_less : (unfit : ℕ → Bool) (o : ℕ) (e : Option ExprTree) → Less (expression_type unfit known d o e) (expression_type unfit table d o e)
+  expression_less unfit o None = same_less _
+  expression_less unfit o (Some e) = unless_refused (rests_on_refused unfit d o e) _ _ (strict_less as_type refl _ _ (type_less o [] e))
 
 -- ---- alternatives of a type
 
@@ -108,21 +114,16 @@ second_or s t false e = inr refl
 left_type : (x y : TypeOf) → (both_types x y ≡ x) ⊎ (both_types x y ≡ types.NoType)
 left_type (types.Typed s) (types.Typed t) = first_or s (same_shape s t)
 left_type (types.Typed s) types.NoType = inr refl
-left_type (types.Typed s) (types.Mixed some) = inr refl
 left_type types.NoType y = inr refl
-left_type (types.Mixed some) y = inr refl
 
 right_type : (x y : TypeOf) → (both_types x y ≡ y) ⊎ (both_types x y ≡ types.NoType)
 right_type (types.Typed s) (types.Typed t) = second_or s t (same_shape s t) refl
 right_type (types.Typed s) types.NoType = inr refl
-right_type (types.Typed s) (types.Mixed some) = inr refl
 right_type types.NoType y = inr refl
-right_type (types.Mixed some) y = inr refl
 
 no_type_ends : (x : TypeOf) → both_types x types.NoType ≡ types.NoType
 no_type_ends (types.Typed s) = refl
 no_type_ends types.NoType = refl
-no_type_ends (types.Mixed some) = refl
 
 pub types_narrow : IsNarrowing both_types types.NoType
 types_narrow = record { left = left_type; right = right_type; ends = no_type_ends }
@@ -131,12 +132,11 @@ choice_type_less : (some_open still : Bool) (k m : Option TypeOf) → (some_open
 choice_type_less some_open still (Some types.NoType) m settled g = record { keeps = λ t e. ap (choice_type still) (least_stays types.NoType m g) ∙ e }
 choice_type_less true still None m settled g = none_less _
 choice_type_less true still (Some (types.Typed s)) m settled g = none_less _
-choice_type_less true still (Some (types.Mixed some)) m settled g = none_less _
 choice_type_less false still k m settled g = record { keeps = λ t e. ap₂ choice_type (settled refl).0 (sym (settled refl).1) ∙ e }
 
-pub types_steady : (d : DescriptionTree) → IsSteady (type_fact d)
-types_steady d = record {
-  operations = λ known table within o t e. (expression_less d known table within o (expression_in (sections_at d o))).keeps t e;
+pub types_steady : (d : DescriptionTree) (unfit : ℕ → Bool) → IsSteady (type_fact d unfit)
+types_steady d unfit = record {
+  operations = λ known table within o t e. (expression_less d known table within unfit o (expression_in (sections_at d o))).keeps t e;
   choices = λ known table within c t e.
       (choice_type_less (any_open known (plain_at d c)) (any_open table (plain_at d c)) (known_together both_types known (plain_at d c)) (known_together both_types table (plain_at d c))
       (all_known both_types known table (within_less known table within) (plain_at d c))
@@ -154,9 +154,9 @@ module _ (d : DescriptionTree) (known table : ℕ → Option Assignable) (within
   value_less o (exprs.Element n index) = same_less _
   value_less o _ = same_less _
 
-  assigned_less : (o : ℕ) (e : Option ExprTree) → Less (expression_assignable known d o e) (expression_assignable table d o e)
-  assigned_less o None = same_less _
-  assigned_less o (Some e) = value_less o e
+  assigned_less : (unfit : ℕ → Bool) (o : ℕ) (e : Option ExprTree) → Less (expression_assignable unfit known d o e) (expression_assignable unfit table d o e)
+  assigned_less unfit o None = same_less _
+  assigned_less unfit o (Some e) = unless_refused (is_refused unfit d o e) _ _ (value_less o e)
 
 -- ---- alternatives that may be assigned
 
@@ -189,17 +189,11 @@ choice_assignable_less true still (Some assigns.Yes) m settled g = none_less _
 choice_assignable_less true still (Some assigns.Mixed) m settled g = none_less _
 choice_assignable_less false still k m settled g = record { keeps = λ t e. ap₂ choice_assignable (settled refl).0 (sym (settled refl).1) ∙ e }
 
-pub assignables_steady : (d : DescriptionTree) → IsSteady (assignable_fact d)
-assignables_steady d = record {
-  operations = λ known table within o t e. (assigned_less d known table within o (expression_in (sections_at d o))).keeps t e;
+pub assignables_steady : (d : DescriptionTree) (unfit : ℕ → Bool) → IsSteady (assignable_fact d unfit)
+assignables_steady d unfit = record {
+  operations = λ known table within o t e. (assigned_less d known table within unfit o (expression_in (sections_at d o))).keeps t e;
   choices = λ known table within c t e.
       (choice_assignable_less (any_open known (plain_at d c)) (any_open table (plain_at d c)) (known_together both_assignable known (plain_at d c)) (known_together both_assignable table (plain_at d c))
       (all_known both_assignable known table (within_less known table within) (plain_at d c))
       (known_grows both_assignable assigns.No assignables_narrow known table (within_less known table within) (plain_at d c))).keeps t e;
-}
-
-pub traits_steady : (d : DescriptionTree) → IsSteady (traits_fact d)
-traits_steady d = record {
-  operations = λ known table within o t e. e;
-  choices = λ known table within c t e. e;
 }

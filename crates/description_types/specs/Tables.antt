@@ -1,44 +1,113 @@
--- The values of all nodes: exactly those that follow. An open node has none.
-use Rattle.std.specs.Prelude.{ℕ, ◌≡◌, ◌↔◌, List, Option, Some}
+-- What is known of operations, choices and declared names. An open node has no value.
+use Rattle.std.specs.Prelude.{ℕ, ◌≡◌, ◌≢◌, ◌↔◌, ◌||◌, Bool, true, List, Option, Some}
 use Rattle.lisa_tree.specs.Descriptions.{DescriptionTree}
+use Rattle.description_names.specs.Paths.{entry_node}
+use Rattle.graph_paths.specs.Paths.{saw}
 use Rattle.least_fixed_points.specs.Settles.{entry, Settles}
+use Rattle.meant_declarations.specs.Meant.{MayMean, SomeMeant}
 use Rattle.description_types.specs.declared.values.TypeOf.{TypeOf}
+use Rattle.description_types.specs.declared.values.TypeOf.TheVariants as types
 use Rattle.description_types.specs.declared.values.Assignable.{Assignable}
+use Rattle.description_types.specs.declared.values.Assignable.TheVariants as assigns
+use Rattle.description_types.specs.declared.values.Trait.{Trait}
 use Rattle.description_types.specs.declared.values.Traits.{Traits}
+use Rattle.description_types.specs.Refused.{is_apart}
 use Rattle.description_types.specs.Facts.{Fact, follows}
-use Rattle.description_types.specs.Kinds.{type_fact, assignable_fact, traits_fact}
+use Rattle.description_types.specs.Kinds.{type_fact, assignable_fact}
+use Rattle.description_types.specs.Uses.{holds, own_traits, TraitMarks, traits_by}
 
 -- exactly the values that nodes have
 abbrev pub AreValues : {T : Type 0} → DescriptionTree → Fact T → (ℕ → Option T) → Type 0
 AreValues {T = T} d fact known = (a : ℕ) (t : T) → (known a ≡ Some t) ↔ Settles (follows d fact) a t
 
-abbrev pub AreTypes : DescriptionTree → (ℕ → Option TypeOf) → Type 0
-AreTypes d known = AreValues d (type_fact d) known
+-- the names that may mean a declaration of which this holds
+abbrev pub AreMeant : DescriptionTree → (ℕ → Type 0) → (ℕ → Bool) → Type 0
+AreMeant d P marks = (i : ℕ) → (marks i ≡ true) ↔ SomeMeant d P i
 
-abbrev pub AreAssignables : DescriptionTree → (ℕ → Option Assignable) → Type 0
-AreAssignables d known = AreValues d (assignable_fact d) known
+abbrev pub AreTraits : DescriptionTree → (ℕ → Traits) → Type 0
+AreTraits d traits = (q : Trait) → AreMeant d (λ j. holds q (own_traits d j) ≡ true) (λ i. holds q (traits i))
 
-abbrev pub AreTraits : DescriptionTree → (ℕ → Option Traits) → Type 0
-AreTraits d known = AreValues d (traits_fact d) known
+-- which declared names may be no value, by their traits alone
+abbrev pub apart : (ℕ → Traits) → ℕ → Bool
+apart traits i = is_apart (traits i)
 
--- what is known of all nodes
+abbrev pub AreTypes : DescriptionTree → (ℕ → Traits) → (ℕ → Option TypeOf) → Type 0
+AreTypes d traits known = AreValues d (type_fact d (apart traits)) known
+
+-- the declaration has no type
+abbrev pub LacksType : DescriptionTree → (ℕ → Option TypeOf) → ℕ → Type 0
+LacksType d known j = known (entry_node d j) ≡ Some types.NoType
+
+-- two declarations that a name may mean have different types; no type differs from every type
+pub record DifferInType (d : DescriptionTree) (known : ℕ → Option TypeOf) (i : ℕ) : Type 0 where
+  pub one : ℕ
+  pub other : ℕ
+  pub means_one : MayMean d i one
+  pub means_other : MayMean d i other
+  pub type_of_one : TypeOf
+  pub type_of_other : TypeOf
+  pub is_one : known (entry_node d one) ≡ Some type_of_one
+  pub is_other : known (entry_node d other) ≡ Some type_of_other
+  pub differ : type_of_one ≢ type_of_other
+
+-- which declared names may be no value: those that are apart, and those without a type
+abbrev pub unfit : (ℕ → Traits) → (ℕ → Bool) → ℕ → Bool
+unfit traits typeless i = typeless i || is_apart (traits i)
+
+abbrev pub AreAssignables : DescriptionTree → (ℕ → Traits) → (ℕ → Bool) → (ℕ → Option Assignable) → Type 0
+AreAssignables d traits typeless known = AreValues d (assignable_fact d (unfit traits typeless)) known
+
+-- the declaration may be assigned, or not
+abbrev pub MayAssign : DescriptionTree → (ℕ → Option Assignable) → ℕ → Type 0
+MayAssign d known j = known (entry_node d j) ≡ Some assigns.Yes
+
+abbrev pub MayNotAssign : DescriptionTree → (ℕ → Option Assignable) → ℕ → Type 0
+MayNotAssign d known j = known (entry_node d j) ≡ Some assigns.No
+
+-- of two declarations that a name may mean, one may be assigned and one may not
+abbrev pub DifferInAssigning : DescriptionTree → (ℕ → Option Assignable) → ℕ → Type 0
+DifferInAssigning d known i = SomeMeant d (MayAssign d known) i × SomeMeant d (MayNotAssign d known) i
+
 pub record Known : Type 0 where
+  -- of nodes
   pub types : ℕ → Option TypeOf
   pub assignables : ℕ → Option Assignable
-  pub traits : ℕ → Option Traits
+  -- of declared names, by their numbers: what holds of some declaration that the name may mean
+  pub traits : ℕ → Traits
+  pub typeless : ℕ → Bool
+  pub unassignable : ℕ → Bool
+  -- what two such declarations differ in
+  pub types_differ : ℕ → Bool
+  pub assignables_differ : ℕ → Bool
 
 -- exactly what holds of them
 pub record AreKinds (d : DescriptionTree) (known : Known) : Type 0 where
-  pub types : AreTypes d known.types
-  pub assignables : AreAssignables d known.assignables
   pub traits : AreTraits d known.traits
+  pub types : AreTypes d known.traits known.types
+  pub typeless : AreMeant d (LacksType d known.types) known.typeless
+  pub types_differ : (i : ℕ) → (known.types_differ i ≡ true) ↔ DifferInType d known.types i
+  pub assignables : AreAssignables d known.traits known.typeless known.assignables
+  pub unassignable : AreMeant d (MayNotAssign d known.assignables) known.unassignable
+  pub assignables_differ : (i : ℕ) → (known.assignables_differ i ≡ true) ↔ DifferInAssigning d known.assignables i
 
--- tables with an entry for each node
+-- tables with an entry for each node, and some with one for each declared name
 pub record Tables : Type 0 where
   pub types : List (Option TypeOf)
   pub assignables : List (Option Assignable)
-  pub traits : List (Option Traits)
+  pub traits : TraitMarks
+  pub typeless : List Bool
+  pub unassignable : List Bool
+  pub types_differ : List Bool
+  pub assignables_differ : List Bool
 
 -- what tables say
 abbrev pub known_by : Tables → Known
-known_by t = record { types = entry t.types; assignables = entry t.assignables; traits = entry t.traits }
+known_by t = record {
+  types = entry t.types;
+  assignables = entry t.assignables;
+  traits = traits_by t.traits;
+  typeless = saw t.typeless;
+  unassignable = saw t.unassignable;
+  types_differ = saw t.types_differ;
+  assignables_differ = saw t.assignables_differ;
+}

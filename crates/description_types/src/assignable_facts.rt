@@ -11,6 +11,8 @@ ghost use Rattle.description_types.specs.Steady.{assignables_steady};
 use crate::bases::add_named;
 use crate::facts::Facts;
 use crate::lookups::{any_open, known_entry, known_operation, resource, sections};
+use crate::meant::Property;
+use crate::refused::is_refused;
 use crate::types::meant_element;
 use crate::values::Assignable;
 use description_names::{Meaning, Names, expression};
@@ -19,8 +21,10 @@ use std::alloc::AllocError;
 
 /// The rules of what may be assigned.
 #[derive(Drop)]
-pub struct AssignableFacts<'a, N> {
+pub struct AssignableFacts<'a, N, P> {
     pub names: &'a N,
+    /// Which declared names may be no value.
+    pub unfit: &'a P,
 }
 
 fn resource_assignable(resource: Option<&Resource>) -> Option<Assignable>
@@ -87,17 +91,23 @@ fn value_assignable<N: Names>(
 }
 
 // Whether an operation's expression may be assigned.
-fn expression_assignable<N: Names>(
+fn expression_assignable<N: Names, P: Property>(
     names: &N,
+    unfit: &P,
     table: &[Option<Assignable>],
     operation: usize,
     expression: Option<&Expr>,
 ) -> Option<Assignable>
-    ensures { result ≡ expression_assignable (entry table.now) (N.tree names.now) operation (option_map (λ e. expr_tree e.now) expression.entry) }
+    ensures { result ≡ expression_assignable (P.holds unfit.now) (entry table.now) (N.tree names.now) operation (option_map (λ e. expr_tree e.now) expression.entry) }
 {
     match expression {
         None => Some(Assignable::No),
-        Some(expression) => value_assignable(names, table, operation, expression),
+        Some(expression) => {
+            if is_refused(names, unfit, operation, expression) {
+                return None;
+            }
+            value_assignable(names, table, operation, expression)
+        }
     }
 }
 
@@ -155,12 +165,18 @@ fn choice_assignable(some_open: bool, others: Option<Assignable>) -> Option<Assi
     }
 }
 
-impl<'a, N: Names> Facts<Assignable> for AssignableFacts<'a, N> {
-    ghost fact = { λ c. assignable_fact (N.tree c.names.now) };
+impl<'a, N: Names, P: Property> Facts<Assignable> for AssignableFacts<'a, N, P> {
+    ghost fact = { λ c. assignable_fact (N.tree c.names.now) (P.holds c.unfit.now) };
 
     fn of_operation(&self, table: &[Option<Assignable>], operation: usize) -> Option<Assignable> {
         let sections = sections(self.names, operation);
-        expression_assignable(self.names, table, operation, expression(sections))
+        expression_assignable(
+            self.names,
+            self.unfit,
+            table,
+            operation,
+            expression(sections),
+        )
     }
 
     fn of_choice(&self, table: &[Option<Assignable>], choice: usize) -> Option<Assignable> {
@@ -191,5 +207,5 @@ impl<'a, N: Names> Facts<Assignable> for AssignableFacts<'a, N> {
         self.names.plain_at(choice)
     }
 
-    ghost steady = { λ c. assignables_steady (N.tree c.names.now) };
+    ghost steady = { λ c. assignables_steady (N.tree c.names.now) (P.holds c.unfit.now) };
 }

@@ -1,43 +1,57 @@
-//! The kinds of a description's nodes, found out once.
+//! The kinds of a description's nodes and declared names, found out once.
 
-ghost use Rattle.std.specs.Prelude.{◌≡◌, IfOk};
+ghost use Rattle.std.specs.Prelude.{◌≡◌, ◌↔◌, ◌<◌, ◌&&◌, ℕ, length, true, IfOk};
+ghost use Rattle.graph_paths.specs.Paths.{saw};
+ghost use Rattle.least_fixed_points.specs.Settles.{entry};
+ghost use Rattle.description_names.specs.Declarations.{entries};
 ghost use Rattle.description_names.specs.Paths.{entry_node, node_count};
 ghost use Rattle.lisa_tree.specs.Expressions.{expr_tree};
+ghost use Rattle.meant_declarations.specs.Meanings.{AreMeanings};
 ghost use Rattle.description_types.specs.Types.{type_of};
-ghost use Rattle.description_types.specs.Tables.{Tables, known_by, AreKinds};
+ghost use Rattle.description_types.specs.Codings.{AreCodings};
+ghost use Rattle.description_types.specs.Uses.{traits_by};
+ghost use Rattle.description_types.specs.Tables.{AreMeant, AreTypes, LacksType, DifferInType, AreAssignables, MayAssign, MayNotAssign, Tables, known_by, AreKinds};
 
 use crate::assignable_facts::AssignableFacts;
 use crate::bases::order;
 use crate::codings::codings;
 use crate::facts::{Facts, Following};
-use crate::lookups::{known_entry, operation_count};
-use crate::trait_facts::TraitFacts;
+use crate::lookups::{known_entry, mark_at, operation_count};
+use crate::meant::some_meant;
 use crate::type_facts::TypeFacts;
 use crate::types::type_of;
-use crate::values::{Assignable, Traits, TypeOf};
+use crate::unfit::{Apart, Assigned, Typeless, Unfit};
+use crate::uses::UseTables;
+use crate::values::{Assignable, CodedName, Traits, TypeOf};
 use description_names::Names;
 use description_places::Scope;
 use least_fixed_points::settle_along;
 use lisa_tree::{Expr, Shape};
 use lisa_words::NoMemory;
-use std::alloc::Global;
+use meant_declarations::Meanings;
+use std::alloc::{AllocError, Global};
 use std::marker::Model;
 
-/// What is found out about operations, choices and declared names: an entry for each node, in the order of their numbers. A node whose
-/// value would rest on itself has none.
+/// What is found out about operations, choices and declared names. A node whose value would rest on itself has none, and what holds of a
+/// declared name holds of some declaration that it may mean.
 ///
-/// Contracts see it as its three tables.
+/// Contracts see it as its tables: two with an entry for each node, in the order of their numbers, and some with one for each declared
+/// name.
 #[derive(Drop)]
 pub struct Kinds {
     types: Vec<Option<TypeOf>>,
     assignables: Vec<Option<Assignable>>,
-    traits: Vec<Option<Traits>>,
+    uses: UseTables,
+    typeless: Vec<bool>,
+    unassignable: Vec<bool>,
+    types_differ: Vec<bool>,
+    assignables_differ: Vec<bool>,
 }
 
 impl Model for Kinds {
     ghost Value = { Tables };
 
-    ghost view = { λ k. record { types = k.types.items; assignables = k.assignables.items; traits = k.traits.items } };
+    ghost view = { λ k. record { types = k.types.items; assignables = k.assignables.items; traits = k.uses; typeless = k.typeless.items; unassignable = k.unassignable.items; types_differ = k.types_differ.items; assignables_differ = k.assignables_differ.items } };
 }
 
 // How many nodes there are. As many as no table holds are answered as want of memory.
@@ -53,42 +67,178 @@ fn node_count<N: Names>(names: &N) -> Result<usize, NoMemory>
     }
 }
 
+// The types of all nodes.
+fn types<N: Names>(
+    alloc: Global,
+    names: &N,
+    codings: &[CodedName],
+    uses: &UseTables,
+) -> Result<Vec<Option<TypeOf>>, NoMemory>
+    requires { AreCodings (N.tree names.now) codings.now }
+    ensures { IfOk result (λ types. AreTypes (N.tree names.now) (traits_by uses.now) (entry types.items)) }
+{
+    let count = node_count(names)?;
+    let unfit = Apart { uses };
+    let facts = TypeFacts {
+        names,
+        unfit: &unfit,
+        codings,
+        no_locals: Scope::new(alloc),
+    };
+    let rule = Following {
+        names,
+        facts: &facts,
+    };
+    let types = settle_along(alloc, &rule, count, &order(alloc, &rule, count)?)?;
+    Ok(types)
+}
+
+// Whether nodes may be assigned.
+fn assignables<N: Names>(
+    alloc: Global,
+    names: &N,
+    uses: &UseTables,
+    typeless: &[bool],
+) -> Result<Vec<Option<Assignable>>, NoMemory>
+    ensures { IfOk result (λ assignables. AreAssignables (N.tree names.now) (traits_by uses.now) (saw typeless.now) (entry assignables.items)) }
+{
+    let count = node_count(names)?;
+    let unfit = Unfit { uses, typeless };
+    let facts = AssignableFacts {
+        names,
+        unfit: &unfit,
+    };
+    let rule = Following {
+        names,
+        facts: &facts,
+    };
+    let assignables = settle_along(alloc, &rule, count, &order(alloc, &rule, count)?)?;
+    Ok(assignables)
+}
+
+// The types of the declared names alone.
+fn declared_types<N: Names>(
+    alloc: Global,
+    names: &N,
+    types: &[Option<TypeOf>],
+) -> Result<Vec<Option<TypeOf>>, AllocError>
+    ensures length { IfOk result (λ declared. length declared.items ≡ length (entries (N.tree names.now))) }
+    ensures exact { IfOk result (λ declared. (i : ℕ) → i < length (entries (N.tree names.now)) → entry declared.items i ≡ entry types.now (entry_node (N.tree names.now) i)) }
+{
+    let mut declared = Vec::new(alloc);
+    for entry in 0..names.entry_count() {
+        declared.push(known_entry(names, types, entry))?;
+    }
+    Ok(declared)
+}
+
+// Which declared names may mean declarations of different types.
+fn differ_in_type<N: Names>(
+    alloc: Global,
+    names: &N,
+    meanings: &Meanings,
+    types: &[Option<TypeOf>],
+) -> Result<Vec<bool>, NoMemory>
+    requires { AreMeanings (N.tree names.now) meanings.now }
+    ensures { IfOk result (λ marks. (i : ℕ) → (saw marks.items i ≡ true) ↔ DifferInType (N.tree names.now) (entry types.now) i) }
+{
+    let declared = declared_types(alloc, names, types)?;
+    let marks = meanings.differ(alloc, names, &declared)?;
+    Ok(marks)
+}
+
+// Which declared names may mean a declaration that has no type.
+fn typeless<N: Names>(
+    alloc: Global,
+    names: &N,
+    meanings: &Meanings,
+    types: &[Option<TypeOf>],
+) -> Result<Vec<bool>, NoMemory>
+    requires { AreMeanings (N.tree names.now) meanings.now }
+    ensures { IfOk result (λ marks. AreMeant (N.tree names.now) (LacksType (N.tree names.now) (entry types.now)) (saw marks.items)) }
+{
+    let marks = some_meant(alloc, names, meanings, &Typeless { names, types })?;
+    Ok(marks)
+}
+
+// Which declared names may mean a declaration that may be assigned.
+fn assignable<N: Names>(
+    alloc: Global,
+    names: &N,
+    meanings: &Meanings,
+    assignables: &[Option<Assignable>],
+) -> Result<Vec<bool>, NoMemory>
+    requires { AreMeanings (N.tree names.now) meanings.now }
+    ensures { IfOk result (λ marks. AreMeant (N.tree names.now) (MayAssign (N.tree names.now) (entry assignables.now)) (saw marks.items)) }
+{
+    let assigned = Assigned {
+        names,
+        assignables,
+        may: true,
+    };
+    let marks = some_meant(alloc, names, meanings, &assigned)?;
+    Ok(marks)
+}
+
+// Which declared names may mean one that may not.
+fn unassignable<N: Names>(
+    alloc: Global,
+    names: &N,
+    meanings: &Meanings,
+    assignables: &[Option<Assignable>],
+) -> Result<Vec<bool>, NoMemory>
+    requires { AreMeanings (N.tree names.now) meanings.now }
+    ensures { IfOk result (λ marks. AreMeant (N.tree names.now) (MayNotAssign (N.tree names.now) (entry assignables.now)) (saw marks.items)) }
+{
+    let assigned = Assigned {
+        names,
+        assignables,
+        may: false,
+    };
+    let marks = some_meant(alloc, names, meanings, &assigned)?;
+    Ok(marks)
+}
+
+fn is_in_both(left: &[bool], right: &[bool], entry: usize) -> bool
+    ensures { result ≡ (saw left.now entry && saw right.now entry) }
+{
+    mark_at(left, entry) && mark_at(right, entry)
+}
+
+// What two tables of marks have in common.
+fn both(alloc: Global, left: &[bool], right: &[bool]) -> Result<Vec<bool>, AllocError>
+    ensures { IfOk result (λ marks. (i : ℕ) → saw marks.items i ≡ (saw left.now i && saw right.now i)) }
+{
+    let mut marks = Vec::new(alloc);
+    for entry in 0..left.len() {
+        marks.push(is_in_both(left, right, entry))?;
+    }
+    Ok(marks)
+}
+
 impl Kinds {
     /// Finds them out.
     pub fn make<N: Names>(alloc: Global, names: &N) -> Result<Kinds, NoMemory>
         ensures { IfOk result (λ kinds. AreKinds (N.tree names.now) (known_by kinds)) }
     {
-        let count = node_count(names)?;
         let codings = codings(alloc, names)?;
-        let facts = TypeFacts {
-            names,
-            codings: &codings,
-            no_locals: Scope::new(alloc),
-        };
-        let rule = Following {
-            names,
-            facts: &facts,
-        };
-        let types = settle_along(alloc, &rule, count, &order(alloc, &rule, count)?)?;
-        let facts = AssignableFacts { names };
-        let rule = Following {
-            names,
-            facts: &facts,
-        };
-        let assignables = settle_along(alloc, &rule, count, &order(alloc, &rule, count)?)?;
-        let facts = TraitFacts {
-            names,
-            codings: &codings,
-        };
-        let rule = Following {
-            names,
-            facts: &facts,
-        };
-        let traits = settle_along(alloc, &rule, count, &order(alloc, &rule, count)?)?;
+        let meanings = Meanings::make(alloc, names)?;
+        let uses = UseTables::make(alloc, names, &codings, &meanings)?;
+        let types = types(alloc, names, &codings, &uses)?;
+        let typeless = typeless(alloc, names, &meanings, &types)?;
+        let types_differ = differ_in_type(alloc, names, &meanings, &types)?;
+        let assignables = assignables(alloc, names, &uses, &typeless)?;
+        let assignable = assignable(alloc, names, &meanings, &assignables)?;
+        let unassignable = unassignable(alloc, names, &meanings, &assignables)?;
+        let assignables_differ = both(alloc, &assignable, &unassignable)?;
         Ok(Kinds {
             types,
             assignables,
-            traits,
+            uses,
+            typeless,
+            unassignable,
+            types_differ,
+            assignables_differ,
         })
     }
 
@@ -112,17 +262,38 @@ impl Kinds {
         known_entry(names, &self.types, entry)
     }
 
-    /// Whether a declared name may be assigned.
-    pub fn assignable_at<N: Names>(&self, names: &N, entry: usize) -> Option<Assignable>
-        ensures { result ≡ (known_by self.now).assignables (entry_node (N.tree names.now) entry) }
+    /// How a declared name may be used.
+    pub fn traits_at(&self, entry: usize) -> Traits
+        ensures { result ≡ (known_by self.now).traits entry }
     {
-        known_entry(names, &self.assignables, entry)
+        self.uses.at(entry)
     }
 
-    /// How a declared name may be used.
-    pub fn traits_at<N: Names>(&self, names: &N, entry: usize) -> Option<Traits>
-        ensures { result ≡ (known_by self.now).traits (entry_node (N.tree names.now) entry) }
+    /// Whether some declaration that a name may mean has no type.
+    pub fn is_typeless(&self, entry: usize) -> bool
+        ensures { result ≡ (known_by self.now).typeless entry }
     {
-        known_entry(names, &self.traits, entry)
+        mark_at(&self.typeless, entry)
+    }
+
+    /// Whether some declaration that a name may mean may not be assigned.
+    pub fn is_unassignable(&self, entry: usize) -> bool
+        ensures { result ≡ (known_by self.now).unassignable entry }
+    {
+        mark_at(&self.unassignable, entry)
+    }
+
+    /// Whether declarations that a name may mean have different types, where having none differs from every type.
+    pub fn types_differ(&self, entry: usize) -> bool
+        ensures { result ≡ (known_by self.now).types_differ entry }
+    {
+        mark_at(&self.types_differ, entry)
+    }
+
+    /// Whether of the declarations that a name may mean one may be assigned and one may not.
+    pub fn assignables_differ(&self, entry: usize) -> bool
+        ensures { result ≡ (known_by self.now).assignables_differ entry }
+    {
+        mark_at(&self.assignables_differ, entry)
     }
 }

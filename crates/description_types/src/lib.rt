@@ -7,10 +7,13 @@ mod codings;
 mod facts;
 mod kinds;
 mod lookups;
+mod meant;
+mod refused;
 mod shapes;
-mod trait_facts;
 mod type_facts;
 mod types;
+mod unfit;
+mod uses;
 mod values;
 
 pub use facts::{Facts, Following};
@@ -18,7 +21,9 @@ pub use kinds::Kinds;
 pub use lookups::{
     known_choice, known_entry, known_operation, operation_count, operation_name, resource, sections,
 };
+pub use meant::Property;
+pub use refused::{are_apart, is_apart, is_pipeline, may_input};
 pub use shapes::{beside, number_shape};
-pub use trait_facts::is_root;
 pub use types::{element_type, literal, name_type, type_of, typed};
-pub use values::{Assignable, CodedName, Traits, TypeOf};
+pub use uses::is_root;
+pub use values::{Assignable, CodedName, Trait, Traits, TypeOf};

@@ -4,6 +4,7 @@ ghost use Rattle.std.specs.Prelude.{◌≡◌, ◌+◌, length, map, option_map,
 ghost use Rattle.lisa_tree.specs.Descriptions.{resource_tree, section_tree};
 ghost use Rattle.description_names.specs.Operations.{name_at, sections_at};
 ghost use Rattle.description_names.specs.Paths.{choice_node, entry_node};
+ghost use Rattle.graph_paths.specs.Paths.{saw};
 ghost use Rattle.least_fixed_points.specs.Settles.{entry};
 ghost use Rattle.description_types.specs.Facts.{any_open};
 
@@ -120,5 +121,17 @@ pub fn known_entry<T: Copy, N: Names>(names: &N, table: &[Option<T>], number: us
     match operation_count(names).checked_add(names.choice_count()) {
         Some(base) => known(table, base, number),
         None => None,
+    }
+}
+
+/// A mark of a declared name, by a table. There is none past its end.
+#[tactic(auto, using(graph_paths::proofs::Seen::saw_at, graph_paths::proofs::Seen::saw_past))]
+pub(crate) fn mark_at(marks: &[bool], entry: usize) -> bool
+    ensures { result ≡ saw marks.now entry }
+{
+    if entry < marks.len() {
+        marks[entry]
+    } else {
+        false
     }
 }

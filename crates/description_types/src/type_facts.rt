@@ -4,7 +4,7 @@ ghost use Rattle.std.specs.Prelude.{◌≡◌, [], option_map};
 ghost use Rattle.lisa_tree.specs.Expressions.{expr_tree};
 ghost use Rattle.least_fixed_points.specs.Settles.{entry};
 ghost use Rattle.description_types.specs.Facts.{added, known_together};
-ghost use Rattle.description_types.specs.Kinds.{as_type, expression_type, both_types, choice_type, lacks_type, either_type, type_fact};
+ghost use Rattle.description_types.specs.Kinds.{as_type, expression_type, both_types, choice_type, type_fact};
 ghost use Rattle.description_types.specs.Codings.{AreCodings};
 ghost use Rattle.description_types.specs.Steady.{types_steady};
 
@@ -12,6 +12,8 @@ use crate::bases::add_typed;
 use crate::codings::coding_at;
 use crate::facts::Facts;
 use crate::lookups::{any_open, known_operation, sections};
+use crate::meant::Property;
+use crate::refused::rests_on_refused;
 use crate::shapes::same_shape;
 use crate::types::type_of;
 use crate::values::{CodedName, TypeOf};
@@ -22,8 +24,10 @@ use std::alloc::AllocError;
 
 /// The rules of types.
 #[derive(Drop)]
-pub struct TypeFacts<'a, N: Names> {
+pub struct TypeFacts<'a, N: Names, P> {
     pub names: &'a N,
+    /// Which declared names may be no value.
+    pub unfit: &'a P,
     /// How declared names stand in codings.
     pub codings: &'a [CodedName],
     /// No locals are in scope in an operation's expression.
@@ -42,23 +46,29 @@ fn as_type(shape: Option<Shape>) -> Option<TypeOf>
 }
 
 // The type of an operation, by its expression.
-fn expression_type<N: Names>(
+fn expression_type<N: Names, P: Property>(
     names: &N,
+    unfit: &P,
     table: &[Option<TypeOf>],
     operation: usize,
     no_locals: &Scope,
     expression: Option<&Expr>,
 ) -> Option<TypeOf>
     requires { no_locals.now ≡ [] }
-    ensures { result ≡ expression_type (entry table.now) (N.tree names.now) operation (option_map (λ e. expr_tree e.now) expression.entry) }
+    ensures { result ≡ expression_type (P.holds unfit.now) (entry table.now) (N.tree names.now) operation (option_map (λ e. expr_tree e.now) expression.entry) }
 {
     match expression {
         None => Some(TypeOf::NoType),
-        Some(expression) => as_type(type_of(names, table, operation, no_locals, expression)),
+        Some(expression) => {
+            if rests_on_refused(names, unfit, operation, expression) {
+                return None;
+            }
+            as_type(type_of(names, table, operation, no_locals, expression))
+        }
     }
 }
 
-// The type that two alternatives of a choice have together.
+// The type that two alternatives of a choice, or two declarations that a reference may mean, have together.
 fn both_types(left: TypeOf, right: TypeOf) -> TypeOf
     ensures { result ≡ both_types left right }
 {
@@ -71,34 +81,6 @@ fn both_types(left: TypeOf, right: TypeOf) -> TypeOf
             }
         }
         _ => TypeOf::NoType,
-    }
-}
-
-// Whether some declaration that is meant has no type.
-fn lacks_type(value: TypeOf) -> bool
-    ensures { result ≡ lacks_type value }
-{
-    match value {
-        TypeOf::NoType => true,
-        TypeOf::Typed(_) => false,
-        TypeOf::Mixed(some) => some,
-    }
-}
-
-// The type of a reference that may mean two declarations.
-fn either_type(left: TypeOf, right: TypeOf) -> TypeOf
-    ensures { result ≡ either_type left right }
-{
-    match (left, right) {
-        (TypeOf::NoType, TypeOf::NoType) => TypeOf::NoType,
-        (TypeOf::Typed(one), TypeOf::Typed(other)) => {
-            if same_shape(one, other) {
-                TypeOf::Typed(one)
-            } else {
-                TypeOf::Mixed(false)
-            }
-        }
-        _ => TypeOf::Mixed(lacks_type(left) || lacks_type(right)),
     }
 }
 
@@ -135,13 +117,14 @@ fn choice_type(some_open: bool, others: Option<TypeOf>) -> Option<TypeOf>
     }
 }
 
-impl<'a, N: Names> Facts<TypeOf> for TypeFacts<'a, N> {
-    ghost fact = { λ c. type_fact (N.tree c.names.now) };
+impl<'a, N: Names, P: Property> Facts<TypeOf> for TypeFacts<'a, N, P> {
+    ghost fact = { λ c. type_fact (N.tree c.names.now) (P.holds c.unfit.now) };
 
     fn of_operation(&self, table: &[Option<TypeOf>], operation: usize) -> Option<TypeOf> {
         let sections = sections(self.names, operation);
         expression_type(
             self.names,
+            self.unfit,
             table,
             operation,
             &self.no_locals,
@@ -163,7 +146,7 @@ impl<'a, N: Names> Facts<TypeOf> for TypeFacts<'a, N> {
     }
 
     fn either(&self, left: TypeOf, right: TypeOf) -> TypeOf {
-        either_type(left, right)
+        both_types(left, right)
     }
 
     fn add_bases(&self, operation: usize, into: &mut Vec<usize>) -> Result<(), AllocError> {
@@ -177,5 +160,5 @@ impl<'a, N: Names> Facts<TypeOf> for TypeFacts<'a, N> {
         self.names.plain_at(choice)
     }
 
-    ghost steady = { λ c. types_steady (N.tree c.names.now) };
+    ghost steady = { λ c. types_steady (N.tree c.names.now) (P.holds c.unfit.now) };
 }

@@ -5,11 +5,9 @@ use lisa_tree::Shape;
 /// The type of what an expression, a child or a label stands for.
 #[derive(Clone, Copy, Debug, PartialEq, Eq)]
 pub enum TypeOf {
-    /// There is no expression or field, or the alternatives differ.
+    /// There is no expression or field, or the alternatives differ, or the declarations that a reference may mean.
     NoType,
     Typed(Shape),
-    /// The declarations that a reference may mean differ; some of them may have no type.
-    Mixed(bool),
 }
 
 /// Whether what an expression, a child or a label stands for may be assigned.
@@ -19,6 +17,18 @@ pub enum Assignable {
     No,
     /// The declarations that a reference may mean differ.
     Mixed,
+}
+
+/// One of the traits.
+#[derive(Clone, Copy, Debug, PartialEq, Eq)]
+pub enum Trait {
+    Label,
+    Child,
+    Staged,
+    Rooted,
+    Uncoded,
+    Misplaced,
+    Instructions,
 }
 
 /// How a declared name may be used. Each holds of a reference where it holds of a declaration that it may mean, and of a choice where it

@@ -13,12 +13,8 @@ use Rattle.description_names.specs.declared.declared.Meaning.{Meaning}
 use Rattle.description_names.specs.declared.declared.Meaning.TheVariants as meanings
 use Rattle.description_names.specs.Declarations.{what_at, plain_at}
 use Rattle.description_names.specs.Meanings.{meaning}
-use Rattle.description_names.specs.Paths.{entry_node}
-use Rattle.description_types.specs.declared.values.TypeOf.{TypeOf}
-use Rattle.description_types.specs.declared.values.TypeOf.TheVariants as types
-use Rattle.description_types.specs.declared.values.Assignable.{Assignable}
-use Rattle.description_types.specs.declared.values.Assignable.TheVariants as assigns
 use Rattle.description_types.specs.declared.values.Traits.{Traits}
+use Rattle.description_types.specs.Refused.{is_apart}
 use Rattle.description_types.specs.Tables.{Known}
 
 -- ---- what resources are
@@ -47,61 +43,16 @@ is_no_array (Some _) = true
 
 -- ---- what declared names are
 
--- an alternative has no expression, two have different types, or a label has no field: of one declaration that is meant, at least
-abbrev pub lacks_type : Option TypeOf → Bool
-lacks_type (Some types.NoType) = true
-lacks_type (Some (types.Mixed some)) = some
-lacks_type _ = false
-
--- the declarations that are meant differ
-abbrev pub types_differ : Option TypeOf → Bool
-types_differ (Some (types.Mixed some)) = true
-types_differ _ = false
-
-abbrev pub is_unassignable : Option Assignable → Bool
-is_unassignable (Some assigns.No) = true
-is_unassignable (Some assigns.Mixed) = true
-is_unassignable _ = false
-
-abbrev pub assignables_differ : Option Assignable → Bool
-assignables_differ (Some assigns.Mixed) = true
-assignables_differ _ = false
-
--- An operation with a stage or with the root isn't called, and is no value; nor is a group of several alternatives that isn't in its own
--- operation's coding, and the root's group.
-abbrev pub is_apart : Option Traits → Bool
-is_apart None = false
-is_apart (Some t) = t.staged || (t.rooted || (t.uncoded || t.instructions))
-
-abbrev pub is_uncallable : Option Traits → Bool
-is_uncallable None = false
-is_uncallable (Some t) = t.label || (t.staged || (t.rooted || (t.uncoded || t.instructions)))
+abbrev pub is_uncallable : Traits → Bool
+is_uncallable t = t.label || is_apart t
 
 -- no operation with a stage or with the root is coded by another one
-abbrev pub is_no_operand : Option Traits → Bool
-is_no_operand None = false
-is_no_operand (Some t) = t.staged || t.rooted
-
-abbrev pub is_rooted : Option Traits → Bool
-is_rooted None = false
-is_rooted (Some t) = t.rooted
-
-abbrev pub is_uncoded : Option Traits → Bool
-is_uncoded None = false
-is_uncoded (Some t) = t.uncoded
-
-abbrev pub is_misplaced : Option Traits → Bool
-is_misplaced None = false
-is_misplaced (Some t) = t.misplaced
-
-abbrev pub is_instructions : Option Traits → Bool
-is_instructions None = false
-is_instructions (Some t) = t.instructions
+abbrev pub is_no_operand : Traits → Bool
+is_no_operand t = t.staged || t.rooted
 
 -- declarations of both sorts are meant
-abbrev pub sorts_differ : Option Traits → Bool
-sorts_differ None = false
-sorts_differ (Some t) = t.label && t.child
+abbrev pub sorts_differ : Traits → Bool
+sorts_differ t = t.label && t.child
 
 -- by what a name is declared as; a reference is of no sort that fits
 abbrev pub by_sort : (child group label : Bool) → Option What → Bool
@@ -120,7 +71,7 @@ module _ (known : Known) (d : DescriptionTree) where
   abbrev pub meant_misread : Meaning → Bool
   meant_misread meanings.Nothing = false
   meant_misread (meanings.Resource k) = is_no_word (slice_get d.resources k)
-  meant_misread (meanings.Declared i) = lacks_type (known.types (entry_node d i)) || is_apart (known.traits (entry_node d i))
+  meant_misread (meanings.Declared i) = known.typeless i || is_apart (known.traits i)
 
   abbrev pub is_misread : ℕ → List ℕ → Option Local → Bool
   is_misread o n (Some local) = false
@@ -139,7 +90,7 @@ module _ (known : Known) (d : DescriptionTree) where
   meant_miswritten meanings.Nothing = false
   meant_miswritten (meanings.Resource k) = is_no_register (slice_get d.resources k)
   meant_miswritten (meanings.Declared i) =
-      lacks_type (known.types (entry_node d i)) || (is_apart (known.traits (entry_node d i)) || is_unassignable (known.assignables (entry_node d i)))
+      known.typeless i || (is_apart (known.traits i) || known.unassignable i)
 
   -- the variable of a loop is only read
   abbrev pub is_miswritten : ℕ → List ℕ → Option Local → Bool
@@ -149,7 +100,7 @@ module _ (known : Known) (d : DescriptionTree) where
   abbrev pub meant_miscalled : Meaning → Bool
   meant_miscalled meanings.Nothing = false
   meant_miscalled (meanings.Resource k) = true
-  meant_miscalled (meanings.Declared i) = is_uncallable (known.traits (entry_node d i))
+  meant_miscalled (meanings.Declared i) = is_uncallable (known.traits i)
 
   abbrev pub is_miscalled : ℕ → List ℕ → Option Local → Bool
   is_miscalled o n (Some local) = true
@@ -166,18 +117,18 @@ module _ (known : Known) (d : DescriptionTree) where
   abbrev pub is_misstarted : Meaning → Bool
   is_misstarted meanings.Nothing = false
   is_misstarted (meanings.Resource k) = true
-  is_misstarted (meanings.Declared i) = by_sort (is_uncoded (known.traits (entry_node d i))) (is_uncoded (known.traits (entry_node d i))) true (what_at d i)
+  is_misstarted (meanings.Declared i) = by_sort (known.traits i).uncoded (known.traits i).uncoded true (what_at d i)
 
   abbrev pub is_wrong_operand : Meaning → Bool
   is_wrong_operand meanings.Nothing = false
   is_wrong_operand (meanings.Resource k) = true
-  is_wrong_operand (meanings.Declared i) = by_sort (is_no_operand (known.traits (entry_node d i))) (is_no_operand (known.traits (entry_node d i))) true (what_at d i)
+  is_wrong_operand (meanings.Declared i) = by_sort (is_no_operand (known.traits i)) (is_no_operand (known.traits i)) true (what_at d i)
 
   -- the root's group is a group, and none of its alternatives has a root
   abbrev pub is_wrong_root_group : Meaning → Bool
   is_wrong_root_group meanings.Nothing = false
   is_wrong_root_group (meanings.Resource k) = true
-  is_wrong_root_group (meanings.Declared i) = by_sort true (is_rooted (known.traits (entry_node d i))) true (what_at d i)
+  is_wrong_root_group (meanings.Declared i) = by_sort true (known.traits i).rooted true (what_at d i)
 
   abbrev pub is_wrong_field : Bool → Meaning → Bool
   is_wrong_field free meanings.Nothing = false
@@ -187,20 +138,20 @@ module _ (known : Known) (d : DescriptionTree) where
   abbrev pub is_wrong_number : Meaning → Bool
   is_wrong_number meanings.Nothing = false
   is_wrong_number (meanings.Resource k) = true
-  is_wrong_number (meanings.Declared i) = by_sort true true (lacks_type (known.types (entry_node d i))) (what_at d i)
+  is_wrong_number (meanings.Declared i) = by_sort true true (known.typeless i) (what_at d i)
 
   abbrev pub is_wrong_shown : Meaning → Bool
   is_wrong_shown meanings.Nothing = false
   is_wrong_shown (meanings.Resource k) = true
-  is_wrong_shown (meanings.Declared i) = by_sort (is_instructions (known.traits (entry_node d i))) (is_instructions (known.traits (entry_node d i))) true (what_at d i)
+  is_wrong_shown (meanings.Declared i) = by_sort (known.traits i).instructions (known.traits i).instructions true (what_at d i)
 
   -- A child has an alternative that is no alias, and stands in its own operation's coding where one has a coding. What a reference may
   -- mean is alike in sort, in type and in being assignable.
   abbrev pub what_misdeclared : ℕ → Option What → Bool
-  what_misdeclared i (Some (whats.Group c)) = is_empty (plain_at d c) || is_misplaced (known.traits (entry_node d i))
-  what_misdeclared i (Some (whats.Instance c)) = is_empty (plain_at d c) || is_misplaced (known.traits (entry_node d i))
+  what_misdeclared i (Some (whats.Group c)) = is_empty (plain_at d c) || (known.traits i).misplaced
+  what_misdeclared i (Some (whats.Instance c)) = is_empty (plain_at d c) || (known.traits i).misplaced
   what_misdeclared i (Some whats.Reference) =
-      sorts_differ (known.traits (entry_node d i)) || (types_differ (known.types (entry_node d i)) || assignables_differ (known.assignables (entry_node d i)))
+      sorts_differ (known.traits i) || (known.types_differ i || known.assignables_differ i)
   what_misdeclared i _ = false
 
   abbrev pub is_misdeclared : Option ℕ → Bool
@@ -209,19 +160,10 @@ module _ (known : Known) (d : DescriptionTree) where
 
 -- ---- stages
 
--- an operation with this stage of its own reads the boundary before it
-abbrev pub may_input : Option ℕ → Bool
-may_input None = false
-may_input (Some stage) = not (nat_eq stage 0)
-
--- and writes the boundary after it, where there are so many stages
+-- an operation with this stage of its own writes the boundary after it, where there are so many stages
 abbrev pub may_output : ℕ → Option ℕ → Bool
 may_output count None = false
 may_output count (Some stage) = not (nat_eq (stage + 1) count)
-
-abbrev pub are_apart : Option ℕ → Option ℕ → Bool
-are_apart (Some before) (Some after) = not (nat_eq (before + 1) after)
-are_apart _ _ = false
 
 -- `decoded` is known in the root's behaviour and activation alone
 abbrev pub tells_decoded : Bool → Region → Bool

@@ -19,8 +19,9 @@ use Rattle.description_names.specs.Resources.{stages, stage_at, is_pipeline}
 use Rattle.description_names.specs.Operations.{name_at, own_stage, is_root, declares_in, coding_in, behavior_in, expression_in, activation_in}
 use Rattle.description_names.specs.Declarations.{declared_at}
 use Rattle.description_names.specs.Meanings.{meaning}
+use Rattle.description_types.specs.Refused.{may_input, are_apart}
 use Rattle.description_types.specs.Tables.{Known, AreKinds}
-use Rattle.kind_checks.specs.Uses.{is_misread, is_misindexed, is_miswritten, is_miscalled, is_misstarted, is_wrong_operand, is_wrong_root_group, is_wrong_field, is_wrong_number, is_wrong_shown, is_misdeclared, may_input, may_output, are_apart, tells_decoded, is_free, is_wrong_register}
+use Rattle.kind_checks.specs.Uses.{is_misread, is_misindexed, is_miswritten, is_miscalled, is_misstarted, is_wrong_operand, is_wrong_root_group, is_wrong_field, is_wrong_number, is_wrong_shown, is_misdeclared, may_output, tells_decoded, is_free, is_wrong_register}
 
 -- the name, where it is at fault
 abbrev pub faulty : Bool → List ℕ → Option (List ℕ)

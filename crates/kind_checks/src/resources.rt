@@ -2,13 +2,11 @@
 
 ghost use Rattle.std.specs.Prelude.{◌≡◌, option_map, length, map};
 ghost use Rattle.lisa_tree.specs.Descriptions.{resource_tree};
-ghost use Rattle.description_names.specs.Resources.{is_pipeline, stages, stages_in};
+ghost use Rattle.description_names.specs.Resources.{stages, stages_in};
 ghost use Rattle.kind_checks.specs.Uses.{is_no_word, is_no_register, is_no_array};
 
 use description_names::Names;
-use description_types::resource;
 use lisa_tree::Resource;
-use lisa_words::Name;
 
 /// Whether a resource is an array or the pipeline.
 pub(crate) fn is_no_word(resource: Option<&Resource>) -> bool
@@ -42,19 +40,6 @@ pub(crate) fn is_no_array(resource: Option<&Resource>) -> bool
             false
         }
         Some(_) => true,
-    }
-}
-
-/// Whether a name is that of a pipeline.
-pub(crate) fn is_pipeline<N: Names>(names: &N, name: &Name) -> bool
-    ensures { result ≡ is_pipeline (N.tree names.now) name.now }
-{
-    match names.resource_at(name) {
-        None => false,
-        Some(number) => match resource(names, number) {
-            Some(Resource::Pipeline(_, _)) => true,
-            _ => false,
-        },
     }
 }
 

@@ -3,18 +3,14 @@
 ghost use Rattle.std.specs.Prelude.{◌≡◌, ◌||◌, Some};
 ghost use Rattle.description_names.specs.declared.declared.What.TheVariants as whats;
 ghost use Rattle.description_names.specs.Declarations.{plain_at};
-ghost use Rattle.description_names.specs.Paths.{entry_node};
 ghost use Rattle.description_types.specs.Tables.{known_by};
-ghost use Rattle.kind_checks.specs.Uses.{meant_misread, is_misread, meant_misindexed, is_misindexed, meant_miswritten, is_miswritten, meant_miscalled, is_miscalled, is_wrong_register, is_misstarted, is_wrong_operand, is_wrong_root_group, is_wrong_field, is_wrong_number, is_wrong_shown, is_empty, is_misplaced, what_misdeclared, is_misdeclared};
+ghost use Rattle.kind_checks.specs.Uses.{meant_misread, is_misread, meant_misindexed, is_misindexed, meant_miswritten, is_miswritten, meant_miscalled, is_miscalled, is_wrong_register, is_misstarted, is_wrong_operand, is_wrong_root_group, is_wrong_field, is_wrong_number, is_wrong_shown, is_empty, what_misdeclared, is_misdeclared};
 
-use crate::entries::{
-    assignables_differ, by_sort, is_apart, is_instructions, is_misplaced, is_no_operand, is_rooted,
-    is_unassignable, is_uncallable, is_uncoded, lacks_type, sorts_differ, types_differ,
-};
+use crate::entries::{by_sort, is_no_operand, is_uncallable, sorts_differ};
 use crate::resources::{is_no_array, is_no_register, is_no_word};
 use description_names::{Meaning, Names, What};
 use description_places::Local;
-use description_types::{Kinds, resource};
+use description_types::{Kinds, is_apart, resource};
 use lisa_words::Name;
 
 /// What is known of the names of a description and of its nodes.
@@ -32,8 +28,7 @@ impl<'a, N: Names> Uses<'a, N> {
             Meaning::Nothing => false,
             Meaning::Resource(number) => is_no_word(resource(self.names, number)),
             Meaning::Declared(number) => {
-                lacks_type(self.kinds.type_at(self.names, number))
-                    || is_apart(self.kinds.traits_at(self.names, number))
+                self.kinds.is_typeless(number) || is_apart(self.kinds.traits_at(number))
             }
         }
     }
@@ -75,9 +70,9 @@ impl<'a, N: Names> Uses<'a, N> {
             Meaning::Nothing => false,
             Meaning::Resource(number) => is_no_register(resource(self.names, number)),
             Meaning::Declared(number) => {
-                lacks_type(self.kinds.type_at(self.names, number))
-                    || is_apart(self.kinds.traits_at(self.names, number))
-                    || is_unassignable(self.kinds.assignable_at(self.names, number))
+                self.kinds.is_typeless(number)
+                    || is_apart(self.kinds.traits_at(number))
+                    || self.kinds.is_unassignable(number)
             }
         }
     }
@@ -98,7 +93,7 @@ impl<'a, N: Names> Uses<'a, N> {
         match meaning {
             Meaning::Nothing => false,
             Meaning::Resource(_) => true,
-            Meaning::Declared(number) => is_uncallable(self.kinds.traits_at(self.names, number)),
+            Meaning::Declared(number) => is_uncallable(self.kinds.traits_at(number)),
         }
     }
 
@@ -131,7 +126,7 @@ impl<'a, N: Names> Uses<'a, N> {
             Meaning::Nothing => false,
             Meaning::Resource(_) => true,
             Meaning::Declared(number) => {
-                let uncoded = is_uncoded(self.kinds.traits_at(self.names, number));
+                let uncoded = self.kinds.traits_at(number).uncoded;
                 by_sort(uncoded, uncoded, true, self.names.what_at(number))
             }
         }
@@ -145,7 +140,7 @@ impl<'a, N: Names> Uses<'a, N> {
             Meaning::Nothing => false,
             Meaning::Resource(_) => true,
             Meaning::Declared(number) => {
-                let apart = is_no_operand(self.kinds.traits_at(self.names, number));
+                let apart = is_no_operand(self.kinds.traits_at(number));
                 by_sort(apart, apart, true, self.names.what_at(number))
             }
         }
@@ -159,7 +154,7 @@ impl<'a, N: Names> Uses<'a, N> {
             Meaning::Nothing => false,
             Meaning::Resource(_) => true,
             Meaning::Declared(number) => {
-                let rooted = is_rooted(self.kinds.traits_at(self.names, number));
+                let rooted = self.kinds.traits_at(number).rooted;
                 by_sort(true, rooted, true, self.names.what_at(number))
             }
         }
@@ -184,7 +179,7 @@ impl<'a, N: Names> Uses<'a, N> {
             Meaning::Nothing => false,
             Meaning::Resource(_) => true,
             Meaning::Declared(number) => {
-                let lacking = lacks_type(self.kinds.type_at(self.names, number));
+                let lacking = self.kinds.is_typeless(number);
                 by_sort(true, true, lacking, self.names.what_at(number))
             }
         }
@@ -198,7 +193,7 @@ impl<'a, N: Names> Uses<'a, N> {
             Meaning::Nothing => false,
             Meaning::Resource(_) => true,
             Meaning::Declared(number) => {
-                let instructions = is_instructions(self.kinds.traits_at(self.names, number));
+                let instructions = self.kinds.traits_at(number).instructions;
                 by_sort(instructions, instructions, true, self.names.what_at(number))
             }
         }
@@ -206,19 +201,18 @@ impl<'a, N: Names> Uses<'a, N> {
 
     // Whether a child lacks an alternative that is no alias, or stands in no coding where it should.
     fn is_wrong_child(&self, number: usize, choice: usize) -> bool
-        ensures { result ≡ (is_empty (plain_at (N.tree self.now.names.now) choice) || is_misplaced ((known_by self.now.kinds.now).traits (entry_node (N.tree self.now.names.now) number))) }
+        ensures { result ≡ (is_empty (plain_at (N.tree self.now.names.now) choice) || ((known_by self.now.kinds.now).traits number).misplaced) }
     {
-        is_empty(self.names.plain_at(choice))
-            || is_misplaced(self.kinds.traits_at(self.names, number))
+        is_empty(self.names.plain_at(choice)) || self.kinds.traits_at(number).misplaced
     }
 
     // Whether what a reference may mean differs.
     fn is_wrong_reference(&self, number: usize) -> bool
         ensures { result ≡ what_misdeclared (known_by self.now.kinds.now) (N.tree self.now.names.now) number (Some whats.Reference) }
     {
-        sorts_differ(self.kinds.traits_at(self.names, number))
-            || types_differ(self.kinds.type_at(self.names, number))
-            || assignables_differ(self.kinds.assignable_at(self.names, number))
+        sorts_differ(self.kinds.traits_at(number))
+            || self.kinds.types_differ(number)
+            || self.kinds.assignables_differ(number)
     }
 
     fn what_misdeclared(&self, number: usize, what: Option<What>) -> bool

@@ -9,15 +9,15 @@ ghost use Rattle.description_places.specs.Places.{place_of};
 ghost use Rattle.description_names.specs.Resources.{stages};
 ghost use Rattle.description_names.specs.Operations.{name_at};
 ghost use Rattle.description_types.specs.Tables.{known_by};
-ghost use Rattle.kind_checks.specs.Uses.{may_input, may_output, are_apart, tells_decoded, is_free};
+ghost use Rattle.kind_checks.specs.Uses.{may_output, tells_decoded, is_free};
 ghost use Rattle.kind_checks.specs.WrongKinds.{faulty, pipe_name, input_name, output_name, decoded_name, resource_name, stage_name, head_name, register_name, root_name, boundary_name, misread_name, misused_name, misplaced_name, wrong_name, owner_name, told, wrong_kind};
 
 use crate::aliases::is_wrong_alias;
-use crate::resources::{is_pipeline, stage_count};
+use crate::resources::stage_count;
 use crate::uses::Uses;
 use description_names::Names;
 use description_places::{Condition, Region, Scope, Site};
-use description_types::{Kinds, is_root, operation_name};
+use description_types::{Kinds, are_apart, is_pipeline, is_root, may_input, operation_name};
 use lisa_tree::{BoundaryField, DescFault, Expr, Operation, Pattern, Resource};
 use lisa_words::{Name, NoMemory};
 use std::alloc::Global;
@@ -42,17 +42,7 @@ fn faulty(broken: bool, name: &Name) -> Option<&Name>
     if broken { Some(name) } else { None }
 }
 
-// Whether an operation with this stage of its own reads the boundary before it.
-fn may_input(stage: Option<usize>) -> bool
-    ensures { result ≡ may_input stage }
-{
-    match stage {
-        None => false,
-        Some(stage) => stage != 0,
-    }
-}
-
-// Whether it writes the boundary after it.
+// Whether an operation with this stage of its own writes the boundary after it.
 fn may_output(count: usize, stage: Option<usize>) -> bool
     ensures { result ≡ may_output count stage }
 {
@@ -62,19 +52,6 @@ fn may_output(count: usize, stage: Option<usize>) -> bool
             None => true,
             Some(next) => next != count,
         },
-    }
-}
-
-// Whether two stages don't follow each other.
-fn are_apart(before: Option<usize>, after: Option<usize>) -> bool
-    ensures { result ≡ are_apart before after }
-{
-    match (before, after) {
-        (Some(before), Some(after)) => match before.checked_add(1) {
-            None => true,
-            Some(next) => next != after,
-        },
-        _ => false,
     }
 }
 

@@ -1,6 +1,5 @@
 -- Each verdict is the only one.
 use Rattle.std.proofs.Common.{◌≡◌, ◌∙◌, ◌<◌, ◌↔◌, ℕ, Bool, true, false, Option, None, Some, refl, sym, ap, arith, ⊎_elim, cond, length}
-use Rattle.std.proofs.Math.Path.{fun_ext}
 use Rattle.std.specs.Prelude.{option_map}
 use Rattle.std.proofs.lemmas.Bool.{cases_lt}
 use Rattle.lisa_tree.specs.declared.faults.DescFault.{DescFault}
@@ -8,8 +7,8 @@ use Rattle.lisa_tree.specs.declared.faults.DescFault.TheVariants as faults
 use Rattle.lisa_tree.specs.Descriptions.{DescriptionTree}
 use Rattle.description_places.specs.Places.{Condition, first, description_places}
 use Rattle.description_graph.specs.Circles.{IsFirstCircularOperation}
-use Rattle.description_types.specs.Facts.{Fact}
-use Rattle.description_types.specs.Tables.{AreValues, Known, AreKinds}
+use Rattle.description_types.specs.Tables.{Known}
+use Rattle.description_types.proofs.OneKnown.{one_known}
 use Rattle.kind_checks.specs.WrongKinds.{wrong_kind, IsFirstWrongKind}
 use Rattle.kind_checks.specs.Narrowings.{narrowing, IsFirstNarrowing}
 use Rattle.std.specs.Prelude.{not, ◌||◌}
@@ -31,23 +30,6 @@ places_one d breaks a b x y = x ∙ sym y
 
 pub nothing_one : IsOne nothing
 nothing_one a b x y = x ∙ sym y
-
--- ---- tables of values
-
-same_option : {T : Type 0} (x y : Option T) → ((t : T) → x ≡ Some t → y ≡ Some t) → ((t : T) → y ≡ Some t → x ≡ Some t) → x ≡ y
-same_option None None f g = refl
-same_option None (Some t) f g = g t refl
-same_option (Some t) y f g = sym (f t refl)
-
-one_table : {T : Type 0} (d : DescriptionTree) (fact : Fact T) (known other : ℕ → Option T) → AreValues d fact known → AreValues d fact other → known ≡ other
-one_table d fact known other w v = fun_ext (λ a. same_option (known a) (other a) (λ t e. (v a t).1 ((w a t).0 e)) (λ t e. (w a t).1 ((v a t).0 e)))
-
-one_known : (d : DescriptionTree) (known other : Known) → AreKinds d known → AreKinds d other → known ≡ other
-one_known d known other w v =
-    let types = one_table d _ known.types other.types w.types v.types in
-    let assignables = one_table d _ known.assignables other.assignables w.assignables v.assignables in
-    let traits = one_table d _ known.traits other.traits w.traits v.traits in
-    λ i. record { types = types i; assignables = assignables i; traits = traits i }
 
 pub wrong_kind_one : (d : DescriptionTree) → IsOne (IsFirstWrongKind d)
 wrong_kind_one d a b x y =

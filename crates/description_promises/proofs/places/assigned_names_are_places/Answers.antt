@@ -2,7 +2,8 @@ use Rattle.std.proofs.Common.{subst}
 use Rattle.description_types.specs.Tables.{Known}
 use Rattle.kind_checks.specs.WrongKinds.{wrong_kind}
 use Rattle.description_promises.specs.Freedom.{IsFree}
-use Rattle.description_promises.proofs.Sound.{sound, one_known}
+use Rattle.description_promises.proofs.Sound.{sound}
+use Rattle.description_types.proofs.OneKnown.{one_known}
 use Rattle.description_promises.proofs.Falling.{node_ranks}
 use Rattle.description_promises.proofs.Assigned.{written, child_yes, reference_yes, operation_yes}
 use Rattle.description_promises.proofs.places.assigned_names_are_places.Goals as goal

@@ -1,4 +1,4 @@
-use Rattle.description_promises.proofs.Sound.{one_known}
+use Rattle.description_types.proofs.OneKnown.{one_known}
 use Rattle.description_promises.proofs.soundness.kinds_are_unique.Goals as goal
 
 pub returns : goal.returns

@@ -2,7 +2,8 @@ use Rattle.std.proofs.Common.{subst}
 use Rattle.description_types.specs.Tables.{Known}
 use Rattle.kind_checks.specs.Narrowings.{narrowing}
 use Rattle.description_promises.specs.Freedom.{IsFree}
-use Rattle.description_promises.proofs.Sound.{sound, one_known}
+use Rattle.description_promises.proofs.Sound.{sound}
+use Rattle.description_types.proofs.OneKnown.{one_known}
 use Rattle.description_promises.proofs.Narrowed.{assigned_fits, local_fits}
 use Rattle.description_promises.proofs.values.assignments_fit.Goals as goal
 

@@ -2,7 +2,8 @@ use Rattle.std.proofs.Common.{subst}
 use Rattle.description_types.specs.Tables.{Known}
 use Rattle.kind_checks.specs.WrongKinds.{wrong_kind}
 use Rattle.description_promises.specs.Freedom.{IsFree}
-use Rattle.description_promises.proofs.Sound.{sound, one_known}
+use Rattle.description_promises.proofs.Sound.{sound}
+use Rattle.description_types.proofs.OneKnown.{one_known}
 use Rattle.description_promises.proofs.Falling.{node_ranks}
 use Rattle.description_promises.proofs.Typing.{all_declared, expression_typed, target_typed, operation_typed}
 use Rattle.description_promises.proofs.values.expressions_have_types.Goals as goal

@@ -2,7 +2,8 @@ use Rattle.std.proofs.Common.{subst}
 use Rattle.description_types.specs.Tables.{Known}
 use Rattle.kind_checks.specs.WrongKinds.{wrong_kind}
 use Rattle.description_promises.specs.Freedom.{IsFree}
-use Rattle.description_promises.proofs.Sound.{sound, one_known}
+use Rattle.description_promises.proofs.Sound.{sound}
+use Rattle.description_types.proofs.OneKnown.{one_known}
 use Rattle.description_promises.proofs.Typing.{child_types, reference_types}
 use Rattle.description_promises.proofs.Fitting.{label_shape}
 use Rattle.description_promises.proofs.values.types_are_shared.Goals as goal

@@ -6,7 +6,7 @@ use Rattle.description_names.specs.Operations.{sections_at}
 use Rattle.description_names.specs.Declarations.{entries, owner_at}
 use Rattle.description_types.specs.declared.values.CodedName.{CodedName}
 use Rattle.description_types.specs.Codings.{no_coding, name_coding, coding_at}
-use Rattle.description_types.proofs.EachCoding.{one_more_coding, all_codings}
+use Rattle.description_types.proofs.EachEntry.{one_more, all_entries, coding_past}
 use Rattle.description_types.proofs.codings.codings.Goals as goal
 
 pub loop-entry-preserved : goal.loop-entry-preserved
@@ -15,7 +15,7 @@ loop-entry-preserved g c = record {
   coded = c.in_ok-coded-2.ensures;
   each = λ i h.
       ap (λ (xs : List CodedName). get_or xs i no_coding) c.in_ok-push.ensures.items
-      ∙ one_more_coding (coding_at (g.N.Names.tree c.args.names.now)) c.loop-entry.table.items c.name_coding.result c.loop-entry.entry c.loop-entry.invariant.len c.loop-entry.invariant.each
+      ∙ one_more no_coding (coding_at (g.N.Names.tree c.args.names.now)) c.loop-entry.table.items c.name_coding.result c.loop-entry.entry c.loop-entry.invariant.len c.loop-entry.invariant.each
       (c.name_coding.ensures
       ∙ ap (λ (s : List SectionTree). name_coding s (option_copied c.name_at.result)) (c.in_ok-coded-2.ensures ∙ ap (sections_at (g.N.Names.tree c.args.names.now)) c.owner_at-operation.ensures)
       ∙ ap (name_coding (sections_at (g.N.Names.tree c.args.names.now) (owner_at (g.N.Names.tree c.args.names.now) c.loop-entry.entry))) c.name_at.ensures)
@@ -25,4 +25,5 @@ loop-entry-preserved g c = record {
 pub returns : goal.returns
 returns g c =
     let last : c.loop-entry.entry ≡ length (entries (g.N.Names.tree c.args.names.now)) = omega (arith, c.loop-entry-test.false, c.loop-entry.auto.entry-end, c.entry_count-entry-end.ensures) in
-    all_codings (g.N.Names.tree c.args.names.now) c.loop-entry.table.items c.loop-entry.entry last c.loop-entry.invariant.len c.loop-entry.invariant.each
+    all_entries no_coding (coding_at (g.N.Names.tree c.args.names.now)) c.loop-entry.table.items c.loop-entry.entry c.loop-entry.invariant.len c.loop-entry.invariant.each
+    (coding_past (g.N.Names.tree c.args.names.now) c.loop-entry.entry last)

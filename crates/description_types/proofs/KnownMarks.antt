@@ -1,0 +1,55 @@
+-- What is known of declared names, from tests of what is known of nodes.
+use Rattle.std.proofs.Common.{◌≡◌, ◌↔◌, ◌&&◌, ℕ, Option, None, Some, Bool, true, false, refl, sym, ap, ◌∙◌, arith}
+use Rattle.std.proofs.lemmas.Bool.{and_parts}
+use Rattle.lisa_tree.specs.Descriptions.{DescriptionTree}
+use Rattle.description_names.specs.Paths.{entry_node}
+use Rattle.description_types.specs.declared.values.TypeOf.{TypeOf}
+use Rattle.description_types.specs.declared.values.TypeOf.TheVariants as types
+use Rattle.description_types.specs.declared.values.Assignable.{Assignable}
+use Rattle.description_types.specs.declared.values.Assignable.TheVariants as assigns
+use Rattle.description_types.specs.Known.{has_no_type, is_assignable}
+use Rattle.description_types.specs.Tables.{AreMeant, LacksType, MayAssign, MayNotAssign, DifferInAssigning}
+use Rattle.description_types.proofs.MeantMarks.{meant_so}
+
+-- ---- tests
+
+lacking : (r : Option TypeOf) → has_no_type r ≡ true → r ≡ Some types.NoType
+lacking None e = absurd (cc e)
+lacking (Some types.NoType) e = refl
+lacking (Some (types.Typed s)) e = absurd (cc e)
+
+assigned : (r : Option Assignable) → is_assignable true r ≡ true → r ≡ Some assigns.Yes
+assigned None e = absurd (cc e)
+assigned (Some assigns.Yes) e = refl
+assigned (Some assigns.No) e = absurd (cc e)
+assigned (Some assigns.Mixed) e = absurd (cc e)
+
+unassigned : (r : Option Assignable) → is_assignable false r ≡ true → r ≡ Some assigns.No
+unassigned None e = absurd (cc e)
+unassigned (Some assigns.Yes) e = absurd (cc e)
+unassigned (Some assigns.No) e = refl
+unassigned (Some assigns.Mixed) e = absurd (cc e)
+
+module _ (d : DescriptionTree) (marks : ℕ → Bool) where
+  pub typeless_so : (known : ℕ → Option TypeOf) → AreMeant d (λ j. has_no_type (known (entry_node d j)) ≡ true) marks → AreMeant d (LacksType d known) marks
+  typeless_so known are =
+      meant_so d (λ j. has_no_type (known (entry_node d j)) ≡ true) (LacksType d known) marks (λ j e. lacking (known (entry_node d j)) e) (λ j e. ap has_no_type e) are
+
+  pub assignable_so : (known : ℕ → Option Assignable) → AreMeant d (λ j. is_assignable true (known (entry_node d j)) ≡ true) marks → AreMeant d (MayAssign d known) marks
+  assignable_so known are =
+      meant_so d (λ j. is_assignable true (known (entry_node d j)) ≡ true) (MayAssign d known) marks (λ j e. assigned (known (entry_node d j)) e) (λ j e. ap (is_assignable true) e) are
+
+  pub unassignable_so : (known : ℕ → Option Assignable) → AreMeant d (λ j. is_assignable false (known (entry_node d j)) ≡ true) marks → AreMeant d (MayNotAssign d known) marks
+  unassignable_so known are =
+      meant_so d (λ j. is_assignable false (known (entry_node d j)) ≡ true) (MayNotAssign d known) marks (λ j e. unassigned (known (entry_node d j)) e) (λ j e. ap (is_assignable false) e) are
+
+-- one may be assigned and one may not
+pub differ_so : (d : DescriptionTree) (known : ℕ → Option Assignable) (may not both : ℕ → Bool) → AreMeant d (MayAssign d known) may → AreMeant d (MayNotAssign d known) not → ((i : ℕ) → both i ≡ (may i && not i))
+    → (i : ℕ) → (both i ≡ true) ↔ DifferInAssigning d known i
+differ_so d known may not both are lack is i = (
+  λ h. (let p = and_parts (may i) (not i) (sym (is i) ∙ h) in ((are i).0 p.0, (lack i).0 p.1)),
+  λ some. is i ∙ both_true (may i) (not i) ((are i).1 some.0) ((lack i).1 some.1),
+)
+  where
+    both_true : (a b : Bool) → a ≡ true → b ≡ true → (a && b) ≡ true
+    both_true a b e f = grind arith

@@ -1,0 +1,64 @@
+-- Uses in an operation's expression that go against what they are of. What rests on such a use is open, so that nothing else is at fault by it.
+use Rattle.std.specs.Prelude.{ℕ, ◌+◌, Bool, true, false, List, Option, None, Some, ◌||◌, not, nat_eq}
+use Rattle.lisa_tree.specs.declared.expressions.Operator.{Operator}
+use Rattle.lisa_tree.specs.declared.expressions.Operator.TheVariants as operators
+use Rattle.lisa_tree.specs.Expressions as exprs
+use Rattle.lisa_tree.specs.Expressions.{ExprTree}
+use Rattle.lisa_tree.specs.Descriptions.{DescriptionTree}
+use Rattle.description_names.specs.declared.declared.Meaning.{Meaning}
+use Rattle.description_names.specs.declared.declared.Meaning.TheVariants as meanings
+use Rattle.description_names.specs.Resources.{stage_at, is_pipeline}
+use Rattle.description_names.specs.Operations.{own_stage}
+use Rattle.description_names.specs.Meanings.{meaning}
+use Rattle.description_types.specs.declared.values.Traits.{Traits}
+
+-- an operation with this stage of its own reads the boundary before it
+abbrev pub may_input : Option ℕ → Bool
+may_input None = false
+may_input (Some stage) = not (nat_eq stage 0)
+
+abbrev pub are_apart : Option ℕ → Option ℕ → Bool
+are_apart (Some before) (Some after) = not (nat_eq (before + 1) after)
+are_apart _ _ = false
+
+-- An operation with a stage or with the root isn't called, and is no value; nor is a group of several alternatives that isn't in its own
+-- operation's coding, and the root's group.
+abbrev pub is_apart : Traits → Bool
+is_apart t = t.staged || (t.rooted || (t.uncoded || t.instructions))
+
+-- Which declared names may be no value is given in what follows.
+abbrev pub meant_refused : (ℕ → Bool) → Meaning → Bool
+meant_refused unfit (meanings.Declared i) = unfit i
+meant_refused unfit _ = false
+
+-- a boundary isn't that between two stages of a pipeline that follow each other
+abbrev pub is_no_boundary : DescriptionTree → List ℕ → List ℕ → List ℕ → Bool
+is_no_boundary d pipe before after = not (is_pipeline d pipe) || are_apart (stage_at d before) (stage_at d after)
+
+-- the expression is itself such a use; what is no word by itself is open already
+abbrev pub is_refused : (ℕ → Bool) → DescriptionTree → ℕ → ExprTree → Bool
+is_refused unfit d o (exprs.Named n) = meant_refused unfit (meaning d o n)
+is_refused unfit d o (exprs.Input field) = not (may_input (own_stage d o))
+is_refused unfit d o (exprs.Output field) = true
+is_refused unfit d o (exprs.Boundary pipe before after field) = is_no_boundary d pipe before after
+is_refused unfit d o exprs.Decoded = true
+is_refused unfit d o _ = false
+
+-- the type of what an operator gives rests on the left operand for a shift, on both or on none
+abbrev pub two_refused : Operator → Bool → Bool → Bool
+two_refused operators.Left a b = a
+two_refused operators.Right a b = a
+two_refused operators.Add a b = a || b
+two_refused operators.Sub a b = a || b
+two_refused operators.Mul a b = a || b
+two_refused operators.And a b = a || b
+two_refused operators.Or a b = a || b
+two_refused operators.Xor a b = a || b
+two_refused _ a b = false
+
+-- the type of the expression rests on such a use
+abbrev pub rests_on_refused : (ℕ → Bool) → DescriptionTree → ℕ → ExprTree → Bool
+rests_on_refused unfit d o (exprs.Complement a) = rests_on_refused unfit d o a
+rests_on_refused unfit d o (exprs.Two operator a b) = two_refused operator (rests_on_refused unfit d o a) (rests_on_refused unfit d o b)
+rests_on_refused unfit d o (exprs.Choose c a b) = rests_on_refused unfit d o a || rests_on_refused unfit d o b
+rests_on_refused unfit d o e = is_refused unfit d o e

@@ -1,0 +1,84 @@
+//! Which declared names may be no value, and what is known of the declarations that they may mean.
+
+ghost use Rattle.std.specs.Prelude.{◌≡◌, ◌||◌};
+ghost use Rattle.graph_paths.specs.Paths.{saw};
+ghost use Rattle.least_fixed_points.specs.Settles.{entry};
+ghost use Rattle.description_names.specs.Paths.{entry_node};
+ghost use Rattle.description_types.specs.Uses.{traits_by};
+ghost use Rattle.description_types.specs.Known.{has_no_type, is_assignable};
+ghost use Rattle.description_types.specs.Tables.{apart, unfit};
+
+use crate::lookups::{known_entry, mark_at};
+use crate::meant::Property;
+use crate::refused::is_apart;
+use crate::uses::UseTables;
+use crate::values::{Assignable, TypeOf};
+use description_names::Names;
+
+/// The declared names that may be no value by their traits alone.
+#[derive(Drop)]
+pub(crate) struct Apart<'a> {
+    pub uses: &'a UseTables,
+}
+
+impl<'a> Property for Apart<'a> {
+    ghost holds = { λ c. apart (traits_by c.uses.now) };
+
+    fn holds(&self, entry: usize) -> bool {
+        is_apart(self.uses.at(entry))
+    }
+}
+
+/// All declared names that may be no value.
+#[derive(Drop)]
+pub(crate) struct Unfit<'a> {
+    pub uses: &'a UseTables,
+    /// Those that have no type.
+    pub typeless: &'a [bool],
+}
+
+impl<'a> Property for Unfit<'a> {
+    ghost holds = { λ c. unfit (traits_by c.uses.now) (saw c.typeless.now) };
+
+    fn holds(&self, entry: usize) -> bool {
+        mark_at(self.typeless, entry) || is_apart(self.uses.at(entry))
+    }
+}
+
+/// The declared names of which it is known that they have no type.
+#[derive(Drop)]
+pub(crate) struct Typeless<'a, N> {
+    pub names: &'a N,
+    pub types: &'a [Option<TypeOf>],
+}
+
+impl<'a, N: Names> Property for Typeless<'a, N> {
+    ghost holds = { λ c i. has_no_type (entry c.types.now (entry_node (N.tree c.names.now) i)) };
+
+    fn holds(&self, entry: usize) -> bool {
+        match known_entry(self.names, self.types, entry) {
+            Some(TypeOf::NoType) => true,
+            _ => false,
+        }
+    }
+}
+
+/// The declared names of which it is known that they may be assigned, or that they may not.
+#[derive(Drop)]
+pub(crate) struct Assigned<'a, N> {
+    pub names: &'a N,
+    pub assignables: &'a [Option<Assignable>],
+    pub may: bool,
+}
+
+impl<'a, N: Names> Property for Assigned<'a, N> {
+    ghost holds = { λ c i. is_assignable c.may (entry c.assignables.now (entry_node (N.tree c.names.now) i)) };
+
+    fn holds(&self, entry: usize) -> bool {
+        match known_entry(self.names, self.assignables, entry) {
+            Some(Assignable::Yes) => self.may,
+            Some(Assignable::No) => !self.may,
+            _ => false,
+        }
+    }
+}
