@@ -1,8 +1,10 @@
--- The variable of a loop has a type with each value that the loop gives it.
-use Rattle.std.proofs.Common.{◌≡◌, ◌<◌, ◌≤◌, ◌+◌, ◌*◌, ◌-◌, ◌^◌, ◌||◌, ◌&&◌, ℕ, Option, None, Some, Bool, true, false, cond, nat_eq, nat_lt, refl, sym, ap, ◌∙◌, arith, subst}
+-- The variable of a loop has a type with each value that the loop gives it, and the loop has a turn for each number below its limit.
+use Rattle.std.proofs.Common.{◌≡◌, ◌<◌, ◌≤◌, ◌↔◌, ◌+◌, ◌*◌, ◌-◌, ◌/◌, ◌%◌, ◌^◌, ◌||◌, ◌&&◌, ℕ, suc, min, Option, None, Some, Bool, true, false, cond, nat_eq, nat_lt, refl, sym, ap, ◌∙◌, arith, subst}
 use Rattle.std.specs.Cmp.Lexicographic.{same_text}
-use Rattle.std.proofs.lemmas.Bool.{and_parts, ltb-true, eqb-true}
+use Rattle.std.proofs.lemmas.Bool.{and_parts, ltb-true, ltb-false, eqb-true}
 use Rattle.std.proofs.lemmas.Nat.{mul-le}
+use Rattle.std.proofs.lemmas.Option.{same_Some}
+use Rattle.std.proofs.lemmas.Grind.{div_ceil_times}
 use Rattle.lisa_tree.specs.declared.tokens.Shape.{Shape}
 use Rattle.lisa_tree.specs.declared.faults.DescFault.TheVariants as faults
 use Rattle.lisa_tree.specs.Statements.{HeadTree}
@@ -18,8 +20,9 @@ use Rattle.shape_checks.specs.declared.bounds.Bounds.{Bounds}
 use Rattle.shape_checks.specs.Bounds.{limit_of, step_of, bounds_with, where_typed, bounds_of, turns, last_value, number_bits, holds, holds_values}
 use Rattle.shape_checks.specs.Shapes.{is_width, counter_width, bad_width, open_fault, without_bound}
 use Rattle.description_promises.specs.Freedom.{IsFree, Stands}
+use Rattle.description_promises.specs.Running.{FitsLoop}
 use Rattle.description_promises.proofs.Among.{free_place}
-use Rattle.use_promises.specs.Counting.{HoldsValues}
+use Rattle.use_promises.specs.Counting.{HoldsValues, TurnsBelow}
 
 -- ---- bounds
 
@@ -58,6 +61,45 @@ each_held shape b e k low = by (nat_eq (turns b) 0) (holds shape (last_value b))
         under : (a x y m : ℕ) → x ≤ y → a + y < m → a + x < m
         under a x y m l h = omega (arith, l, h)
     by false false none is f = absurd (cc f)
+
+-- ---- turns
+
+-- so many times a step are the least that reach what is left
+below_all : (a n k s : ℕ) → a ≤ n * s → k * s < a → k < n
+below_all a n k s reach low = by (nat_lt k n) refl
+  where
+    by : (t : Bool) → nat_lt k n ≡ t → k < n
+    by true on = ltb-true k n on
+    by false off = let most = mul-le n s k s (ltb-false k n off) (omega arith) in absurd (omega (arith, most, reach, low))
+
+below_each : (a n k s : ℕ) → n * s < a + s → k < n → k * s < a
+below_each a n k s reach low = let most = mul-le (suc k) s n s (omega (arith, low)) (omega arith) in omega (arith, most, reach)
+
+exact_turns : (b : Bounds) → 0 < b.step → (k : ℕ) → (k < turns b) ↔ (b.first + k * b.step < b.limit)
+exact_turns b onward k =
+    let t = div_ceil_times (b.limit - b.first) b.step onward in (
+      (λ low. shift b.first b.limit (k * b.step) (below_each (b.limit - b.first) (turns b) k b.step t.1 low)),
+      (λ low. below_all (b.limit - b.first) (turns b) k b.step t.0 (back b.first b.limit (k * b.step) low)),
+    )
+  where
+    shift : (first limit x : ℕ) → x < limit - first → first + x < limit
+    shift first limit x h = omega (arith, h)
+
+    back : (first limit x : ℕ) → first + x < limit → x < limit - first
+    back first limit x h = omega (arith, h)
+
+pub turns_below : (head : HeadTree) → HoldsValues head → FitsLoop head → TurnsBelow head
+turns_below head h fits =
+    let same : h.bounds ≡ fits.bounds = same_Some h.bounds fits.bounds (sym h.are ∙ fits.are) in
+    record {
+      shape = h.shape;
+      typed = h.typed;
+      bounds = h.bounds;
+      are = h.are;
+      exact = exact_turns h.bounds h.onward;
+      few = subst (λ (b : Bounds). turns b ≤ 256) (sym same) fits.few;
+      held = λ k low. h.each k ((exact_turns h.bounds h.onward k).1 low);
+    }
 
 -- ---- heads
 

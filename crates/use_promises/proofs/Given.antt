@@ -20,7 +20,7 @@ use Rattle.description_types.specs.Codings.{kind_or_unsigned, width_type}
 use Rattle.description_types.specs.Facts.{entry_value}
 use Rattle.description_types.specs.Kinds.{expression_type, type_fact}
 use Rattle.description_types.specs.Steady.{types_steady}
-use Rattle.description_types.specs.Tables.{Known, AreKinds}
+use Rattle.description_types.specs.Tables.{apart, Known, AreKinds}
 use Rattle.name_checks.specs.Doubled.{duplicate}
 use Rattle.name_checks.specs.Unknown.{unknown}
 use Rattle.kind_checks.specs.WrongKinds.{wrong_kind}
@@ -29,7 +29,8 @@ use Rattle.description_promises.proofs.Named.{what_is}
 use Rattle.description_promises.proofs.Settling.{operation_is, entry_is}
 use Rattle.description_promises.proofs.Typing.{child_types, reference_types}
 use Rattle.description_promises.proofs.Chosen.{plain_listed}
-use Rattle.use_promises.specs.Meant.{MayMean, itself, higher, ChoosesFrom}
+use Rattle.meant_declarations.specs.Meant.{MayMean, itself, higher}
+use Rattle.use_promises.specs.Meant.{ChoosesFrom}
 use Rattle.use_promises.specs.Valued.{HasExpression, IsField, HasValues}
 use Rattle.use_promises.proofs.Traits.{coding_is}
 
@@ -49,7 +50,7 @@ module _ (d : DescriptionTree) (known : Known) (kinds : AreKinds d known) (names
       some_same x y f = cc f
 
   -- an operation with a type has an EXPRESSION
-  expressed : (o : ℕ) (r : Option ExprTree) → expression_type known.types d o r ≡ Some (types.Typed s) → (x : ExprTree) × (r ≡ Some x)
+  expressed : (o : ℕ) (r : Option ExprTree) → expression_type (apart known.traits) known.types d o r ≡ Some (types.Typed s) → (x : ExprTree) × (r ≡ Some x)
   expressed o None e = absurd (cc e)
   expressed o (Some x) e = (x, refl)
 
@@ -57,7 +58,7 @@ module _ (d : DescriptionTree) (known : Known) (kinds : AreKinds d known) (names
   child_expressed i j c e t m is which o h =
       let w : (what_at d j ≡ Some (whats.Group c)) ⊎ (what_at d j ≡ Some (whats.Instance c)) = ⊎_elim (λ f. inl (what_is d j e is ∙ ap (λ (x : What). Some x) f)) (λ f. inr (what_is d j e is ∙ ap (λ (x : What). Some x) f)) which in
       let typed = child_types d known kinds names stand uses j c s w (meant_typed m t) o h in
-      let value = operation_is d known names stand uses (type_fact d) (types_steady d) known.types kinds.types o (alternatives_below d c o (plain_listed d c o h)) in
+      let value = operation_is d known names stand uses (type_fact d (apart known.traits)) (types_steady d (apart known.traits)) known.types kinds.types o (alternatives_below d c o (plain_listed d c o h)) in
       expressed o (expression_in (sections_at d o)) (sym value ∙ typed)
 
   -- a label with a type has a field
@@ -67,7 +68,7 @@ module _ (d : DescriptionTree) (known : Known) (kinds : AreKinds d known) (names
 
   pub label_fielded : (i j : ℕ) (e : Entry) → IsTyped (entry_node d i) → MayMean d i j → slice_get (entries d) j ≡ Some e → e.what ≡ whats.Label → IsField d e s
   label_fielded i j e t m is what =
-      let value = entry_is d known names stand uses (type_fact d) (types_steady d) known.types kinds.types j e is ∙ ap (λ (x : What). entry_value d (type_fact d) known.types j (Some x)) what in
+      let value = entry_is d known names stand uses (type_fact d (apart known.traits)) (types_steady d (apart known.traits)) known.types kinds.types j e is ∙ ap (λ (x : What). entry_value d (type_fact d (apart known.traits)) known.types j (Some x)) what in
       let label = value ∙ ap (λ (x : CodedName). Some x.label) (coding_is d j e is) in
       let f = fielded (kind_or_unsigned (number_kind e.name (syntax_in (sections_at d e.operation)))) (field_width e.name (coding_in (sections_at d e.operation))) (sym label ∙ meant_typed m t) in
       record { width = f.0; field = f.1; type = f.2 }

@@ -14,7 +14,7 @@ use Rattle.description_types.specs.declared.values.Assignable.TheVariants as ass
 use Rattle.description_types.specs.Facts.{entry_value}
 use Rattle.description_types.specs.Kinds.{assignable_fact}
 use Rattle.description_types.specs.Steady.{assignables_steady}
-use Rattle.description_types.specs.Tables.{Known, AreKinds}
+use Rattle.description_types.specs.Tables.{unfit, Known, AreKinds}
 use Rattle.name_checks.specs.Doubled.{duplicate}
 use Rattle.name_checks.specs.Unknown.{unknown}
 use Rattle.kind_checks.specs.WrongKinds.{wrong_kind}
@@ -22,7 +22,7 @@ use Rattle.description_promises.specs.Freedom.{IsFree, Stands}
 use Rattle.description_promises.specs.Ranks.{Ranks}
 use Rattle.description_promises.proofs.Settling.{entry_is}
 use Rattle.description_promises.proofs.Assigned.{written, reference_yes}
-use Rattle.use_promises.specs.Meant.{MayMean, itself, higher}
+use Rattle.meant_declarations.specs.Meant.{MayMean, itself, higher}
 use Rattle.use_promises.specs.Using.{IsChildEntry}
 use Rattle.use_promises.proofs.References.{definite}
 
@@ -41,8 +41,8 @@ module _ (d : DescriptionTree) (known : Known) (kinds : AreKinds d known) (names
       some_same x y f = cc f
 
   no_label : (j : ℕ) (e : Entry) → slice_get (entries d) j ≡ Some e → IsAssignable j → e.what ≡ whats.Label → ⊥
-  no_label j e is y what = off (sym (entry_is d known names stand uses (assignable_fact d) (assignables_steady d) known.assignables kinds.assignables j e is
-      ∙ ap (λ (x : What). entry_value d (assignable_fact d) known.assignables j (Some x)) what) ∙ y)
+  no_label j e is y what = off (sym (entry_is d known names stand uses (assignable_fact d (unfit known.traits known.typeless)) (assignables_steady d (unfit known.traits known.typeless)) known.assignables kinds.assignables j e is
+      ∙ ap (λ (x : What). entry_value d (assignable_fact d (unfit known.traits known.typeless)) known.assignables j (Some x)) what) ∙ y)
     where
       off : Some assigns.No ≡ Some assigns.Yes → ⊥
       off f = absurd (cc f)

@@ -11,16 +11,15 @@ use Rattle.description_names.specs.declared.declared.What.TheVariants as whats
 use Rattle.description_names.specs.Same.{same_name}
 use Rattle.description_names.specs.Operations.{name_at}
 use Rattle.description_names.specs.Declarations.{Entry, entries, declared_at, above, is_reference}
-use Rattle.description_names.specs.Paths.{Declaring, entry_node, refers}
+use Rattle.description_names.specs.Paths.{Declaring, refers}
 use Rattle.description_graph.proofs.Hits.{found}
 use Rattle.graph_paths.specs.Paths.{is_in}
 use Rattle.description_types.specs.declared.values.Traits.{Traits}
-use Rattle.description_types.specs.Kinds.{label_traits, choice_traits, child_traits}
-use Rattle.description_types.specs.Codings.{coding_at}
+use Rattle.description_types.specs.declared.values.Trait.TheVariants as which
 use Rattle.description_types.specs.Tables.{Known, AreKinds}
 use Rattle.name_checks.specs.Doubled.{duplicate}
 use Rattle.name_checks.specs.Unknown.{unknown, is_main, lacks, is_loose, what_of}
-use Rattle.kind_checks.specs.Uses.{sorts_differ, types_differ, assignables_differ, what_misdeclared}
+use Rattle.kind_checks.specs.Uses.{sorts_differ, what_misdeclared}
 use Rattle.kind_checks.specs.WrongKinds.{wrong_kind}
 use Rattle.description_promises.specs.Freedom.{IsFree}
 use Rattle.description_promises.specs.Ranks.{Ranks}
@@ -29,8 +28,9 @@ use Rattle.description_promises.proofs.Entries.{entry_stands}
 use Rattle.description_promises.proofs.Decoding.{off_left, not_off, some_of, is_found}
 use Rattle.description_promises.proofs.Named.{entry_found, what_is}
 use Rattle.description_promises.proofs.Choosing.{rightly_declared}
-use Rattle.use_promises.specs.Meant.{MayMean, itself, higher, FitsReference}
-use Rattle.use_promises.proofs.Traits.{none_in, lacking, means, child_is_known, label_is_known, known_at, meant_lack}
+use Rattle.meant_declarations.specs.Meant.{MayMean, itself, higher}
+use Rattle.use_promises.specs.Meant.{ChoosesFrom, FitsReference}
+use Rattle.use_promises.proofs.Traits.{none_in, means, own_child, own_label, shows}
 
 unlike : (a b : List ℕ) → same_name a b ≡ false → a ≢ b
 unlike a b e = λ same. absurd (cc (sym (ap (same_name a) same ∙ e), nat_list_eq_equiv.refl a))
@@ -108,65 +108,42 @@ module _ (d : DescriptionTree) (names : IsFree (duplicate d) d) (stand : IsFree 
     pub some_meant : (i : ℕ) (e : Entry) → slice_get (entries d) i ≡ Some e → Means i
     some_meant i e is = means_below (suc (ranks.rank (Declaring i))) i e is (omega arith)
 
-    -- ---- all that a name may mean is of one sort
+  -- ---- all that a name may mean is of one sort
 
-    module _ (known : Known) (uses : IsFree (wrong_kind known d) d) (kinds : AreKinds d known) where
-      one_sort : (i : ℕ) (e : Entry) → slice_get (entries d) i ≡ Some e → (t : Traits) → known.traits (entry_node d i) ≡ Some t → (t.label && t.child) ≡ false
-      one_sort i e is t at = by e.what refl
-        where
-          of_child : (c : ℕ) → known.traits (entry_node d i) ≡ Some (child_traits (coding_at d i) (choice_traits d c)) → (t.label && t.child) ≡ false
-          of_child c f = let same : t ≡ child_traits (coding_at d i) (choice_traits d c) = some_same t (child_traits (coding_at d i) (choice_traits d c)) (sym at ∙ f) in ap (λ (x : Traits). x.label && x.child) same
-            where
-              some_same : (x y : Traits) → Some x ≡ Some y → x ≡ y
-              some_same x y g = cc g
+  -- the only meaning of a declaration
+  only : {i k : ℕ} (e : Entry) → slice_get (entries d) i ≡ Some e → refers e.what ≡ false → MayMean d i k → k ≡ i
+  only e is off (itself x at other same) = sym same
+  only e is off (higher x p l at what h there more) = absurd (let same : e ≡ x = some_same (sym is ∙ at) in cc (off, same, what))
+    where
+      some_same : {a b : Entry} → Some a ≡ Some b → a ≡ b
+      some_same f = cc f
 
-          of_label : known.traits (entry_node d i) ≡ Some label_traits → (t.label && t.child) ≡ false
-          of_label f = let same : t ≡ label_traits = some_same t label_traits (sym at ∙ f) in ap (λ (x : Traits). x.label && x.child) same
-            where
-              some_same : (x y : Traits) → Some x ≡ Some y → x ≡ y
-              some_same x y g = cc g
+  module _ (known : Known) (uses : IsFree (wrong_kind known d) d) (kinds : AreKinds d known) where
+    -- a reference doesn't mean both a label and a child
+    not_both : (i j k : ℕ) (e a b : Entry) (c : ℕ) → slice_get (entries d) i ≡ Some e → e.what ≡ whats.Reference → MayMean d i j → MayMean d i k → slice_get (entries d) j ≡ Some a → slice_get (entries d) k ≡ Some b → a.what ≡ whats.Label
+        → ChoosesFrom b c → ⊥
+    not_both i j k e a b c is what m n first second label child =
+        let refused : what_misdeclared known d i (Some whats.Reference) ≡ false = ap (λ (x : What). what_misdeclared known d i (Some x)) (sym what) ∙ rightly_declared d known names uses i e is in
+        let off : sorts_differ (known.traits i) ≡ false = off_left (sorts_differ (known.traits i)) _ refused in
+        let one : (known.traits i).label ≡ true = shows d known.traits kinds.traits which.Label m (ap (λ (t : Traits). t.label) (own_label d j a first label)) in
+        let other : (known.traits i).child ≡ true = shows d known.traits kinds.traits which.Child n (ap (λ (t : Traits). t.child) (own_child d k b second c child)) in
+        absurd (cc (sym off ∙ both (known.traits i).label (known.traits i).child one other))
+      where
+        both : (x y : Bool) → x ≡ true → y ≡ true → (x && y) ≡ true
+        both x y f g = grind arith
 
-          by : (w : What) → e.what ≡ w → (t.label && t.child) ≡ false
-          by (whats.Group c) what = of_child c (child_is_known d known names stand uses kinds.traits i c e is (inl what))
-          by (whats.Instance c) what = of_child c (child_is_known d known names stand uses kinds.traits i c e is (inr what))
-          by whats.Label what = of_label (label_is_known d known names stand uses kinds.traits i e is what)
-          by whats.Reference what =
-              let b : what_misdeclared known d i (Some whats.Reference) ≡ false = ap (λ (x : What). what_misdeclared known d i (Some x)) (sym what) ∙ rightly_declared d known names uses i e is in
-              sym (ap sorts_differ at) ∙ off_left (sorts_differ (known.traits (entry_node d i))) (types_differ (known.types (entry_node d i)) || assignables_differ (known.assignables (entry_node d i))) b
-
-      entry_of : {i j : ℕ} → MayMean d i j → (e : Entry) × (slice_get (entries d) i ≡ Some e)
-      entry_of (itself e is other same) = (e, is)
-      entry_of (higher e p k is what h at more) = (e, is)
-
-      pub same_sort : {i j k : ℕ} → MayMean d i j → MayMean d i k → (a b : Entry) → slice_get (entries d) j ≡ Some a → slice_get (entries d) k ≡ Some b → a.what ≡ whats.Label → b.what ≡ whats.Label
-      same_sort {i = i} {j = j} {k = k} m n a b first second label = by b.what refl
-        where
-          start : (e : Entry) × (slice_get (entries d) i ≡ Some e)
-          start = entry_of m
-
-          here : (t : Traits) × (known.traits (entry_node d i) ≡ Some t)
-          here = known_at d known names stand uses kinds.traits ranks reference_fits i start.0 start.1
-
-          other : (c : ℕ) → known.traits (entry_node d k) ≡ Some (child_traits (coding_at d k) (choice_traits d c)) → ⊥
-          other c at = which here.0.label refl
-            where
-              which : (x : Bool) → here.0.label ≡ x → ⊥
-              which false e =
-                  let l = meant_lack d known names stand uses kinds.traits (λ (t : Traits). t.label) (λ x y. refl) m (record { value = here.0; is = here.1; off = e }) in
-                  let off : label_traits.label ≡ false = lacking (λ (t : Traits). t.label) _ label_traits l (label_is_known d known names stand uses kinds.traits j a first label) in
-                  absurd (cc off)
-              which true e =
-                  let no_child : here.0.child ≡ false = second_off here.0.label here.0.child e (one_sort i start.0 start.1 here.0 here.1) in
-                  let l = meant_lack d known names stand uses kinds.traits (λ (t : Traits). t.child) (λ x y. refl) n (record { value = here.0; is = here.1; off = no_child }) in
-                  let off : (child_traits (coding_at d k) (choice_traits d c)).child ≡ false = lacking (λ (t : Traits). t.child) _ (child_traits (coding_at d k) (choice_traits d c)) l at in
-                  absurd (cc off)
-                where
-                  second_off : (x y : Bool) → x ≡ true → (x && y) ≡ false → y ≡ false
-                  second_off true y f g = g
-                  second_off false y f g = absurd (cc f)
-
-          by : (w : What) → b.what ≡ w → b.what ≡ whats.Label
-          by (whats.Group c) what = absurd (other c (child_is_known d known names stand uses kinds.traits k c b second (inl what)))
-          by (whats.Instance c) what = absurd (other c (child_is_known d known names stand uses kinds.traits k c b second (inr what)))
-          by whats.Label what = what
-          by whats.Reference what = absurd (definite d n b second what)
+    pub same_sort : {i j k : ℕ} → MayMean d i j → MayMean d i k → (a b : Entry) → slice_get (entries d) j ≡ Some a → slice_get (entries d) k ≡ Some b → a.what ≡ whats.Label → b.what ≡ whats.Label
+    same_sort {j = j} {k = k} (itself e is off same) n a b first second label =
+        let alike : k ≡ j = only e is off n ∙ same in
+        let entry : b ≡ a = some_same (sym second ∙ ap (slice_get (entries d)) alike ∙ first) in
+        ap (λ (x : Entry). x.what) entry ∙ label
+      where
+        some_same : {a b : Entry} → Some a ≡ Some b → a ≡ b
+        some_same f = cc f
+    same_sort {i = i} {j = j} {k = k} (higher e p q is what h at more) n a b first second label = by b.what refl
+      where
+        by : (w : What) → b.what ≡ w → b.what ≡ whats.Label
+        by (whats.Group c) f = absurd (not_both i j k e a b c is what (higher e p q is what h at more) n first second label (inl f))
+        by (whats.Instance c) f = absurd (not_both i j k e a b c is what (higher e p q is what h at more) n first second label (inr f))
+        by whats.Label f = f
+        by whats.Reference f = absurd (definite d n b second f)

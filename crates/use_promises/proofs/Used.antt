@@ -22,73 +22,50 @@ use Rattle.description_names.specs.Resources.{resource_at}
 use Rattle.description_names.specs.Operations.{name_at, sections_at, coding_in, own_stage, is_root}
 use Rattle.description_names.specs.Declarations.{Entry, entries, declared_at, what_at, plain_at, alternatives_at}
 use Rattle.description_names.specs.Meanings.{meaning, meaning_of}
-use Rattle.description_names.specs.Paths.{entry_node}
 use Rattle.description_graph.proofs.Hits.{found}
 use Rattle.graph_paths.specs.Paths.{is_in}
 use Rattle.coded_names.specs.Codings.{is_coding}
+use Rattle.description_types.specs.declared.values.Trait.{Trait}
+use Rattle.description_types.specs.declared.values.Trait.TheVariants as traits
 use Rattle.description_types.specs.declared.values.Traits.{Traits}
 use Rattle.description_types.specs.declared.values.CodedName.{CodedName}
 use Rattle.description_types.specs.Codings.{coding_at}
-use Rattle.description_types.specs.Kinds.{label_traits, choice_traits, child_traits}
+use Rattle.description_types.specs.Refused.{is_apart}
+use Rattle.description_types.specs.Uses.{holds, choice_traits, child_traits, own_traits}
 use Rattle.description_types.specs.Tables.{Known, AreKinds}
 use Rattle.name_checks.specs.Doubled.{duplicate}
 use Rattle.name_checks.specs.Unknown.{unknown, is_something, stands, is_known, register_unknown, part_unknown}
-use Rattle.kind_checks.specs.Uses.{by_sort, is_apart, is_uncallable, is_uncoded, is_no_operand, is_rooted, is_instructions, is_misplaced, is_empty, lacks_type, is_unassignable, meant_misread, is_misread, meant_miswritten, is_miswritten, meant_miscalled, is_miscalled, is_misstarted, is_wrong_operand, is_wrong_root_group, is_wrong_shown, what_misdeclared}
+use Rattle.kind_checks.specs.Uses.{by_sort, is_no_operand, is_empty, meant_misread, is_misread, meant_miswritten, is_miswritten, meant_miscalled, is_miscalled, is_misstarted, is_wrong_operand, is_wrong_root_group, is_wrong_shown, what_misdeclared}
 use Rattle.kind_checks.specs.WrongKinds.{wrong_kind, owner_name, faulty, register_name, root_name}
 use Rattle.description_promises.specs.Freedom.{IsFree, Stands}
-use Rattle.description_promises.specs.Ranks.{Ranks}
 use Rattle.description_promises.proofs.Among.{free_place}
 use Rattle.description_promises.proofs.Decoding.{off_left, off_right, or_right, none_of, is_found, is_right, is_right_first, no_name, not_faulty}
 use Rattle.description_promises.proofs.Named.{what_is}
 use Rattle.description_promises.proofs.Choosing.{rightly_declared}
 use Rattle.use_promises.specs.Meant.{ChoosesFrom}
 use Rattle.use_promises.specs.Using.{RunsInPlace, IsCoded, IsDecided, NamesRootGroup, MayRun, ChildrenMayRun, IsChildEntry, IsCallable, DeclaresChild, IsStartable, IsOperand, IsRootGroup, IsShowable}
-use Rattle.use_promises.proofs.Traits.{none_in, Lacks, lacking, coding_is, child_is_known, label_is_known, known_at, meant_lack}
-use Rattle.use_promises.proofs.References.{definite, reference_fits}
+use Rattle.use_promises.proofs.Traits.{none_in, coding_is, own_child, own_label, means_itself, lacks}
+use Rattle.use_promises.proofs.References.{definite}
 
 -- ---- what is off where a use is right
 
-abbrev staged : Traits → Bool
-staged t = t.staged
-
-abbrev rooted : Traits → Bool
-rooted t = t.rooted
-
-abbrev uncoded : Traits → Bool
-uncoded t = t.uncoded
-
-abbrev instructions : Traits → Bool
-instructions t = t.instructions
-
-abbrev misplaced : Traits → Bool
-misplaced t = t.misplaced
-
-abbrev labelled : Traits → Bool
-labelled t = t.label
-
 -- what runs where it is used
-record Apart (r : Option Traits) : Type 0 where
-  pub stage : Lacks staged r
-  pub root : Lacks rooted r
-  pub code : Lacks uncoded r
-  pub group : Lacks instructions r
+record Apart (t : Traits) : Type 0 where
+  pub stage : t.staged ≡ false
+  pub root : t.rooted ≡ false
+  pub code : t.uncoded ≡ false
+  pub group : t.instructions ≡ false
 
-apart : (r : Option Traits) (t : Traits) → r ≡ Some t → (t.staged || (t.rooted || (t.uncoded || t.instructions))) ≡ false → Apart r
-apart r t is e =
+apart : (t : Traits) → is_apart t ≡ false → Apart t
+apart t e =
     let one = off_right t.staged _ e in
     let two = off_right t.rooted _ one in
     record {
-      stage = record { value = t; is = is; off = off_left t.staged _ e };
-      root = record { value = t; is = is; off = off_left t.rooted _ one };
-      code = record { value = t; is = is; off = off_left t.uncoded _ two };
-      group = record { value = t; is = is; off = off_right t.uncoded _ two };
+      stage = off_left t.staged _ e;
+      root = off_left t.rooted _ one;
+      code = off_left t.uncoded _ two;
+      group = off_right t.uncoded _ two;
     }
-
-of_apart : (r : Option Traits) (t : Traits) → r ≡ Some t → is_apart r ≡ false → (t.staged || (t.rooted || (t.uncoded || t.instructions))) ≡ false
-of_apart r t is e = sym (ap is_apart is) ∙ e
-
-of_uncallable : (r : Option Traits) (t : Traits) → r ≡ Some t → is_uncallable r ≡ false → (t.label || (t.staged || (t.rooted || (t.uncoded || t.instructions)))) ≡ false
-of_uncallable r t is e = sym (ap is_uncallable is) ∙ e
 
 more_than : (x y : Bool) → (x && not y) ≡ false → x ≡ true → y ≡ true
 more_than true true e f = refl
@@ -96,53 +73,50 @@ more_than true false e f = absurd (cc e)
 more_than false y e f = absurd (cc f)
 
 module _ (d : DescriptionTree) (known : Known) (kinds : AreKinds d known) (names : IsFree (duplicate d) d) (stand : IsFree (unknown d) d) (uses : IsFree (wrong_kind known d) d) where
-  abbrev traits_at : ℕ → Option Traits
-  traits_at i = known.traits (entry_node d i)
-
   -- ---- groups and instances
 
   module _ (i c : ℕ) (e : Entry) (is : slice_get (entries d) i ≡ Some e) (which : ChoosesFrom e c) where
-    its_traits : traits_at i ≡ Some (child_traits (coding_at d i) (choice_traits d c))
-    its_traits = child_is_known d known names stand uses kinds.traits i c e is which
+    abbrev own : Traits
+    own = own_traits d i
 
-    no_stage : Lacks staged (traits_at i) → (o : ℕ) → is_in o (plain_at d c) ≡ true → own_stage d o ≡ None
-    no_stage l o h = none_of (own_stage d o) (none_in (λ x. is_some (own_stage d x)) o (plain_at d c) h (lacking staged (traits_at i) _ l its_traits))
+    its_traits : own ≡ child_traits (coding_at d i) (choice_traits d c)
+    its_traits = own_child d i e is c which
 
-    no_root : Lacks rooted (traits_at i) → (o : ℕ) → is_in o (plain_at d c) ≡ true → is_root d o ≡ false
-    no_root l o h = none_in (is_root d) o (plain_at d c) h (lacking rooted (traits_at i) _ l its_traits)
+    no_stage : own.staged ≡ false → (o : ℕ) → is_in o (plain_at d c) ≡ true → own_stage d o ≡ None
+    no_stage off o h = none_of (own_stage d o) (none_in (λ x. is_some (own_stage d x)) o (plain_at d c) h (sym (ap (λ (t : Traits). t.staged) its_traits) ∙ off))
 
-    in_place : Lacks staged (traits_at i) → Lacks rooted (traits_at i) → (o : ℕ) → is_in o (plain_at d c) ≡ true → RunsInPlace d o
-    in_place l m o h = record { no_stage = no_stage l o h; no_root = no_root m o h }
+    no_root : own.rooted ≡ false → (o : ℕ) → is_in o (plain_at d c) ≡ true → is_root d o ≡ false
+    no_root off o h = none_in (is_root d) o (plain_at d c) h (sym (ap (λ (t : Traits). t.rooted) its_traits) ∙ off)
+
+    in_place : own.staged ≡ false → own.rooted ≡ false → (o : ℕ) → is_in o (plain_at d c) ≡ true → RunsInPlace d o
+    in_place staged rooted o h = record { no_stage = no_stage staged o h; no_root = no_root rooted o h }
 
     coded_so : (coding_at d i).coded ≡ true → IsCoded d e
     coded_so f = sym (ap (λ (x : CodedName). x.coded) (coding_is d i e is)) ∙ f
 
-    decided : Lacks uncoded (traits_at i) → IsDecided d e c
-    decided l many = coded_so (more_than (nat_lt 1 (length (plain_at d c))) (coding_at d i).coded (lacking uncoded (traits_at i) _ l its_traits) (lt-ltb 1 (length (plain_at d c)) many))
+    decided : own.uncoded ≡ false → IsDecided d e c
+    decided off many = coded_so (more_than (nat_lt 1 (length (plain_at d c))) (coding_at d i).coded (sym (ap (λ (t : Traits). t.uncoded) its_traits) ∙ off) (lt-ltb 1 (length (plain_at d c)) many))
 
-    no_group : Lacks instructions (traits_at i) → NamesRootGroup d e → ⊥
-    no_group l f =
-        let off : (coding_at d i).instructions ≡ false = lacking instructions (traits_at i) _ l its_traits in
-        absurd (cc (sym f ∙ sym (ap (λ (x : CodedName). x.instructions) (coding_is d i e is)) ∙ off))
+    no_group : own.instructions ≡ false → NamesRootGroup d e → ⊥
+    no_group off f =
+        let none : (coding_at d i).instructions ≡ false = sym (ap (λ (t : Traits). t.instructions) its_traits) ∙ off in
+        absurd (cc (sym f ∙ sym (ap (λ (x : CodedName). x.instructions) (coding_is d i e is)) ∙ none))
 
-    may_run : Apart (traits_at i) → MayRun d e c
+    may_run : Apart own → MayRun d e c
     may_run a = record { operations = in_place a.stage a.root; decided = decided a.code; other = no_group a.group }
 
     -- ---- what is declared
 
-    misplaced_off : is_misplaced (traits_at i) ≡ false → misplaced (child_traits (coding_at d i) (choice_traits d c)) ≡ false
-    misplaced_off e = sym (ap is_misplaced its_traits) ∙ e
-
-    right_place : what_misdeclared known d i (Some e.what) ≡ false → is_misplaced (traits_at i) ≡ false
+    right_place : what_misdeclared known d i (Some e.what) ≡ false → (known.traits i).misplaced ≡ false
     right_place b = ⊎_elim
-        (λ w. off_right (is_empty (plain_at d c)) (is_misplaced (traits_at i)) (sym (ap (λ (x : What). what_misdeclared known d i (Some x)) w) ∙ b))
-        (λ w. off_right (is_empty (plain_at d c)) (is_misplaced (traits_at i)) (sym (ap (λ (x : What). what_misdeclared known d i (Some x)) w) ∙ b))
+        (λ w. off_right (is_empty (plain_at d c)) (known.traits i).misplaced (sym (ap (λ (x : What). what_misdeclared known d i (Some x)) w) ∙ b))
+        (λ w. off_right (is_empty (plain_at d c)) (known.traits i).misplaced (sym (ap (λ (x : What). what_misdeclared known d i (Some x)) w) ∙ b))
         which
 
     pub coded_there : (o : ℕ) (all : List CodingItem) → is_in o (alternatives_at d c) ≡ true → coding_in (sections_at d o) ≡ Some (trees.Items all) → IsCoded d e
     coded_there o all h coding =
-        let off = misplaced_off (right_place (rightly_declared d known names uses i e is)) in
-        coded_so (more_than (list_any (λ x. is_coding (coding_in (sections_at d x))) (alternatives_at d c)) (coding_at d i).coded off (some_coding (alternatives_at d c) h))
+        let off : own.misplaced ≡ false = lacks d known.traits kinds.traits traits.Misplaced (means_itself d i e is c which) (right_place (rightly_declared d known names uses i e is)) in
+        coded_so (more_than (list_any (λ x. is_coding (coding_in (sections_at d x))) (alternatives_at d c)) (coding_at d i).coded (sym (ap (λ (t : Traits). t.misplaced) its_traits) ∙ off) (some_coding (alternatives_at d c) h))
       where
         coding_test : is_coding (coding_in (sections_at d o)) ≡ true
         coding_test = ap is_coding coding
@@ -191,57 +165,51 @@ module _ (d : DescriptionTree) (known : Known) (kinds : AreKinds d known) (names
   either : (test : ℕ → Bool) {i : ℕ} → (test i ≡ false) ⊎ (test i ≡ false) → test i ≡ false
   either test r = ⊎_elim (λ e. e) (λ e. e) r
 
-  -- what is off of a child is off of what is known of it
-  abbrev traits_of : {o : ℕ} {n : List ℕ} → DeclaresChild d o n → Traits
-  traits_of s = child_traits (coding_at d s.number) (choice_traits d s.choice)
+  -- what isn't known of a child doesn't hold of it
+  child_lacks : {o : ℕ} {n : List ℕ} (s : DeclaresChild d o n) (q : Trait) → holds q (known.traits s.number) ≡ false → holds q (own_traits d s.number) ≡ false
+  child_lacks s q off = lacks d known.traits kinds.traits q (means_itself d s.number s.entry s.is s.choice s.chooses) off
 
-  known_child : {o : ℕ} {n : List ℕ} (s : DeclaresChild d o n) → traits_at s.number ≡ Some (traits_of s)
-  known_child s = child_is_known d known names stand uses kinds.traits s.number s.choice s.entry s.is s.chooses
-
-  child_lacks : {o : ℕ} {n : List ℕ} (s : DeclaresChild d o n) (Q : Traits → Bool) → Q (traits_of s) ≡ false → Lacks Q (traits_at s.number)
-  child_lacks s Q off = record { value = traits_of s; is = known_child s; off = off }
-
-  start_fits : (o : ℕ) (n : List ℕ) → Sorted o n (λ i. is_uncoded (traits_at i)) (λ i. is_uncoded (traits_at i)) → IsStartable d o n
+  start_fits : (o : ℕ) (n : List ℕ) → Sorted o n (λ i. (known.traits i).uncoded) (λ i. (known.traits i).uncoded) → IsStartable d o n
   start_fits o n t = record {
     child = t.declares;
     decided = decided t.declares.number t.declares.choice t.declares.entry t.declares.is t.declares.chooses
-        (child_lacks t.declares uncoded (sym (ap is_uncoded (known_child t.declares)) ∙ either (λ i. is_uncoded (traits_at i)) t.right));
+        (child_lacks t.declares traits.Uncoded (either (λ i. (known.traits i).uncoded) t.right));
   }
 
   start_sorted : (o : ℕ) (n : List ℕ) → Rightly o n (is_misstarted known d) → IsStartable d o n
-  start_sorted o n r = start_fits o n (sorted o n (λ i. is_uncoded (traits_at i)) (λ i. is_uncoded (traits_at i)) r.number r.entry r.declared r.is r.right)
+  start_sorted o n r = start_fits o n (sorted o n (λ i. (known.traits i).uncoded) (λ i. (known.traits i).uncoded) r.number r.entry r.declared r.is r.right)
 
   pub starts_child : (o : ℕ) (n : List ℕ) → Stands d (at o regions.Activation [] (places.Starts n)) → IsStartable d o n
   starts_child o n s = start_sorted o n (rightly o n (is_misstarted known d) (λ k. refl) (is_found (name_at d o) (is_known d o [] n) n (free_place (unknown d) d stand _ s))
       (is_right (name_at d o) (is_misstarted known d (meaning d o n)) n (free_place (wrong_kind known d) d uses _ s)))
 
-  operand_off : (o : ℕ) (n : List ℕ) (t : Sorted o n (λ i. is_no_operand (traits_at i)) (λ i. is_no_operand (traits_at i))) → (staged (traits_of t.declares) || rooted (traits_of t.declares)) ≡ false
-  operand_off o n t = sym (ap is_no_operand (known_child t.declares)) ∙ either (λ i. is_no_operand (traits_at i)) t.right
+  operand_off : (o : ℕ) (n : List ℕ) (t : Sorted o n (λ i. is_no_operand (known.traits i)) (λ i. is_no_operand (known.traits i))) → ((known.traits t.declares.number).staged || (known.traits t.declares.number).rooted) ≡ false
+  operand_off o n t = either (λ i. is_no_operand (known.traits i)) t.right
 
-  operand_fits : (o : ℕ) (n : List ℕ) → Sorted o n (λ i. is_no_operand (traits_at i)) (λ i. is_no_operand (traits_at i)) → IsOperand d o n
+  operand_fits : (o : ℕ) (n : List ℕ) → Sorted o n (λ i. is_no_operand (known.traits i)) (λ i. is_no_operand (known.traits i)) → IsOperand d o n
   operand_fits o n t = record {
     child = t.declares;
     operations = in_place t.declares.number t.declares.choice t.declares.entry t.declares.is t.declares.chooses
-        (child_lacks t.declares staged (off_left (staged (traits_of t.declares)) (rooted (traits_of t.declares)) (operand_off o n t)))
-        (child_lacks t.declares rooted (off_right (staged (traits_of t.declares)) (rooted (traits_of t.declares)) (operand_off o n t)));
+        (child_lacks t.declares traits.Staged (off_left (known.traits t.declares.number).staged (known.traits t.declares.number).rooted (operand_off o n t)))
+        (child_lacks t.declares traits.Rooted (off_right (known.traits t.declares.number).staged (known.traits t.declares.number).rooted (operand_off o n t)));
   }
 
   operand_sorted : (o : ℕ) (n : List ℕ) → Rightly o n (is_wrong_operand known d) → IsOperand d o n
-  operand_sorted o n r = operand_fits o n (sorted o n (λ i. is_no_operand (traits_at i)) (λ i. is_no_operand (traits_at i)) r.number r.entry r.declared r.is r.right)
+  operand_sorted o n r = operand_fits o n (sorted o n (λ i. is_no_operand (known.traits i)) (λ i. is_no_operand (known.traits i)) r.number r.entry r.declared r.is r.right)
 
   pub operand_child : (o : ℕ) (n : List ℕ) → Stands d (at o regions.Coding [] (places.Operand n)) → IsOperand d o n
   operand_child o n s = operand_sorted o n (rightly o n (is_wrong_operand known d) (λ k. refl) (is_found (name_at d o) (stands d o n) n (free_place (unknown d) d stand _ s))
       (is_right (name_at d o) (is_wrong_operand known d (meaning d o n)) n (free_place (wrong_kind known d) d uses _ s)))
 
-  root_fits : (o : ℕ) (n : List ℕ) → Sorted o n (λ i. is_rooted (traits_at i)) (λ i. true) → IsRootGroup d o n
+  root_fits : (o : ℕ) (n : List ℕ) → Sorted o n (λ i. (known.traits i).rooted) (λ i. true) → IsRootGroup d o n
   root_fits o n t = record {
     child = t.declares;
     operations = no_root t.declares.number t.declares.choice t.declares.entry t.declares.is t.declares.chooses
-        (child_lacks t.declares rooted (sym (ap is_rooted (known_child t.declares)) ∙ ⊎_elim (λ e. e) (λ e. absurd (cc e)) t.right));
+        (child_lacks t.declares traits.Rooted (⊎_elim (λ e. e) (λ e. absurd (cc e)) t.right));
   }
 
   root_sorted : (o : ℕ) (n : List ℕ) → Rightly o n (is_wrong_root_group known d) → IsRootGroup d o n
-  root_sorted o n r = root_fits o n (sorted o n (λ i. is_rooted (traits_at i)) (λ i. true) r.number r.entry r.declared r.is r.right)
+  root_sorted o n r = root_fits o n (sorted o n (λ i. (known.traits i).rooted) (λ i. true) r.number r.entry r.declared r.is r.right)
 
   pub root_child : (o : ℕ) (word : ExprTree) (n : List ℕ) → Stands d (at o regions.Coding [] (places.Root word n)) → IsRootGroup d o n
   root_child o word n s =
@@ -250,15 +218,15 @@ module _ (d : DescriptionTree) (known : Known) (kinds : AreKinds d known) (names
       root_sorted o n (rightly o n (is_wrong_root_group known d) (λ k. refl) (is_found (name_at d o) (stands d o n) n (or_right (register_unknown d o word) (part_unknown d o n) u))
       (not_faulty (is_wrong_root_group known d (meaning d o n)) n (or_right (register_name known d o word) (faulty (is_wrong_root_group known d (meaning d o n)) n) w)))
 
-  shown_fits : (o : ℕ) (n : List ℕ) → Sorted o n (λ i. is_instructions (traits_at i)) (λ i. is_instructions (traits_at i)) → IsShowable d o n
+  shown_fits : (o : ℕ) (n : List ℕ) → Sorted o n (λ i. (known.traits i).instructions) (λ i. (known.traits i).instructions) → IsShowable d o n
   shown_fits o n t = record {
     child = t.declares;
     other = no_group t.declares.number t.declares.choice t.declares.entry t.declares.is t.declares.chooses
-        (child_lacks t.declares instructions (sym (ap is_instructions (known_child t.declares)) ∙ either (λ i. is_instructions (traits_at i)) t.right));
+        (child_lacks t.declares traits.Instructions (either (λ i. (known.traits i).instructions) t.right));
   }
 
   shown_sorted : (o : ℕ) (n : List ℕ) → Rightly o n (is_wrong_shown known d) → IsShowable d o n
-  shown_sorted o n r = shown_fits o n (sorted o n (λ i. is_instructions (traits_at i)) (λ i. is_instructions (traits_at i)) r.number r.entry r.declared r.is r.right)
+  shown_sorted o n r = shown_fits o n (sorted o n (λ i. (known.traits i).instructions) (λ i. (known.traits i).instructions) r.number r.entry r.declared r.is r.right)
 
   pub shown_child : (o : ℕ) (n : List ℕ) → Stands d (at o regions.Syntax [] (places.Shown n)) → IsShowable d o n
   shown_child o n s = shown_sorted o n (rightly o n (is_wrong_shown known d) (λ k. refl) (is_found (name_at d o) (stands d o n) n (free_place (unknown d) d stand _ s))
@@ -266,67 +234,57 @@ module _ (d : DescriptionTree) (known : Known) (kinds : AreKinds d known) (names
 
   -- ---- names in expressions and statements
 
-  module _ (ranks : Ranks d) where
-    refers_right : (i : ℕ) (e : Entry) → slice_get (entries d) i ≡ Some e → (t : Traits) × (traits_at i ≡ Some t)
-    refers_right i e is = known_at d known names stand uses kinds.traits ranks (reference_fits d names stand) i e is
+  -- all that a name may mean runs where the name is used
+  run_apart : (i : ℕ) → Apart (known.traits i) → ChildrenMayRun d i
+  run_apart i a j c e m is which = may_run j c e is which (record {
+    stage = lacks d known.traits kinds.traits traits.Staged m a.stage;
+    root = lacks d known.traits kinds.traits traits.Rooted m a.root;
+    code = lacks d known.traits kinds.traits traits.Uncoded m a.code;
+    group = lacks d known.traits kinds.traits traits.Instructions m a.group;
+  })
 
-    -- all that a name may mean runs where the name is used
-    run_apart : (i : ℕ) → Apart (traits_at i) → ChildrenMayRun d i
-    run_apart i a j c e m is which = may_run j c e is which (record {
-      stage = meant_lack d known names stand uses kinds.traits staged (λ x y. refl) m a.stage;
-      root = meant_lack d known names stand uses kinds.traits rooted (λ x y. refl) m a.root;
-      code = meant_lack d known names stand uses kinds.traits uncoded (λ x y. refl) m a.code;
-      group = meant_lack d known names stand uses kinds.traits instructions (λ x y. refl) m a.group;
-    })
+  meant_as : (o i : ℕ) (n : List ℕ) → declared_at d o n ≡ Some i → meaning d o n ≡ meanings.Declared i
+  meant_as o i n at = ap (λ (x : Option ℕ). meaning_of x (resource_at d n)) at
 
-    meant_as : (o i : ℕ) (n : List ℕ) → declared_at d o n ≡ Some i → meaning d o n ≡ meanings.Declared i
-    meant_as o i n at = ap (λ (x : Option ℕ). meaning_of x (resource_at d n)) at
+  pub reads_run : (o i : ℕ) (region : Region) (scope : Scope) (n : List ℕ) → Stands d (at o region scope (places.Reads n)) → local_named n scope ≡ None → declared_at d o n ≡ Some i → ChildrenMayRun d i
+  reads_run o i region scope n s none at =
+      let w = is_right_first (owner_name d o region) (is_misread known d o n (local_named n scope)) n (free_place (wrong_kind known d) d uses _ s) in
+      let v : meant_misread known d (meaning d o n) ≡ false = ap (is_misread known d o n) (sym none) ∙ w in
+      let u : meant_misread known d (meanings.Declared i) ≡ false = ap (meant_misread known d) (sym (meant_as o i n at)) ∙ v in
+      run_apart i (apart (known.traits i) (off_right (known.typeless i) (is_apart (known.traits i)) u))
 
-    pub reads_run : (o i : ℕ) (region : Region) (scope : Scope) (n : List ℕ) → Stands d (at o region scope (places.Reads n)) → local_named n scope ≡ None → declared_at d o n ≡ Some i → ChildrenMayRun d i
-    reads_run o i region scope n s none at =
-        let f = found d o n i at in
-        let t = refers_right i f.e f.at in
-        let w = is_right_first (owner_name d o region) (is_misread known d o n (local_named n scope)) n (free_place (wrong_kind known d) d uses _ s) in
-        let v : meant_misread known d (meaning d o n) ≡ false = ap (is_misread known d o n) (sym none) ∙ w in
-        let u : meant_misread known d (meanings.Declared i) ≡ false = ap (meant_misread known d) (sym (meant_as o i n at)) ∙ v in
-        run_apart i (apart (traits_at i) t.0 t.1 (of_apart (traits_at i) t.0 t.1 (off_right (lacks_type (known.types (entry_node d i))) (is_apart (traits_at i)) u)))
+  pub writes_run : (o i : ℕ) (region : Region) (scope : Scope) (n : List ℕ) → Stands d (at o region scope (places.Writes n)) → local_named n scope ≡ None → declared_at d o n ≡ Some i → ChildrenMayRun d i
+  writes_run o i region scope n s none at =
+      let w = is_right_first (owner_name d o region) (is_miswritten known d o n (local_named n scope)) n (free_place (wrong_kind known d) d uses _ s) in
+      let v : meant_miswritten known d (meaning d o n) ≡ false = ap (is_miswritten known d o n) (sym none) ∙ w in
+      let u : meant_miswritten known d (meanings.Declared i) ≡ false = ap (meant_miswritten known d) (sym (meant_as o i n at)) ∙ v in
+      let right = off_right (known.typeless i) (is_apart (known.traits i) || known.unassignable i) u in
+      run_apart i (apart (known.traits i) (off_left (is_apart (known.traits i)) (known.unassignable i) right))
 
-    pub writes_run : (o i : ℕ) (region : Region) (scope : Scope) (n : List ℕ) → Stands d (at o region scope (places.Writes n)) → local_named n scope ≡ None → declared_at d o n ≡ Some i → ChildrenMayRun d i
-    writes_run o i region scope n s none at =
-        let f = found d o n i at in
-        let t = refers_right i f.e f.at in
-        let w = is_right_first (owner_name d o region) (is_miswritten known d o n (local_named n scope)) n (free_place (wrong_kind known d) d uses _ s) in
-        let v : meant_miswritten known d (meaning d o n) ≡ false = ap (is_miswritten known d o n) (sym none) ∙ w in
-        let u : meant_miswritten known d (meanings.Declared i) ≡ false = ap (meant_miswritten known d) (sym (meant_as o i n at)) ∙ v in
-        let right = off_right (lacks_type (known.types (entry_node d i))) (is_apart (traits_at i) || is_unassignable (known.assignables (entry_node d i))) u in
-        run_apart i (apart (traits_at i) t.0 t.1 (of_apart (traits_at i) t.0 t.1 (off_left (is_apart (traits_at i)) (is_unassignable (known.assignables (entry_node d i))) right)))
+  -- what a name that isn't a label may mean is a group or an instance
+  child_entry : (j : ℕ) (e : Entry) → slice_get (entries d) j ≡ Some e → (e.what ≡ whats.Reference → ⊥) → (own_traits d j).label ≡ false → IsChildEntry e
+  child_entry j e is no_reference off = by e.what refl
+    where
+      by : (w : What) → e.what ≡ w → IsChildEntry e
+      by (whats.Group c) what = (c, inl what)
+      by (whats.Instance c) what = (c, inr what)
+      by whats.Label what = absurd (cc (sym off ∙ ap (λ (t : Traits). t.label) (own_label d j e is what)))
+      by whats.Reference what = absurd (no_reference what)
 
-    -- what a name that isn't a label may mean is a group or an instance
-    child_entry : (j : ℕ) (e : Entry) → slice_get (entries d) j ≡ Some e → (e.what ≡ whats.Reference → ⊥) → Lacks labelled (traits_at j) → IsChildEntry e
-    child_entry j e is no_reference l = by e.what refl
-      where
-        by : (w : What) → e.what ≡ w → IsChildEntry e
-        by (whats.Group c) what = (c, inl what)
-        by (whats.Instance c) what = (c, inr what)
-        by whats.Label what = let off : label_traits.label ≡ false = lacking labelled (traits_at j) label_traits l (label_is_known d known names stand uses kinds.traits j e is what) in absurd (cc off)
-        by whats.Reference what = absurd (no_reference what)
-
-    pub call_fits : (o : ℕ) (region : Region) (scope : Scope) (n : List ℕ) → Stands d (at o region scope (places.Calls n)) → IsCallable d o scope n
-    call_fits o region scope n s =
-        by (local_named n scope) refl (is_found (name_at d o) (is_known d o scope n) n (free_place (unknown d) d stand _ s))
-        (is_right_first (owner_name d o region) (is_miscalled known d o n (local_named n scope)) n (free_place (wrong_kind known d) d uses _ s))
-      where
-        by : (r : Option Local) → local_named n scope ≡ r → (is_some r || stands d o n) ≡ true → is_miscalled known d o n r ≡ false → IsCallable d o scope n
-        by (Some l) none there right = absurd (cc right)
-        by None none there right =
-            let r = rightly o n (meant_miscalled known d) (λ k. refl) there right in
-            let t = refers_right r.number r.entry r.is in
-            let w = of_uncallable (traits_at r.number) t.0 t.1 r.right in
-            let label : Lacks labelled (traits_at r.number) = record { value = t.0; is = t.1; off = off_left t.0.label _ w } in
-            record {
-              no_local = none;
-              number = r.number;
-              declared = r.declared;
-              children = λ j e m is. child_entry j e is (definite d m e is) (meant_lack d known names stand uses kinds.traits labelled (λ x y. refl) m label);
-              run = run_apart r.number (apart (traits_at r.number) t.0 t.1 (off_right t.0.label _ w));
-            }
+  pub call_fits : (o : ℕ) (region : Region) (scope : Scope) (n : List ℕ) → Stands d (at o region scope (places.Calls n)) → IsCallable d o scope n
+  call_fits o region scope n s =
+      by (local_named n scope) refl (is_found (name_at d o) (is_known d o scope n) n (free_place (unknown d) d stand _ s))
+      (is_right_first (owner_name d o region) (is_miscalled known d o n (local_named n scope)) n (free_place (wrong_kind known d) d uses _ s))
+    where
+      by : (r : Option Local) → local_named n scope ≡ r → (is_some r || stands d o n) ≡ true → is_miscalled known d o n r ≡ false → IsCallable d o scope n
+      by (Some l) none there right = absurd (cc right)
+      by None none there right =
+          let r = rightly o n (meant_miscalled known d) (λ k. refl) there right in
+          let label : (known.traits r.number).label ≡ false = off_left (known.traits r.number).label _ r.right in
+          record {
+            no_local = none;
+            number = r.number;
+            declared = r.declared;
+            children = λ j e m is. child_entry j e is (definite d m e is) (lacks d known.traits kinds.traits traits.Label m label);
+            run = run_apart r.number (apart (known.traits r.number) (off_right (known.traits r.number).label _ r.right));
+          }

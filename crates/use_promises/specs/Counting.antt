@@ -1,5 +1,5 @@
--- The values of a loop's variable.
-use Rattle.std.specs.Prelude.{◌≡◌, ◌<◌, ◌+◌, ◌*◌, ◌^◌, ℕ, Some}
+-- The turns of a loop, and the values of its variable.
+use Rattle.std.specs.Prelude.{◌≡◌, ◌<◌, ◌≤◌, ◌↔◌, ◌+◌, ◌*◌, ◌^◌, ℕ, Some}
 use Rattle.lisa_tree.specs.declared.tokens.Shape.{Shape}
 use Rattle.lisa_tree.specs.Statements.{HeadTree}
 use Rattle.description_places.specs.Literals.{literal}
@@ -19,3 +19,14 @@ pub record HoldsValues (head : HeadTree) : Type 0 where
   pub step : step_of head.name head.step ≡ Some bounds.step
   pub onward : 0 < bounds.step
   pub each : (k : ℕ) → k < turns bounds → bounds.first + k * bounds.step < 2 ^ number_bits shape.kind shape.width
+
+-- The loop has one turn for each of the numbers first, first + step, .. that are below the limit, and no other. They are at most 256, and
+-- the type has each of them.
+pub record TurnsBelow (head : HeadTree) : Type 0 where
+  pub shape : Shape
+  pub typed : head.shape ≡ Some shape
+  pub bounds : Bounds
+  pub are : bounds_of head ≡ Some bounds
+  pub exact : (k : ℕ) → (k < turns bounds) ↔ (bounds.first + k * bounds.step < bounds.limit)
+  pub few : turns bounds ≤ 256
+  pub held : (k : ℕ) → bounds.first + k * bounds.step < bounds.limit → bounds.first + k * bounds.step < 2 ^ number_bits shape.kind shape.width

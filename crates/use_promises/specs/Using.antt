@@ -6,7 +6,8 @@ use Rattle.description_names.specs.Operations.{sections_at, coding_in, own_stage
 use Rattle.description_names.specs.Declarations.{Entry, entries, declared_at, plain_at}
 use Rattle.graph_paths.specs.Paths.{is_in}
 use Rattle.coded_names.specs.Codings.{in_coding, names_instructions}
-use Rattle.use_promises.specs.Meant.{MayMean, ChoosesFrom}
+use Rattle.meant_declarations.specs.Meant.{MayMean}
+use Rattle.use_promises.specs.Meant.{ChoosesFrom}
 
 -- an operation that has neither a stage of its own nor the root
 pub record RunsInPlace (d : DescriptionTree) (o : ℕ) : Type 0 where

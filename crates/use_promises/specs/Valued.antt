@@ -10,7 +10,8 @@ use Rattle.graph_paths.specs.Paths.{is_in}
 use Rattle.coded_names.specs.Codings.{field_width, number_kind}
 use Rattle.description_types.specs.Shapes.{shape_of}
 use Rattle.description_types.specs.Codings.{kind_or_unsigned}
-use Rattle.use_promises.specs.Meant.{MayMean, ChoosesFrom}
+use Rattle.meant_declarations.specs.Meant.{MayMean}
+use Rattle.use_promises.specs.Meant.{ChoosesFrom}
 
 -- an operation has an EXPRESSION
 abbrev pub HasExpression : DescriptionTree → ℕ → Type 0

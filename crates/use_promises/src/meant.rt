@@ -5,7 +5,8 @@ ghost use Rattle.lisa_tree.specs.Descriptions.{DescriptionTree};
 ghost use Rattle.description_names.specs.declared.declared.What.TheVariants as whats;
 ghost use Rattle.description_names.specs.Declarations.{Entry, entries};
 ghost use Rattle.lisa_machine.specs.Verdicts.{IsAccepted};
-ghost use Rattle.use_promises.specs.Meant.{MayMean, FitsReference};
+ghost use Rattle.meant_declarations.specs.Meant.{MayMean};
+ghost use Rattle.use_promises.specs.Meant.{FitsReference};
 
 /// In an accepted description some operation stands above that of a reference, each that does declares or references its name, and it isn't
 /// `main`. So each declared name means something, and all declarations that it may mean are labels, or none is.

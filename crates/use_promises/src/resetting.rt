@@ -9,13 +9,14 @@ ghost use Rattle.description_places.specs.Places.{Place, at, Counts};
 ghost use Rattle.description_names.specs.Operations.{name_at};
 ghost use Rattle.lisa_machine.specs.Verdicts.{IsAccepted};
 ghost use Rattle.description_promises.specs.Freedom.{Stands};
-ghost use Rattle.use_promises.specs.Counting.{HoldsValues};
+ghost use Rattle.use_promises.specs.Counting.{HoldsValues, TurnsBelow};
 ghost use Rattle.use_promises.specs.Resetting.{FitsInReset};
 
 /// In an accepted description the head of a loop has three literals, its step is at least 1, and its variable has a type with each value that
-/// the loop gives it.
+/// the loop gives it. The loop has a turn for each number from the first on, by the step, that is below the limit, and at most 256 turns.
 pub fn counters_hold()
-    ensures { (d : DescriptionTree) → IsAccepted d → (o : ℕ) (region : Region) (scope : Scope) (head : HeadTree) → Stands d (at o region scope (Counts head)) → HoldsValues head }
+    ensures values { (d : DescriptionTree) → IsAccepted d → (o : ℕ) (region : Region) (scope : Scope) (head : HeadTree) → Stands d (at o region scope (Counts head)) → HoldsValues head }
+    ensures turns { (d : DescriptionTree) → IsAccepted d → (o : ℕ) (region : Region) (scope : Scope) (head : HeadTree) → Stands d (at o region scope (Counts head)) → TurnsBelow head }
 {}
 
 /// In an accepted description `reset` reads and assigns locals and registers that are no arrays, and does nothing else.

@@ -13,7 +13,8 @@ ghost use Rattle.description_names.specs.Declarations.{Entry, entries, declared_
 ghost use Rattle.graph_paths.specs.Paths.{is_in};
 ghost use Rattle.lisa_machine.specs.Verdicts.{IsAccepted};
 ghost use Rattle.description_promises.specs.Freedom.{Stands};
-ghost use Rattle.use_promises.specs.Meant.{MayMean, ChoosesFrom};
+ghost use Rattle.meant_declarations.specs.Meant.{MayMean};
+ghost use Rattle.use_promises.specs.Meant.{ChoosesFrom};
 ghost use Rattle.use_promises.specs.Using.{IsCoded, IsCallable, ChildrenMayRun, IsChildEntry, IsStartable, IsOperand, IsRootGroup, IsShowable};
 
 /// In an accepted description what is called is a declared name that may mean groups and instances alone, and each of their operations that

@@ -12,4 +12,4 @@ returns-clause-meant c = λ d accepted i e is. let s = sound d accepted in some_
 pub returns-clause-sorts : goal.returns-clause-sorts
 returns-clause-sorts c = λ d accepted i j k a b m n first second label.
     let s = sound d accepted in
-    same_sort d s.names s.stand (node_ranks d s.circles) s.known s.uses s.kinds m n a b first second label
+    same_sort d s.names s.stand s.known s.uses s.kinds m n a b first second label

@@ -1,7 +1,6 @@
 use Rattle.description_promises.proofs.Sound.{sound}
-use Rattle.description_promises.proofs.Falling.{node_ranks}
 use Rattle.use_promises.proofs.Used.{call_fits}
 use Rattle.use_promises.proofs.using.calls_resolve.Goals as goal
 
 pub returns : goal.returns
-returns c = λ d accepted o region scope n stands. let s = sound d accepted in call_fits d s.known s.kinds s.names s.stand s.uses (node_ranks d s.circles) o region scope n stands
+returns c = λ d accepted o region scope n stands. let s = sound d accepted in call_fits d s.known s.kinds s.names s.stand s.uses o region scope n stands
