@@ -6,3 +6,5 @@ pub mod Twice
 pub mod Ranked
 pub mod Listed
 pub mod Lying
+pub mod Ordered
+pub mod Placing

@@ -99,7 +99,7 @@ module _ (d : DescriptionTree) (Q : ℕ → Occurrence → Type 0)
 
 -- ---- what is activated runs
 
-mapped_in : (by_root : Bool) (xs : List ℕ) (i : ℕ) (a : Activated) → slice_get (map (activation by_root) xs) i ≡ Some a → is_in a.operation xs ≡ true
+pub mapped_in : (by_root : Bool) (xs : List ℕ) (i : ℕ) (a : Activated) → slice_get (map (activation by_root) xs) i ≡ Some a → is_in a.operation xs ≡ true
 mapped_in by_root [] i a e = absurd (cc e)
 mapped_in by_root (x ∷ xs) zero a e =
     let same : x ≡ a.operation = ap (λ (y : Activated). y.operation) (same_Some (activation by_root x) a e) in

@@ -4,3 +4,4 @@ pub mod Twice
 pub mod Sums
 pub mod Items
 pub mod Activators
+pub mod Places

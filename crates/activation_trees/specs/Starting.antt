@@ -44,6 +44,25 @@ activated_by d (s ∷ rest) = alternatives d s ++ activated_by d rest
 abbrev pub activated : DescriptionTree → ℕ → List Activated
 activated d o = activated_by d (starts d o)
 
+-- ---- the names by which an operation activates
+
+-- the alternatives of what a name stands for, without aliases
+abbrev pub plain_of : DescriptionTree → Option ℕ → List ℕ
+plain_of d None = []
+plain_of d (Some c) = plain_at d c
+
+abbrev pub plain_named : DescriptionTree → ℕ → List ℕ → List ℕ
+plain_named d o n = plain_of d (started d o n)
+
+-- each name once for each of these
+abbrev pub names_by : DescriptionTree → ℕ → List (List ℕ) → List (List ℕ)
+names_by d o [] = []
+names_by d o (n ∷ rest) = map (λ _. n) (plain_named d o n) ++ names_by d o rest
+
+-- the names by which what is `activated` is activated, one for each, in the same order
+abbrev pub activating_names : DescriptionTree → ℕ → List (List ℕ)
+activating_names d o = names_by d o (activation_names (activation_in (sections_at d o)))
+
 -- ---- a table of them
 
 abbrev pub row_at : List (Vec Start) → ℕ → List Start

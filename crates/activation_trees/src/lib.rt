@@ -1,6 +1,7 @@
 //! The tree of activations: the occurrences of a description's operations, how many there are, and the items of its machine.
 #![tactic(auto)]
 
+mod activating;
 mod counting;
 mod laws;
 mod listing;
@@ -8,8 +9,12 @@ mod parts;
 mod starts;
 mod unfolding;
 
+pub use activating::{activating_names, places};
 pub use counting::{count_occurrences, first_root_twice};
-pub use laws::{activators_come_first, further_levels_unfold_nothing, occurrences_run};
+pub use laws::{
+    activators_come_first, children_stand_in_order, further_levels_unfold_nothing,
+    names_tell_what_is_activated, occurrences_run,
+};
 pub use listing::{count_items, items};
 pub use parts::Occurrence;
 pub use unfolding::occurrences;

@@ -27,8 +27,8 @@ fn choice_of(what: Option<What>) -> Option<usize>
     }
 }
 
-// The number of the group or instance that an operation declares by a name.
-fn started<N: Names>(names: &N, operation: usize, name: &Name) -> Option<usize>
+/// The number of the group or instance that an operation declares by a name.
+pub(crate) fn started<N: Names>(names: &N, operation: usize, name: &Name) -> Option<usize>
     ensures { result ≡ started (N.tree names.now) operation name.now }
 {
     match names.declared_at(operation, name) {
@@ -96,8 +96,11 @@ fn add_all_names<'a>(acts: &'a [Act], row: &mut Vec<&'a Name>) -> Result<(), All
     Ok(())
 }
 
-// The names of all items of an activation.
-fn activation_names(alloc: Global, sections: &[Section]) -> Result<Vec<&Name>, AllocError>
+/// The names of all items of an activation.
+pub(crate) fn activation_names(
+    alloc: Global,
+    sections: &[Section],
+) -> Result<Vec<&Name>, AllocError>
     ensures { IfOk result (λ row. names_in row.items ≡ activation_names (activation_in (map section_tree sections.now))) }
 {
     let mut row = Vec::new(alloc);

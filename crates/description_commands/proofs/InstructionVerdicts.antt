@@ -12,7 +12,7 @@ use Rattle.lisa_coding.specs.Verdicts.{overlap, not_an_alias, IsOverlapVerdict, 
 use Rattle.lisa_syntax.specs.Texts.{IsAmbiguityVerdict}
 use Rattle.description_commands.specs.Instructions.{from_aliases, from_ambiguities, from_overlaps, HasInstructions, IsFirstInstructionFault}
 use Rattle.description_commands.proofs.FormVerdicts.{no_fault_in_forms}
-use Rattle.description_commands.proofs.Steps.{Refusal}
+use Rattle.lisa_forms.proofs.Steps.{Refusal}
 
 none_is_no_some : {T : Type 0} (t : T) → None ≡ Some t → ⊥
 none_is_no_some t e = cc

@@ -1,35 +1,8 @@
--- One condition and the rest.
-use Rattle.std.proofs.Common.{◌≡◌, ◌⊎◌, Option, None, Some, Result, Ok, Err, IfOk, IfErr, refl, inl, inr, ⊎_elim}
+-- The last condition, behind which nothing is left.
+use Rattle.std.proofs.Common.{Option, None, Result, Ok, Err, IfOk, IfErr, refl}
 use Rattle.lisa_tree.specs.declared.faults.DescFault.{DescFault}
-use Rattle.lisa_tree.specs.declared.faults.DescFault.TheVariants as faults
 use Rattle.lisa_machine.specs.Verdicts.{before, nothing}
-
--- the condition is broken
-pub here : (verdict rest : Option DescFault → Type 0) (f : DescFault) → verdict (Some f) → before verdict rest (Some f)
-here verdict rest f v = inl (record { fault = f; is = refl; first_fault = v })
-
--- it isn't
-pub past : (verdict rest : Option DescFault → Type 0) (found : Option DescFault) → verdict None → rest found → before verdict rest found
-past verdict rest found v r = inr (v, r)
-
-abbrev pub Refusal : (Option DescFault → Type 0) → DescFault → Type 0
-Refusal verdict f = (f ≡ faults.NoMemory) ⊎ verdict (Some f)
-
-pub refused_here : (verdict rest : Option DescFault → Type 0) (f : DescFault) → Refusal verdict f → Refusal (before verdict rest) f
-refused_here verdict rest f h = ⊎_elim (λ p. inl p) (λ v. inr (here verdict rest f v)) h
-
-pub refused_past : (verdict rest : Option DescFault → Type 0) (f : DescFault) → verdict None → Refusal rest f → Refusal (before verdict rest) f
-refused_past verdict rest f v h = ⊎_elim (λ p. inl p) (λ r. inr (past verdict rest (Some f) v r)) h
-
-pub err_past : {X : Type 0} (verdict rest : Option DescFault → Type 0) (result : Result X DescFault) → verdict None → IfErr result (Refusal rest) → IfErr result (Refusal (before verdict rest))
-err_past verdict rest (Ok x) v h = h
-err_past verdict rest (Err f) v h = refused_past verdict rest f v h
-
-pub ok_past : {X : Type 0} (verdict rest : Option DescFault → Type 0) (result : Result X DescFault) → verdict None → IfOk result (λ _. rest None) → IfOk result (λ _. before verdict rest None)
-ok_past verdict rest (Ok x) v h = past verdict rest None v h
-ok_past verdict rest (Err f) v h = h
-
--- ---- the last condition
+use Rattle.lisa_forms.proofs.Steps.{past, Refusal, refused_here}
 
 pub ok_last : {X : Type 0} (verdict : Option DescFault → Type 0) (result : Result X DescFault) → IfOk result (λ _. verdict None) → IfOk result (λ _. before verdict nothing None)
 ok_last verdict (Ok x) h = past verdict nothing None h refl

@@ -1,3 +1,5 @@
-mod Steps
+pub mod Steps
 mod Counts
 mod Parts
+mod Chosen
+mod Kept

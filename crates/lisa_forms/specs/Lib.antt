@@ -1,2 +1,5 @@
 pub mod Verdicts
 pub mod Parts
+pub mod Choosing
+pub mod Ways
+pub mod Standings

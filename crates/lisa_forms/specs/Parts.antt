@@ -8,12 +8,14 @@ use Rattle.instruction_forms.specs.Described.{AreForms}
 use Rattle.instruction_forms.specs.Widths.{HasWidth}
 use Rattle.form_patterns.specs.Instructions.{instruction_plain}
 use Rattle.lisa_forms.specs.declared.forms.Forms.{Forms}
+use Rattle.lisa_forms.specs.Ways.{AreWays}
 
--- these are the forms, occurrences and items of a description
+-- these are the forms, occurrences and items of a description, and how each occurrence is activated
 pub record AreFormsOf (d : DescriptionTree) (f : Forms) : Type 0 where
   pub all_forms : AreForms d f.forms.items
   pub all_plain : f.plain.items ≡ instruction_plain d
   pub all_occurrences : f.occurrences.items ≡ occurrences d
+  pub all_ways : AreWays d f.ways.items
   pub all_items : f.items.items ≡ items d f.width
   pub has_width : HasWidth d f.width
   pub few : form_count d ≤ 1024

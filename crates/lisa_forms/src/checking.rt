@@ -18,6 +18,7 @@ ghost use Rattle.lisa_forms.specs.Parts.{AreFormsOf};
 ghost use Rattle.lisa_forms.specs.Verdicts.{form_name_at, from_texts, from_sizes, from_roots, from_writings, from_group_widths};
 
 use crate::forms::Forms;
+use crate::ways::ways;
 use activation_trees::first_root_twice;
 use coding_checks::{Widths, first_group_width, first_not_written};
 use coding_tables::{count_forms, instruction_choice};
@@ -80,10 +81,12 @@ fn kept<N: Names>(
     ensures { IfOk result (AreFormsOf (N.tree names.now)) }
 {
     let plain = plain_forms(alloc, names, &forms)?;
+    let ways = ways(alloc, names, &unfolded.occurrences)?;
     Ok(Forms {
         forms,
         plain,
         occurrences: unfolded.occurrences,
+        ways,
         items: unfolded.items,
         width,
     })

@@ -1,7 +1,9 @@
 //! What an accepted description unfolds to.
 
 ghost use Rattle.std.specs.Prelude.{◌≡◌, ◌<◌, ◌≤◌, Some, false, not, length, slice_get, slice_index_or};
+ghost use Rattle.activation_trees.specs.Places.{AreParentsBefore};
 
+use crate::way::Way;
 use activation_trees::Occurrence;
 use instruction_forms::Form;
 use lisa_engine::Item;
@@ -12,10 +14,13 @@ pub struct Forms {
     pub(crate) forms: Vec<Form>,
     pub(crate) plain: Vec<bool>,
     pub(crate) occurrences: Vec<Occurrence>,
+    pub(crate) ways: Vec<Way>,
     pub(crate) items: Vec<Item>,
     pub(crate) width: Option<u32>,
     ghost level: { length plain.items ≡ length forms.items },
     ghost few: { length forms.items ≤ 1024 },
+    ghost all_ways: { length ways.items ≡ length occurrences.items },
+    ghost before: { AreParentsBefore occurrences.items },
 }
 
 impl Forms {

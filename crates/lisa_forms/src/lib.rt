@@ -2,8 +2,14 @@
 #![tactic(auto)]
 
 mod checking;
+mod choosing;
 mod forms;
+mod laws;
 mod making;
+mod standing;
+mod way;
+mod ways;
 
 pub use forms::Forms;
+pub use laws::what_is_chosen_is_past_the_root;
 pub use making::form_name;

@@ -1,7 +1,7 @@
 use Rattle.lisa_tree.specs.Descriptions.{description_tree}
 use Rattle.lisa_syntax.specs.Texts.{IsAmbiguityVerdict}
 use Rattle.description_commands.specs.Instructions.{from_aliases}
-use Rattle.description_commands.proofs.Steps.{ok_past, err_past, refused_here}
+use Rattle.lisa_forms.proofs.Steps.{ok_past, err_past, refused_here}
 use Rattle.description_commands.proofs.instructions.check_texts.Goals as goal
 
 pub returns-in-Ok-clause-accepted : goal.returns-in-Ok-clause-accepted

@@ -2,7 +2,7 @@ use Rattle.lisa_tree.specs.Descriptions.{description_tree}
 use Rattle.lisa_coding.specs.Verdicts.{IsOverlapVerdict}
 use Rattle.description_commands.specs.Instructions.{from_ambiguities}
 use Rattle.description_commands.proofs.InstructionVerdicts.{ok_instructions, err_instructions, refused_instructions}
-use Rattle.description_commands.proofs.Steps.{ok_past, err_past, refused_here}
+use Rattle.lisa_forms.proofs.Steps.{ok_past, err_past, refused_here}
 use Rattle.description_commands.proofs.instructions.check_words.Goals as goal
 
 pub returns-in-Ok-clause-accepted : goal.returns-in-Ok-clause-accepted
