@@ -5,3 +5,6 @@ pub mod Standing
 pub mod Going
 pub mod Placing
 pub mod Listing
+pub mod Narrow
+pub mod Filling
+pub mod Rowed

@@ -1,2 +1,4 @@
 pub mod Instructions
 pub mod Frames
+pub mod Rows
+pub mod Filled

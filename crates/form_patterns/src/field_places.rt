@@ -1,9 +1,12 @@
 //! Where the fields of a form stand.
 
 ghost use Rattle.std.specs.Prelude.{◌≡◌, ◌++◌, IfOk, OnOk, map};
+ghost use Rattle.lisa_tree.specs.Descriptions.{DescriptionTree};
 ghost use Rattle.instruction_forms.specs.Trees.{form_tree};
+ghost use Rattle.instruction_forms.specs.Described.{AreForms};
 ghost use Rattle.pattern_tables.specs.Places.{pair_of};
 ghost use Rattle.form_patterns.specs.Instructions.{tree_fields};
+ghost use Rattle.form_patterns.specs.Rows.{ArePlaces};
 
 use instruction_forms::{Field, Form};
 use lisa_words::NoMemory;
@@ -41,4 +44,16 @@ pub fn places(alloc: Global, form: &Form) -> Result<Vec<Place>, NoMemory>
     let mut all = Vec::new(alloc);
     add_places(form, &mut all)?;
     Ok(all)
+}
+
+/// The places of the fields of all forms.
+pub fn all_places(alloc: Global, forms: &[Form]) -> Result<Vec<Vec<Place>>, NoMemory>
+    ensures { (d : DescriptionTree) → AreForms d forms.now → IfOk result (λ rows. ArePlaces d rows.items) }
+{
+    let mut rows = Vec::new(alloc);
+    for form in forms {
+        let row = places(alloc, form)?;
+        rows.push(row)?;
+    }
+    Ok(rows)
 }

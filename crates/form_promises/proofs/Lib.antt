@@ -6,3 +6,4 @@ pub mod Keyed
 pub mod Spelled
 pub mod Agreeing
 pub mod Readable
+pub mod Placed

@@ -9,6 +9,7 @@ use Rattle.instruction_forms.proofs.Wide.{small_width}
 use Rattle.description_promises.specs.Soundness.{IsSound}
 use Rattle.description_promises.specs.Freedom.{IsFree}
 use Rattle.description_promises.proofs.Sound.{sound}
+use Rattle.form_promises.proofs.Placed.{some_width}
 use Rattle.form_promises.proofs.Rooted.{the_root}
 use Rattle.form_promises.proofs.Wide.{group_wide}
 use Rattle.form_promises.proofs.instructions.instructions_have_a_width.Goals as goal
@@ -36,3 +37,6 @@ returns-clause-exact c = λ d accepted even. exact_of d (width_of d (sound d acc
 
 pub returns-clause-small : goal.returns-clause-small
 returns-clause-small c = λ d w has. small_width d has.0 w has.1 has.2
+
+pub returns-clause-some : goal.returns-clause-some
+returns-clause-some c = λ d accepted spelled even. some_width d (sound d accepted) spelled even
