@@ -16,3 +16,4 @@ pub mod Valued
 pub mod Tiles
 pub mod TextLaws
 pub mod LineStarts
+pub mod Taking

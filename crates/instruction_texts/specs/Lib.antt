@@ -10,3 +10,4 @@ pub mod Symbols
 pub mod Texts
 pub mod Once
 pub mod Starts
+pub mod Misfits

@@ -97,7 +97,10 @@ fn signed_front<'a>(
 }
 
 // What a piece takes from the front of a line: what it gives, where it has a number, and the line behind it.
-fn front<'a>(shape: &Shape, line: &'a [LineToken]) -> Option<(Option<Operand<'a>>, &'a [LineToken])>
+pub(crate) fn front<'a>(
+    shape: &Shape,
+    line: &'a [LineToken],
+) -> Option<(Option<Operand<'a>>, &'a [LineToken])>
     requires { IsSized shape.now }
     ensures { option_map (λ x. (option_map given x.0, map token_tree x.1.now)) result ≡ front shape.now (map token_tree line.now) }
 {

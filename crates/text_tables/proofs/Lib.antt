@@ -3,3 +3,4 @@ pub mod OneMore
 pub mod Keeping
 pub mod Tried
 pub mod Opened
+pub mod Aliking

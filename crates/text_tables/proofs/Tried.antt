@@ -27,7 +27,7 @@ pieces_are texts k v ss inside is e = e ∙ ap (λ (w : Vec Shape Global). w.ite
 
 module _ (all : List (List Shape)) (line : List PlainToken) (texts : List (Vec Shape Global)) (view : pieces texts ≡ all) (k : ℕ) (inside : k < length all)
     (v : Vec Shape Global) (ss : List Shape) (at : v ≡ get_or texts k v) (items : ss ≡ v.items) where
-  shapes_are : ss ≡ shapes_at all k
+  pub shapes_are : ss ≡ shapes_at all k
   shapes_are =
       let level : length (pieces texts) ≡ length all = ap length view in
       pieces_are texts k v ss (omega (arith, length-map texts (λ (w : Vec Shape Global). w.items))) at items ∙ ap (λ (us : List (List Shape)). shapes_at us k) view

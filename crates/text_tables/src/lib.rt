@@ -3,8 +3,10 @@
 //! A form is known here by the pieces of its text alone, and by its number.
 #![tactic(auto)]
 
+mod alike;
 mod beginnings;
 mod joining;
+mod misfits;
 mod openings;
 mod shared;
 mod table;
