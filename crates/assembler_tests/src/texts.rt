@@ -1,8 +1,8 @@
 // Texts of some forms, worked out by hand.
+use crate::conditions::{are_sized, holds};
 use asm_source::{LineToken, Part, SourceLine, read_source};
 use instruction_texts::{
-    Operand, Shape, Start, are_sized, common_text, first_start, holds, matches, negative_start,
-    starts_of, text_of,
+    Operand, Shape, Start, common_text, first_start, matches, negative_start, starts_of, text_of,
 };
 use lisa_words::Name;
 use std::alloc::Global;

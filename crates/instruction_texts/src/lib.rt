@@ -4,7 +4,6 @@
 mod beginnings;
 mod common;
 mod common_runs;
-mod conditions;
 pub mod laws;
 mod matching;
 mod meetings;
@@ -20,7 +19,6 @@ mod writing;
 
 pub use beginnings::{first_start, negative_start, starts_of};
 pub use common::common_text;
-pub use conditions::{are_sized, holds};
 pub use matching::matches;
 pub use misfits::misfit;
 pub use operands::Operand;

@@ -1,11 +1,18 @@
-// Tests of what the texts of a form ask for.
-ghost use Rattle.std.specs.Prelude.{◌≡◌, ◌≤◌, true, drop, IfSome};
+// Whether pieces of a text, and values for them, are such as texts are made of.
+ghost use Rattle.std.specs.Prelude.{◌≡◌, ◌≤◌, ◌-◌, ◌^◌, true, drop, IfSome};
 ghost use Rattle.std.specs.List.{All};
 ghost use Rattle.instruction_texts.specs.Shapes.{IsSized};
 ghost use Rattle.instruction_texts.specs.Written.{Holds, FirstBelow, HoldsFirst, values_behind};
 
-use crate::matching::ones;
-use crate::shapes::Shape;
+use instruction_texts::Shape;
+
+// The greatest number of so many bits.
+fn ones(width: u32) -> u64
+    requires { (1 ≤ width) × (width ≤ 64) }
+    ensures { result ≡ 2 ^ width - 1 }
+{
+    u64::MAX >> (64 - width)
+}
 
 fn is_sized(shape: &Shape) -> bool
     ensures { result ≡ true → IsSized shape.now }
