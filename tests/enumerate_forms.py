@@ -17,7 +17,8 @@ import tempfile
 
 WIDTH = 4
 WORD = set(string.ascii_letters + string.digits + "_.")
-STRINGS = ["A", "R", "1", "-", "+", "R1", "0x", "A B", ",", " "]
+# Strings with a point are rarer: where the first run begins with one, nothing else is told.
+STRINGS = 3 * ["A", "R", "1", "-", "+", "R1", "0x", "A B", ",", " "] + [".A", "+.A"]
 
 
 class Operation:

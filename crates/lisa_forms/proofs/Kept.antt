@@ -1,12 +1,11 @@
 -- The ways of occurrences, by rows of their activators.
 use Rattle.std.proofs.Common.{◌≡◌, ◌<◌, ◌≤◌, ◌+◌, ◌++◌, ◌∙◌, ℕ, suc, Bool, true, false, cond, List, [], ◌∷◌, Option, None, Some, length, map, drop, drop-cons, get_or, refl, sym, ap, ap₂, add-one, arith, ⊎_elim, subst}
 use Rattle.std.specs.Borrow.{Bor}
-use Rattle.std.specs.Global.{Vec}
 use Rattle.std.specs.Prelude.{slice_get, unwrap_or, option_map, slice_index_or, position, not, nat_lt}
 use Rattle.std.specs.List.{position_or_len}
 use Rattle.std.specs.Option.{option_map_or, option_to_list}
 use Rattle.std.proofs.lemmas.Bool.{cases_lt}
-use Rattle.std.proofs.lemmas.List.{length-append, length-map}
+use Rattle.std.proofs.lemmas.List.{length-append}
 use Rattle.std.proofs.lemmas.Option.{slice_get-map, slice_get_within, slice_get-get_or, get_or_from_slice_get, same_Some}
 use Rattle.lisa_tree.specs.declared.descriptions.CodingItem.{CodingItem}
 use Rattle.lisa_tree.specs.Descriptions.{DescriptionTree}
@@ -24,7 +23,7 @@ use Rattle.activation_trees.proofs.Lying.{has_activator}
 use Rattle.lisa_forms.specs.declared.way.Way.{Way}
 use Rattle.lisa_forms.specs.declared.way.Way.TheVariants as ways
 use Rattle.lisa_forms.specs.Choosing.{child_place, child_name, child_names}
-use Rattle.lisa_forms.specs.Ways.{by_place, is_name, by_name, by_activator, way_below, way, AreWays, ways_past, ways_under, is_past, way_in_row, way_in}
+use Rattle.lisa_forms.specs.Ways.{by_place, is_name, by_name, by_activator, way_below, way, AreWays, ways_past, ways_under, way_in_row, way_in}
 
 -- activators stand before what they activate
 pub parents_before : (d : DescriptionTree) → AreParentsBefore (occurrences d)

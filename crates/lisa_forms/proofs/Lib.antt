@@ -3,3 +3,4 @@ mod Counts
 mod Parts
 mod Chosen
 mod Kept
+mod Formed

@@ -1,7 +1,13 @@
-//! What holds of what forms choose.
+//! What holds of forms, their trees, and what they choose. Each law is the contract of a function that does nothing.
 
-ghost use Rattle.std.specs.Prelude.{◌≡◌, ℕ, true, Some, slice_get};
+ghost use Rattle.std.specs.Prelude.{◌≡◌, ℕ, List, true, Some, slice_get};
 ghost use Rattle.lisa_tree.specs.Descriptions.{DescriptionTree};
+ghost use Rattle.lisa_machine.specs.Verdicts.{IsAccepted};
+ghost use Rattle.instruction_trees.specs.Trees.{Tree, Fits, IsBelow};
+ghost use Rattle.instruction_trees.specs.Values.{values};
+ghost use Rattle.coding_tables.specs.Codings.{coding_table};
+ghost use Rattle.coding_tables.specs.Instructions.{instruction_items};
+ghost use Rattle.form_patterns.specs.Filled.{IsInstruction};
 ghost use Rattle.instruction_forms.specs.Trees.{FormTree};
 ghost use Rattle.activation_trees.specs.declared.parts.Occurrence.{Occurrence};
 ghost use Rattle.activation_trees.specs.Unfolding.{occurrences};
@@ -10,4 +16,10 @@ ghost use Rattle.lisa_forms.specs.Choosing.{Chooses};
 /// A form chooses nothing that isn't past the root.
 pub fn what_is_chosen_is_past_the_root()
     ensures { (d : DescriptionTree) (f : FormTree) (k : ℕ) (x : Occurrence) → Chooses d f k → slice_get (occurrences d) k ≡ Some x → x.past_root ≡ true }
+{}
+
+/// Each instruction of an accepted description is the tree of one of its forms, and of no other, with one list of values for its fields.
+pub fn instructions_are_of_one_form()
+    ensures some { (d : DescriptionTree) (t : Tree ℕ) → IsAccepted d → Fits IsBelow (coding_table d) t (instruction_items d) → (k : ℕ) × IsInstruction d k (values t) t }
+    ensures one { (d : DescriptionTree) (j k : ℕ) (vs ws : List ℕ) (t : Tree ℕ) → IsAccepted d → IsInstruction d j vs t → IsInstruction d k ws t → (j ≡ k) × (vs ≡ ws) }
 {}

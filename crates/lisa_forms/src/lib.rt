@@ -11,5 +11,5 @@ mod way;
 mod ways;
 
 pub use forms::Forms;
-pub use laws::what_is_chosen_is_past_the_root;
+pub use laws::{instructions_are_of_one_form, what_is_chosen_is_past_the_root};
 pub use making::form_name;

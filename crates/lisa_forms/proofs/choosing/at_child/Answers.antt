@@ -1,4 +1,4 @@
-use Rattle.std.proofs.Common.{◌≡◌, ◌∙◌, ℕ, Option, None, Some, length, sym, ap, refl}
+use Rattle.std.proofs.Common.{◌≡◌, ◌∙◌, Option, None, Some, length, sym, ap, refl}
 use Rattle.std.specs.Prelude.{option_map}
 use Rattle.std.proofs.lemmas.Bool.{ltb-true, ltb-false}
 use Rattle.std.proofs.lemmas.Option.{slice_get_read, slice_get_past}

@@ -1,4 +1,4 @@
-use Rattle.std.proofs.Common.{◌≡◌, ◌<◌, ◌+◌, ◌∙◌, ℕ, List, Some, None, false, length, get_or, map, refl, sym, ap, subst, arith}
+use Rattle.std.proofs.Common.{◌≡◌, ◌<◌, ◌∙◌, List, Some, None, false, length, get_or, map, refl, sym, ap, subst, arith}
 use Rattle.std.specs.Prelude.{slice_get}
 use Rattle.std.specs.Global.{Vec}
 use Rattle.std.proofs.lemmas.Option.{slice_get_read, slice_get-get_or}
@@ -7,7 +7,7 @@ use Rattle.activation_trees.specs.Unfolding.{occurrences}
 use Rattle.activation_trees.specs.Places.{AreParentsBefore, ArePlaces}
 use Rattle.lisa_forms.specs.declared.way.Way.{Way}
 use Rattle.lisa_forms.specs.Ways.{ways_under, way_in}
-use Rattle.lisa_forms.proofs.Kept.{AreSoFar, parents_before, one_way, all_ways}
+use Rattle.lisa_forms.proofs.Kept.{parents_before, one_way, all_ways}
 use Rattle.lisa_forms.proofs.ways.ways.Goals as goal
 
 abbrev nobody : Occurrence

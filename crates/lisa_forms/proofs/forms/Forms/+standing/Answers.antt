@@ -1,16 +1,13 @@
-use Rattle.std.proofs.Common.{◌≡◌, ◌↔◌, ◌<◌, ◌∙◌, ℕ, List, Option, None, Some, length, get_or, sym, ap, refl, arith, subst}
+use Rattle.std.proofs.Common.{◌≡◌, ◌∙◌, ℕ, List, Some, length, get_or, sym, ap, refl, arith}
 use Rattle.std.specs.Prelude.{slice_get}
-use Rattle.std.proofs.lemmas.Option.{slice_get_read, slice_get-get_or, same_Some, slice_get_within}
-use Rattle.lisa_tree.specs.Descriptions.{DescriptionTree}
-use Rattle.instruction_forms.specs.Trees.{FormTree, form_tree}
+use Rattle.std.proofs.lemmas.Option.{slice_get_read, slice_get-get_or, same_Some}
+use Rattle.instruction_forms.specs.Trees.{form_tree}
 use Rattle.activation_trees.specs.declared.parts.Occurrence.{Occurrence}
 use Rattle.activation_trees.specs.Unfolding.{occurrences}
 use Rattle.activation_trees.specs.Places.{IsBelow}
 use Rattle.lisa_forms.specs.declared.way.Way.{Way}
-use Rattle.lisa_forms.specs.Choosing.{Stands}
 use Rattle.lisa_forms.specs.Ways.{way}
 use Rattle.lisa_forms.specs.Standings.{told, stood}
-use Rattle.lisa_forms.specs.Parts.{AreFormsOf}
 use Rattle.lisa_forms.proofs.Chosen.{stands_by, stood_by}
 use Rattle.lisa_forms.proofs.forms.Forms.+standing.Goals as goal
 
