@@ -1,17 +1,19 @@
 -- Values are added at their places.
 use Rattle.std.proofs.Common.{◌≡◌, ◌<◌, ◌≤◌, ◌+◌, ◌*◌, ◌%◌, ◌^◌, ℕ, zero, suc, List, [], ◌∷◌, length, map, drop, get_or, refl, sym, ap, ◌∙◌, arith}
-use Rattle.std.specs.Prelude.{slice_index_or}
+use Rattle.std.specs.Prelude.{slice_index_or, vec_len}
 use Rattle.std.specs.Global.{Vec}
 use Rattle.std.proofs.lemmas.List.{length-map, get_or-map}
 use Rattle.std.proofs.lemmas.Nat.{pow-add}
 use Rattle.std.proofs.Math.Nat.{mul-lt-mul_of_pos_right, mod-eq_of_lt}
 use Rattle.std.proofs.Math.Pow.{pow_mono}
-use Rattle.instruction_trees.specs.Values.{AreWithin, none, more}
+use Rattle.instruction_trees.specs.Values.{AreWithin}
 use Rattle.pattern_tables.specs.declared.bit_pattern.BitPattern.{BitPattern}
 use Rattle.pattern_tables.specs.declared.fields.Place.{Place}
 use Rattle.pattern_tables.specs.Places.{pair_of}
 use Rattle.pattern_tables.proofs.Weighing.{weights, Added}
-use Rattle.lisa_coding.specs.Rows.{pairs, pairs_at, pattern_at}
+use Rattle.form_patterns.specs.Rows.{pairs_at}
+use Rattle.form_patterns.proofs.Rowed.{row_at, level}
+use Rattle.lisa_coding.specs.Rows.{pattern_at}
 
 -- ---- one value
 
@@ -28,22 +30,6 @@ whole v lsb width below inside = mod-eq_of_lt (in_word v lsb width below inside)
 
 -- ---- all values
 
-pub as_many : {vs : List ℕ} {ps : List (ℕ × ℕ)} → AreWithin vs ps → length vs ≡ length ps
-as_many none = refl
-as_many (more h w) = ap suc (as_many w)
-
-pub level : (vs : List ℕ) (ps : List Place) → AreWithin vs (map pair_of ps) → length vs ≡ length ps
-level vs ps w = as_many w ∙ length-map ps pair_of
-
-first : {v : ℕ} {p : ℕ × ℕ} {vs : List ℕ} {ps : List (ℕ × ℕ)} → AreWithin (v ∷ vs) (p ∷ ps) → (v < 2 ^ p.1) × AreWithin vs ps
-first (more h w) = (h, w)
-
-pub below_at : (vs : List ℕ) (ps : List Place) (i : ℕ) (e : Place) → AreWithin vs (map pair_of ps) → i < length ps → slice_index_or vs i 0 < 2 ^ (slice_index_or ps i e).width
-below_at vs [] i e w h = absurd (omega (arith, h))
-below_at [] (p ∷ ps) i e w h = absurd (let l = as_many w in cc l)
-below_at (v ∷ vs) (p ∷ ps) zero e w h = (first w).0
-below_at (v ∷ vs) (p ∷ ps) (suc i) e w h = below_at vs ps i e (first w).1 (omega (arith, h))
-
 no_weights : (vs : List ℕ) (ps : List Place) (i : ℕ) → length vs ≡ length ps → length ps ≤ i → weights (drop i vs) (drop i ps) ≡ 0
 no_weights [] [] zero l h = refl
 no_weights [] [] (suc i) l h = refl
@@ -57,18 +43,20 @@ all_added pattern vs ps i word w h a = let left = a.left in let n = no_weights v
 
 -- ---- rows
 
-pub row_at : (rows : List (Vec Place)) (k : ℕ) (row : Vec Place) → k < length rows → row ≡ get_or rows k row → pairs_at rows k ≡ pairs row
-row_at rows k row h is = get_or-map pairs rows k row [] h ∙ ap pairs (sym is)
-
 pub bits_at : (ps : List BitPattern) (k : ℕ) (p : BitPattern) → k < length ps → p ≡ get_or ps k p → pattern_at ps k ≡ p.pattern
 bits_at ps k p h is = get_or-map (λ (q : BitPattern). q.pattern) ps k p 0 h ∙ ap (λ (q : BitPattern). q.pattern) (sym is)
 
 pub pair_at : (ps : List Place) (i : ℕ) (p : Place) → i < length ps → p ≡ get_or ps i p → slice_index_or (map pair_of ps) i (0, 0) ≡ pair_of p
 pair_at ps i p h is = get_or-map pair_of ps i p (0, 0) h ∙ ap pair_of (sym is)
 
+-- a field's place stands in its form's row
+pub field_inside : (rows : List (Vec Place)) (k i : ℕ) (row : Vec Place) → k < length rows → row ≡ get_or rows k row → i < length (pairs_at rows k) → i < vec_len row
+field_inside rows k i row h is l =
+    let m : length (pairs_at rows k) ≡ length row.items = ap length (row_at rows k row h is) ∙ length-map row.items pair_of in
+    omega (arith, l, m, row.ok.0)
+
 pub field_at : (rows : List (Vec Place)) (k i : ℕ) (row : Vec Place) (p : Place) → k < length rows → row ≡ get_or rows k row → i < length (pairs_at rows k) → p ≡ get_or row.items i p
     → slice_index_or (pairs_at rows k) i (0, 0) ≡ pair_of p
 field_at rows k i row p h is l at =
-    let e = row_at rows k row h is in
-    let m : length (pairs_at rows k) ≡ length row.items = ap length e ∙ length-map row.items pair_of in
-    ap (λ (xs : List (ℕ × ℕ)). slice_index_or xs i (0, 0)) e ∙ pair_at row.items i p (omega (arith, l, m)) at
+    let within = field_inside rows k i row h is l in
+    ap (λ (xs : List (ℕ × ℕ)). slice_index_or xs i (0, 0)) (row_at rows k row h is) ∙ pair_at row.items i p (omega (arith, within, row.ok.0)) at

@@ -1,5 +1,5 @@
 -- From frames to the plain trees of a description.
-use Rattle.std.proofs.Common.{◌≡◌, ◌<◌, ◌^◌, ℕ, Bool, List, Option, None, Some, subst, arith}
+use Rattle.std.proofs.Common.{◌<◌, ◌^◌, ℕ, Bool, List, Option, None, Some, subst, arith}
 use Rattle.std.specs.Prelude.{unwrap_or}
 use Rattle.lisa_tree.specs.Descriptions.{DescriptionTree}
 use Rattle.description_names.specs.Operations.{is_alias}
@@ -39,11 +39,11 @@ module _ (d : DescriptionTree) (w : ℕ) where
       let s = stand.each k e (omega (arith, h, l)) in
       wide (subst (λ (n : ℕ). w < 2 ^ n) s.wide has.below)
 
-  pub wider : (c : Coding) (width : ℕ) → IsCodingOf d c → width ≡ unwrap_or c.width 0 → (w < 2 ^ width → ⊥) → IsDecodedAs d w None
-  wider c width is e wide = decoded None is.apart (too_wide (unwrap_or c.width 0) c.patterns.items is.all_patterns (subst (λ (n : ℕ). w < 2 ^ n → ⊥) e wide))
+  pub wider : (c : Coding) → IsCodingOf d c → (w < 2 ^ unwrap_or c.width 0 → ⊥) → IsDecodedAs d w None
+  wider c is wide = decoded None is.apart (too_wide (unwrap_or c.width 0) c.patterns.items is.all_patterns wide)
 
-  pub answered : (c : Coding) (width : ℕ) (r : Option ℕ) → IsCodingOf d c → width ≡ unwrap_or c.width 0 → w < 2 ^ width → AnswersForm c.decoder w r → IsDecodedAs d w r
-  answered c width r is e below answers =
+  pub answered : (c : Coding) (r : Option ℕ) → IsCodingOf d c → w < 2 ^ unwrap_or c.width 0 → AnswersForm c.decoder w r → IsDecodedAs d w r
+  answered c r is below answers =
       decoded r is.apart
       (answers (unwrap_or c.width 0) (instruction_frames d) c.patterns.items (instruction_plain d)
-      (subst (λ (bs : List Bool). HoldPlain c.patterns.items bs c.decoder) is.all_plain is.tables) is.all_patterns (subst (λ (n : ℕ). w < 2 ^ n) e below))
+      (subst (λ (bs : List Bool). HoldPlain c.patterns.items bs c.decoder) is.all_plain is.tables) is.all_patterns below)

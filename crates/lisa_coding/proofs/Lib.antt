@@ -1,6 +1,7 @@
-pub mod Narrow
 pub mod Formed
 pub mod Decoded
 pub mod Adding
 pub mod Fielded
 pub mod Known
+pub mod Encoded
+pub mod Overlapping

@@ -1,4 +1,3 @@
 pub mod Rows
 pub mod Verdicts
 pub mod Parts
-pub mod Forms

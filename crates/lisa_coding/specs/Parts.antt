@@ -1,5 +1,5 @@
 -- What is kept of a description's codings, and what a word is decoded as.
-use Rattle.std.specs.Prelude.{◌≡◌, ◌<◌, ℕ, Option, None, map, option_map, MatchOption}
+use Rattle.std.specs.Prelude.{◌≡◌, ◌<◌, ℕ, Option, None, length, map, option_map, MatchOption}
 use Rattle.lisa_tree.specs.declared.faults.DescFault.TheVariants as faults
 use Rattle.lisa_tree.specs.Descriptions.{DescriptionTree}
 use Rattle.description_names.specs.Operations.{is_alias}
@@ -12,19 +12,24 @@ use Rattle.pattern_tables.specs.Overlaps.{AnswersOverlap}
 use Rattle.pattern_tables.specs.Tables.{HoldPlain}
 use Rattle.pattern_tables.specs.Instructions.{form_at, IsPlainTree}
 use Rattle.form_patterns.specs.Instructions.{instruction_frames, instruction_plain, field_places, ArePatterns}
+use Rattle.form_patterns.specs.Rows.{ArePlaces}
 use Rattle.lisa_coding.specs.declared.coding.Coding.{Coding}
-use Rattle.lisa_coding.specs.Rows.{pairs}
 use Rattle.lisa_coding.specs.Verdicts.{IsUncoveredVerdict}
 
 -- these are the masks, patterns and places of fields of all forms of a description, and the tables of the plain ones, no two of which overlap
 pub record IsCodingOf (d : DescriptionTree) (c : Coding) : Type 0 where
   pub has_width : HasWidth d c.width
   pub all_patterns : ArePatterns d c.width c.patterns.items
-  pub all_places : map pairs c.places.items ≡ map (field_places d) (forms_of d)
+  pub all_places : ArePlaces d c.places.items
   pub all_plain : c.plain.items ≡ instruction_plain d
   pub tables : HoldPlain c.patterns.items c.plain.items c.decoder
   pub apart : AnswersOverlap (instruction_frames d) (instruction_plain d) None
   pub alias : IsUncoveredVerdict d (option_map faults.NotAnAlias c.uncovered)
+
+-- there is a form of this number, and it has a field of this number in preorder
+pub record HasField (d : DescriptionTree) (k i : ℕ) : Type 0 where
+  pub within : k < form_count d
+  pub placed : i < length (field_places d (form_at (forms_of d) k))
 
 -- a plain tree has the word
 abbrev pub HasTree : DescriptionTree → ℕ → Tree ℕ → Type 0
@@ -42,3 +47,14 @@ pub record IsOneTreeOf (d : DescriptionTree) (word k : ℕ) : Type 0 where
 -- no plain tree has the word, or exactly one has, of this form
 abbrev pub IsDecodedAs : DescriptionTree → ℕ → Option ℕ → Type 0
 IsDecodedAs d word result = MatchOption result ((t : Tree ℕ) → HasTree d word t → ⊥) (IsOneTreeOf d word)
+
+-- two plain trees, one of each of two different forms, have the word
+pub record SharesWord (d : DescriptionTree) (i j word : ℕ) : Type 0 where
+  pub order : i < j
+  pub within : j < form_count d
+  pub first : Tree ℕ
+  pub second : Tree ℕ
+  pub first_has : HasTree d word first
+  pub second_has : HasTree d word second
+  pub first_formed : form first ≡ form_at (forms_of d) i
+  pub second_formed : form second ≡ form_at (forms_of d) j

@@ -9,5 +9,5 @@ mod making;
 mod words;
 
 pub use coding::Coding;
-pub use laws::words_are_decoded;
+pub use laws::{overlaps_are_of_trees, words_are_decoded};
 pub use pattern_tables::{PatternTable, Steps};

@@ -1,26 +1,23 @@
 //! The masks and patterns of an accepted description's forms.
 
-ghost use Rattle.std.specs.Prelude.{◌≡◌, ◌⊎◌, ◌<◌, None, Some, length, map, option_map, IfOk, IfErr};
+ghost use Rattle.std.specs.Prelude.{◌≡◌, ◌⊎◌, ◌<◌, None, Some, length, option_map, IfOk, IfErr};
 ghost use Rattle.lisa_tree.specs.declared.faults.DescFault.TheVariants as faults;
 ghost use Rattle.lisa_tree.specs.Descriptions.{description_tree};
 ghost use Rattle.pattern_tables.specs.Patterns.{AreApart};
 ghost use Rattle.pattern_tables.specs.Overlaps.{AnswersOverlap};
 ghost use Rattle.form_patterns.specs.Instructions.{instruction_frames, instruction_plain, ArePatterns};
 ghost use Rattle.lisa_forms.specs.Parts.{AreFormsOf};
-ghost use Rattle.lisa_coding.specs.Rows.{pairs};
-ghost use Rattle.lisa_coding.specs.Forms.{form_pairs};
 ghost use Rattle.lisa_coding.specs.Parts.{IsCodingOf};
 ghost use Rattle.lisa_coding.specs.Verdicts.{overlap, IsOverlapVerdict, IsUncoveredVerdict};
 
 use crate::coding::Coding;
 use description_tables::Tables;
-use form_patterns::{patterns, places};
-use instruction_forms::Form;
+use form_patterns::{all_places, patterns};
 use lisa_forms::{Forms, form_name};
 use lisa_machine::Machine;
 use lisa_tree::DescFault;
 use lisa_words::{Name, NoMemory};
-use pattern_tables::{BitPattern, Decoder, Overlap, Place, first_overlap, first_uncovered};
+use pattern_tables::{BitPattern, Decoder, Overlap, first_overlap, first_uncovered};
 use std::alloc::Global;
 
 // The literal bits of each form.
@@ -31,18 +28,6 @@ fn patterns_of(alloc: Global, machine: &Machine, forms: &Forms) -> Result<Vec<Bi
     let tables = Tables::make(alloc, machine.description())?;
     let all = patterns(alloc, &tables, forms.forms())?;
     Ok(all)
-}
-
-// The places of the fields of each form, in preorder.
-fn all_places(alloc: Global, forms: &[Form]) -> Result<Vec<Vec<Place>>, NoMemory>
-    ensures { IfOk result (λ rows. map pairs rows.items ≡ map form_pairs forms.now) }
-{
-    let mut rows = Vec::new(alloc);
-    for form in forms {
-        let row = places(alloc, form)?;
-        rows.push(row)?;
-    }
-    Ok(rows)
 }
 
 // The fault of two forms that overlap.

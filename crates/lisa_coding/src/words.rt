@@ -1,27 +1,30 @@
 //! Words of instructions and their forms.
 
-ghost use Rattle.std.specs.Prelude.{◌≡◌, ◌⊎◌, ◌<◌, ◌≤◌, ◌+◌, ◌^◌, ◌↔◌, None, Some, IsTrue, IfOk, IfErr};
+ghost use Rattle.std.specs.Prelude.{◌≡◌, ◌⊎◌, ◌<◌, ◌≤◌, ◌+◌, ◌^◌, ◌↔◌, None, Some, unwrap_or, IsTrue, IfOk, IfErr};
 ghost use Rattle.lisa_tree.specs.declared.faults.DescFault.TheVariants as faults;
 ghost use Rattle.lisa_tree.specs.Descriptions.{DescriptionTree};
 ghost use Rattle.pattern_tables.specs.Probes.{probe_bound};
+ghost use Rattle.form_patterns.specs.Instructions.{instruction_plain};
+ghost use Rattle.lisa_coding.specs.Rows.{instruction_patterns};
 ghost use Rattle.lisa_coding.specs.Parts.{IsCodingOf, IsDecodedAs};
 ghost use Rattle.lisa_coding.specs.Verdicts.{IsUncoveredVerdict};
 
 use crate::coding::Coding;
+use form_patterns::is_within;
 use lisa_tree::DescFault;
 use lisa_words::{Name, NoMemory};
 use pattern_tables::Steps;
 use std::alloc::Global;
 use std::sync::ledger::Ledger;
 
-// Whether a word has no bits but the lowest ones, which are so many.
-fn is_within(width: u32, word: u64) -> bool
-    ensures { IsTrue result ↔ word < 2 ^ width }
-{
-    width >= 64 || word >> width == 0
-}
-
 impl Coding {
+    // Whether a word is no wider than an instruction.
+    fn is_narrow(&self, word: u64) -> bool
+        ensures { IsTrue result ↔ word < 2 ^ unwrap_or self.now.width 0 }
+    {
+        is_within(self.width.unwrap_or(0), word)
+    }
+
     /// The form of the plain instruction that has the word. There is none where the word is wider than an instruction. It takes no memory.
     ///
     /// A step is one look at a pattern.
@@ -30,9 +33,9 @@ impl Coding {
         ensures form { (d : DescriptionTree) → IsCodingOf d self.now → IsDecodedAs d word result }
 
         // For each distinct mask of plain forms, one more than the binary digits of the number of plain forms with that mask.
-        ensures cost { (d : DescriptionTree) → IsCodingOf d self.now → steps.new ≤ steps.old + probe_bound self.now.patterns.items self.now.plain.items }
+        ensures cost { (d : DescriptionTree) → IsCodingOf d self.now → steps.new ≤ steps.old + probe_bound (instruction_patterns d) (instruction_plain d) }
     {
-        if !is_within(self.width.unwrap_or(0), word) {
+        if !self.is_narrow(word) {
             return None;
         }
         self.decoder.decode(word, steps)
@@ -42,7 +45,7 @@ impl Coding {
     pub fn form_of(&self, word: u64) -> Option<u32>
         ensures { (d : DescriptionTree) → IsCodingOf d self.now → IsDecodedAs d word result }
     {
-        if !is_within(self.width.unwrap_or(0), word) {
+        if !self.is_narrow(word) {
             return None;
         }
         self.decoder.form_of(word)

@@ -2,14 +2,15 @@ use Rattle.std.proofs.Common.{ℕ, subst, arith}
 use Rattle.std.proofs.lemmas.List.{length-map, get_or-map}
 use Rattle.instruction_trees.specs.Values.{StandsBelow}
 use Rattle.pattern_tables.specs.Places.{pair_of}
-use Rattle.lisa_coding.proofs.Adding.{level, below_at, all_added}
+use Rattle.form_patterns.proofs.Rowed.{level, within_at}
+use Rattle.lisa_coding.proofs.Adding.{all_added}
 use Rattle.lisa_coding.proofs.fields.with_fields.Goals as goal
 
 pub bounds-fields-i : goal.bounds-fields-i
 bounds-fields-i c = omega (arith, level c.args.fields.now c.args.places.now c.requires.within, c.fields-test.true)
 
 pub shifted-word-requires-clause-below : goal.shifted-word-requires-clause-below
-shifted-word-requires-clause-below c = below_at c.args.fields.now c.args.places.now c.fields.i (record { lsb = 0; width = 0 }) c.requires.within (omega (arith, c.fields-test.true))
+shifted-word-requires-clause-below c = within_at c.args.fields.now c.args.places.now c.fields.i (record { lsb = 0; width = 0 }) c.requires.within (omega (arith, c.fields-test.true))
 
 pub shifted-word-requires-clause-inside : goal.shifted-word-requires-clause-inside
 shifted-word-requires-clause-inside c =

@@ -1,12 +1,12 @@
-use Rattle.std.proofs.Common.{◌≡◌, ℕ, Bool, List, Option, map, sym, ap, ◌∙◌, subst}
+use Rattle.std.proofs.Common.{◌≡◌, ℕ, Bool, List, Option, sym, ◌∙◌, subst}
 use Rattle.lisa_tree.specs.Descriptions.{description_tree}
 use Rattle.instruction_forms.specs.declared.form.Form.{Form}
+use Rattle.instruction_forms.specs.Described.{AreForms}
 use Rattle.instruction_forms.specs.Widths.{HasWidth}
 use Rattle.pattern_tables.specs.Tables.{HoldPlain}
 use Rattle.pattern_tables.specs.declared.bit_pattern.BitPattern.{BitPattern}
 use Rattle.form_patterns.specs.Instructions.{ArePatterns}
-use Rattle.lisa_coding.specs.Forms.{form_pairs}
-use Rattle.lisa_coding.proofs.Fielded.{rows_are, rows_level, rows_inside, rows_fit}
+use Rattle.lisa_coding.proofs.Fielded.{rows_level, rows_inside, rows_fit}
 use Rattle.lisa_coding.proofs.making.with_patterns.Goals as goal
 
 pub invariant_of-result : goal.invariant_of-result
@@ -14,11 +14,11 @@ invariant_of-result c =
     let d = description_tree c.args.machine.now in
     let f = c.args.forms.now in
     let rows = c.in_ok-places.places.items in
-    let are = rows_are d f.forms.items rows c.requires.forms.all_forms (c.in_ok-places.ensures ∙ ap (λ (all : List Form). map form_pairs all) c.forms.ensures) in
+    let are = c.in_ok-places.ensures d (subst (λ (all : List Form). AreForms d all) (sym c.forms.ensures) c.requires.forms.all_forms) in
     record {
       level = rows_level d f.width c.args.patterns.items c.requires.forms.has_width c.requires.patterns rows are;
       inside = rows_inside d f.width c.args.patterns.items c.requires.forms.has_width c.requires.patterns rows are;
-      fits = rows_fit d f.width c.args.patterns.items c.requires.forms.has_width c.requires.patterns rows are;
+      in_word = rows_fit d f.width c.args.patterns.items c.requires.forms.has_width c.requires.patterns rows are;
     }
 
 pub returns : goal.returns
@@ -30,7 +30,7 @@ returns c =
     record {
       has_width = subst (λ (w : Option ℕ). HasWidth d w) (sym c.width.ensures) c.requires.forms.has_width;
       all_patterns = subst (λ (w : Option ℕ). ArePatterns d w c.args.patterns.items) (sym c.width.ensures) c.requires.patterns;
-      all_places = rows_are d f.forms.items rows c.requires.forms.all_forms (c.in_ok-places.ensures ∙ ap (λ (all : List Form). map form_pairs all) c.forms.ensures);
+      all_places = c.in_ok-places.ensures d (subst (λ (all : List Form). AreForms d all) (sym c.forms.ensures) c.requires.forms.all_forms);
       all_plain = plain ∙ c.requires.forms.all_plain;
       tables = subst (λ (ps : List BitPattern). HoldPlain ps c.in_ok-plain.plain.items c.in_ok-decoder.decoder) c.deref.ensures.value (subst (λ (bs : List Bool). HoldPlain c.deref.result.now bs c.in_ok-decoder.decoder) c.deref-2.ensures.value c.in_ok-decoder.ensures);
       apart = c.requires.none;

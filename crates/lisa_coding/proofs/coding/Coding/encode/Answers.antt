@@ -1,18 +1,33 @@
-use Rattle.std.proofs.Common.{◌+◌, ℕ, List, map, sym, ap, ap₂, ◌∙◌, arith}
-use Rattle.instruction_trees.specs.Values.{sum_of, weigh}
-use Rattle.pattern_tables.specs.declared.fields.Place.{Place}
-use Rattle.pattern_tables.specs.Places.{pair_of}
-use Rattle.lisa_coding.proofs.Adding.{row_at, bits_at}
-use Rattle.lisa_coding.proofs.Fielded.{tree_word}
+use Rattle.lisa_coding.proofs.Fielded.{form_within, values_within, same_values}
+use Rattle.lisa_coding.proofs.Encoded.{word_is, fields_are, decoded_as, covered_as}
 use Rattle.lisa_coding.proofs.coding.Coding.encode.Goals as goal
 
-pub returns : goal.returns
-returns c = λ d is t fits formed all.
-    let s = c.args.self.now in
-    let vs = c.args.fields.now in
-    let row = row_at s.places.items c.args.form c.index.result.now (omega (arith, s.level, c.requires.form)) c.index.ensures in
-    let bits = bits_at s.patterns.items c.args.form c.index-bits.result.now c.requires.form c.index-bits.ensures in
-    c.with_fields.ensures
-    ∙ ap (λ (ps : List Place). c.index-bits.result.now.pattern + sum_of (weigh vs (map pair_of ps))) c.deref.ensures.value
-    ∙ ap₂ (λ (p : ℕ) (ps : List (ℕ × ℕ)). p + sum_of (weigh vs ps)) (sym bits) (sym row)
-    ∙ tree_word d s.width s.patterns.items is.has_width is.all_patterns s.places.items is.all_places c.args.form t vs c.requires.form fits formed all
+pub word_with-requires-clause-form : goal.word_with-requires-clause-form
+word_with-requires-clause-form c =
+    let v = c.requires.values in
+    form_within v.0 c.args.self.now v.1 c.args.form v.2.within
+
+pub word_with-requires-clause-within : goal.word_with-requires-clause-within
+word_with-requires-clause-within c =
+    let v = c.requires.values in
+    values_within v.0 c.args.self.now v.1 c.args.form c.args.fields.now v.2
+
+pub returns-clause-word : goal.returns-clause-word
+returns-clause-word c = λ d is.
+    let v = c.requires.values in
+    word_is d c.args.form c.args.fields.now c.args.self.now c.word_with.result is c.word_with.ensures (same_values d c.args.self.now is v.0 c.args.form c.args.fields.now v.1 v.2)
+
+pub returns-clause-fields : goal.returns-clause-fields
+returns-clause-fields c = λ d is.
+    let v = c.requires.values in
+    fields_are d c.args.form c.args.fields.now c.args.self.now c.word_with.result is c.word_with.ensures (same_values d c.args.self.now is v.0 c.args.form c.args.fields.now v.1 v.2)
+
+pub returns-clause-decoded : goal.returns-clause-decoded
+returns-clause-decoded c = λ d is.
+    let v = c.requires.values in
+    decoded_as d c.args.form c.args.fields.now c.args.self.now c.word_with.result is c.word_with.ensures (same_values d c.args.self.now is v.0 c.args.form c.args.fields.now v.1 v.2)
+
+pub returns-clause-covered : goal.returns-clause-covered
+returns-clause-covered c = λ d is.
+    let v = c.requires.values in
+    covered_as d c.args.form c.args.fields.now c.args.self.now c.word_with.result is c.word_with.ensures (same_values d c.args.self.now is v.0 c.args.form c.args.fields.now v.1 v.2)
