@@ -1,3 +1,6 @@
+mod Samples
+pub mod Operands
+pub mod OperandLines
 pub mod Forms
 pub mod Numbers
 pub mod Sharing
@@ -7,3 +10,7 @@ pub mod Ordering
 pub mod Shown
 pub mod Lined
 pub mod Texts
+pub mod Widths
+pub mod Instructed
+pub mod Again
+pub mod OneText

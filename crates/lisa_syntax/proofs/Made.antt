@@ -1,5 +1,5 @@
 -- From the parts of texts to the syntax that is made of them.
-use Rattle.std.proofs.Common.{◌≡◌, ◌≤◌, List, Option, None, Some, length, map, sym, ap, ◌∙◌, subst, arith}
+use Rattle.std.proofs.Common.{◌≡◌, ◌≤◌, ℕ, List, Option, None, Some, length, map, sym, ap, ◌∙◌, subst, arith}
 use Rattle.std.specs.Prelude.{Vec}
 use Rattle.std.specs.Global.{Global}
 use Rattle.std.specs.List.{All}
@@ -16,7 +16,8 @@ use Rattle.text_tables.specs.declared.shared.Shared.{Shared}
 use Rattle.text_tables.specs.Shared.{AnswersShared}
 use Rattle.lisa_forms.specs.Verdicts.{HasForms, form_name_at}
 use Rattle.lisa_syntax.specs.declared.parts.TextParts.{TextParts}
-use Rattle.lisa_syntax.specs.Parts.{ArePartsOf}
+use Rattle.lisa_syntax.specs.declared.syntax.Syntax.{Syntax}
+use Rattle.lisa_syntax.specs.Parts.{ArePartsOf, IsSyntaxOf}
 use Rattle.lisa_syntax.specs.Texts.{IsAmbiguityFault, IsAmbiguityVerdict}
 use Rattle.lisa_syntax.specs.Orders.{AreOrdersOf}
 use Rattle.lisa_syntax.proofs.Shown.{all_orders}
@@ -56,3 +57,13 @@ module _ (m n : Description) (same : n ≡ m) (parts : TextParts) (are : ArePart
   parts_ordered =
       subst (λ (us : List (List Shape)). AreOrdersOf us (map (λ v. v.items) parts.orders.items)) (sym of_machine.shapes)
       (subst (AreOrdersOf (texts (description_tree m))) (sym of_machine.orders) (all_orders (description_tree m) accepted has))
+
+  -- the syntax of these parts is the description's
+  pub made : IsAmbiguityVerdict (description_tree m) None → (s : Syntax) → s.table ≡ map (λ (v : Vec Shape Global). v.items) parts.shapes.items → s.orders ≡ parts.orders → IsSyntaxOf (description_tree m) s
+  made apart s table orders = record {
+    accepted = accepted;
+    has_forms = has;
+    apart = apart;
+    pieces = table ∙ of_machine.shapes;
+    all_orders = ap (λ (v : Vec (Vec ℕ Global) Global). map (λ w. w.items) v.items) orders ∙ of_machine.orders;
+  }

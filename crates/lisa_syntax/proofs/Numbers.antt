@@ -135,7 +135,7 @@ abbrev pub IsOneOf : ℕ → ℕ → ℕ → Type 0
 IsOneOf count n v = v < count
 
 module _ (table : Table) (count : ℕ) where
-  fits_numbers : (a b : ℕ) (t : Form) (items : List Item) → Fits AnyValue table t items → a + owns t ≤ count → b + inners t ≤ count → Fits (IsOneOf count) table (numbered a b t) items
+  pub fits_numbers : (a b : ℕ) (t : Form) (items : List Item) → Fits AnyValue table t items → a + owns t ≤ count → b + inners t ≤ count → Fits (IsOneOf count) table (numbered a b t) items
   fits_numbers a b Done [] fits h g = tt
   fits_numbers a b (Pass t) (Fixed c ∷ items) fits h g = fits_numbers a b t items fits h g
   fits_numbers a b (Pass t) (Free ∷ items) fits h g = fits_numbers a b t items fits h g

@@ -20,7 +20,7 @@ got_in (y ∷ xs) zero x e = subst (λ z. In z (y ∷ xs)) (some_is e) here
     some_is h = cc h
 got_in (y ∷ xs) (suc k) x e = there (got_in xs k x e)
 
-in_got : {A : Type 0} (xs : List A) (x : A) → In x xs → (k : ℕ) × (slice_get xs k ≡ Some x)
+pub in_got : {A : Type 0} (xs : List A) (x : A) → In x xs → (k : ℕ) × (slice_get xs k ≡ Some x)
 in_got [] x i = elim i [ ]
 in_got (y ∷ xs) x (here) = (zero, refl)
 in_got (y ∷ xs) x (there i) = let r = in_got xs x i in (suc r.0, r.1)
@@ -78,7 +78,7 @@ no_longer (x ∷ xs) ys (more out d) f =
 
 -- ---- numbers one after the other
 
-upto_long : (a n : ℕ) → length (upto a n) ≡ n
+pub upto_long : (a n : ℕ) → length (upto a n) ≡ n
 upto_long a zero = refl
 upto_long a (suc n) = ap suc (upto_long (suc a) n)
 
@@ -101,19 +101,22 @@ upto_once : (a n : ℕ) → Distinct (upto a n)
 upto_once a zero = none
 upto_once a (suc n) = more (λ j. let low = (upto_from (suc a) n a j).0 in absurd (omega (arith, low))) (upto_once (suc a) n)
 
+-- so many numbers are below the bound
+pub order_long : (xs : List ℕ) (n : ℕ) → ((i : ℕ) → In i xs → i < n) → ((i : ℕ) → i < n → In i xs) → Distinct xs → length xs ≡ n
+order_long xs n inside all once =
+    let long = upto_long 0 n in
+    let most = no_longer xs (upto 0 n) once (λ i j. upto_in 0 n i (omega arith) (let h = inside i j in omega (arith, h))) in
+    let least = no_longer (upto 0 n) xs (upto_once 0 n) (λ i j. all i (let h = (upto_from 0 n i j).1 in omega (arith, h))) in
+    omega (arith, long, most, least)
+
 pub is_order : (xs : List ℕ) (n : ℕ) → ((i : ℕ) → In i xs → i < n) → ((i : ℕ) → i < n → In i xs) → Distinct xs → IsOrder xs
-is_order xs n inside all once = record {
-  inside = λ k i e. let h = inside i (got_in xs k i e) in omega (arith, counted, h);
-  all = λ i h nowhere. let r = in_got xs i (all i (omega (arith, counted, h))) in nowhere r.0 r.1;
-  once = one_place xs once;
-}
-  where
-    counted : length xs ≡ n
-    counted =
-        let long = upto_long 0 n in
-        let most = no_longer xs (upto 0 n) once (λ i j. upto_in 0 n i (omega arith) (let h = inside i j in omega (arith, h))) in
-        let least = no_longer (upto 0 n) xs (upto_once 0 n) (λ i j. all i (let h = (upto_from 0 n i j).1 in omega (arith, h))) in
-        omega (arith, long, most, least)
+is_order xs n inside all once =
+    let counted = order_long xs n inside all once in
+    record {
+      inside = λ k i e. let h = inside i (got_in xs k i e) in omega (arith, counted, h);
+      all = λ i h nowhere. let r = in_got xs i (all i (omega (arith, counted, h))) in nowhere r.0 r.1;
+      once = one_place xs once;
+    }
 
 -- ---- pieces
 

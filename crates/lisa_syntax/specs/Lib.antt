@@ -3,3 +3,4 @@ pub mod Parts
 pub mod Orders
 pub mod Lines
 pub mod Trees
+pub mod Operands

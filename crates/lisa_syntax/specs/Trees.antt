@@ -1,27 +1,38 @@
--- The texts of trees.
-use Rattle.std.specs.Prelude.{◌≡◌, ◌<◌, ℕ, List, length, Some, slice_get}
+-- The texts of instructions.
+use Rattle.std.specs.Prelude.{◌≡◌, ◌<◌, ℕ, List, [], length, map, Some, slice_get}
 use Rattle.lisa_tree.specs.Descriptions.{DescriptionTree}
-use Rattle.lisa_machine.specs.Verdicts.{IsAccepted}
-use Rattle.instruction_trees.specs.Trees.{Form, Choose}
-use Rattle.instruction_trees.specs.Values.{filled}
+use Rattle.instruction_trees.specs.Trees.{Tree, Choose}
 use Rattle.coding_tables.specs.Codings.{coding_table}
-use Rattle.coding_tables.specs.Instructions.{forms_of}
-use Rattle.pattern_tables.specs.Instructions.{form_at}
-use Rattle.instruction_texts.specs.Symbols.{symbols}
-use Rattle.instruction_texts.specs.Written.{text_bytes}
-use Rattle.instruction_texts.specs.Texts.{InRange, text}
+use Rattle.form_patterns.specs.Filled.{IsInstruction}
+use Rattle.instruction_texts.specs.declared.operands.Operand.{Operand}
+use Rattle.instruction_texts.specs.declared.shapes.Token.{Token}
+use Rattle.instruction_texts.specs.Lines.{Value, given}
+use Rattle.instruction_texts.specs.Texts.{text}
 use Rattle.form_texts.specs.Syntaxes.{syntax_table}
-use Rattle.lisa_forms.specs.Verdicts.{HasForms}
-use Rattle.lisa_syntax.specs.declared.syntax.Syntax.{Syntax}
-use Rattle.lisa_syntax.specs.Parts.{IsSyntaxOf}
+use Rattle.lisa_syntax.specs.declared.reading.Matched.{Matched}
+
+-- the text of an instruction is that of the operation that it chooses among all instructions, with its parts and values
+abbrev pub instruction_text : DescriptionTree → Tree ℕ → List Token
+instruction_text d (Choose o own t) = text (coding_table d) (syntax_table d) o own
+instruction_text d _ = []
 
 -- the function gives each of these values by its number
 abbrev pub AreFields : (ℕ → ℕ) → List ℕ → Type 0
 AreFields f fields = (i : ℕ) → i < length fields → slice_get fields i ≡ Some (f i)
 
--- in each description that has this syntax these bytes are the text of the form's tree with these values
-abbrev pub IsTextOf : Syntax → ℕ → List ℕ → List ℕ → Type 0
-IsTextOf s form fields bytes =
-    (d : DescriptionTree) → IsAccepted d → HasForms d → IsSyntaxOf d s → (o : ℕ) (own t : Form) → form_at (forms_of d) form ≡ Choose o own t
-    → (f : ℕ → ℕ) → AreFields f fields → InRange (symbols (coding_table d) (syntax_table d) o (filled f own))
-    → bytes ≡ text_bytes (text (coding_table d) (syntax_table d) o (filled f own))
+-- a line gives these values for the fields
+abbrev pub Gives : List Operand → List ℕ → Type 0
+Gives operands vs = map given operands ≡ map Value vs
+
+-- a line is read as this form with these values
+pub record IsReadAs (k : ℕ) (vs : List ℕ) (m : Matched) : Type 0 where
+  pub form : m.form ≡ k
+  pub gives : Gives m.operands.items vs
+
+-- what is read is an instruction with this text
+pub record HasText (d : DescriptionTree) (ts : List Token) (m : Matched) : Type 0 where
+  pub values : List ℕ
+  pub tree : Tree ℕ
+  pub instruction : IsInstruction d m.form values tree
+  pub gives : Gives m.operands.items values
+  pub is : instruction_text d tree ≡ ts

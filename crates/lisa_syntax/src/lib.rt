@@ -1,11 +1,15 @@
 //! The texts of an accepted description's instructions: that no two forms share one, which form a line is of, and what a form's text is.
 #![tactic(auto)]
 
+mod laws;
 mod making;
 mod parts;
 mod reading;
 mod syntax;
 mod writing;
 
+pub use laws::{
+    lines_are_texts_of_instructions, operands_stand_for_numbers, texts_are_of_one_instruction,
+};
 pub use reading::{LineFault, Matched};
 pub use syntax::Syntax;

@@ -1,10 +1,17 @@
 //! Reading lines of a source.
 
-ghost use Rattle.std.specs.Prelude.{◌≡◌, ◌<◌, Some, IfOk, IfErr, length, map, slice_get};
+ghost use Rattle.std.specs.Prelude.{◌≡◌, ◌<◌, ℕ, List, Some, IfOk, IfErr, length, map, slice_get};
+ghost use Rattle.lisa_tree.specs.Descriptions.{DescriptionTree};
+ghost use Rattle.instruction_trees.specs.Trees.{Tree};
+ghost use Rattle.form_patterns.specs.Filled.{IsInstruction};
 ghost use Rattle.asm_source.specs.Plain.{token_tree};
+ghost use Rattle.instruction_texts.specs.declared.shapes.Token.{Token};
+ghost use Rattle.instruction_texts.specs.Lines.{plain_token};
 ghost use Rattle.text_tables.specs.Shared.{shapes_at};
 ghost use Rattle.lisa_syntax.specs.Orders.{IsNowhere, IsOrder, IsInOrder, number_count, order_at};
-ghost use Rattle.lisa_syntax.specs.Lines.{IsReading, IsLineFault};
+ghost use Rattle.lisa_syntax.specs.Lines.{all_shapes, all_orders, IsReading, IsLineFault};
+ghost use Rattle.lisa_syntax.specs.Parts.{IsSyntaxOf};
+ghost use Rattle.lisa_syntax.specs.Trees.{IsReadAs, HasText, instruction_text};
 ghost use Rattle.lisa_syntax.specs.declared.reading.LineFault.TheVariants as faults;
 
 use crate::syntax::Syntax;
@@ -86,14 +93,10 @@ impl Syntax {
         })
     }
 
-    /// Which form a line is of, where an `@` operand stands for any value of the number in its place. A line that no form matches is
-    /// NoInstruction, and one that two or more match is TwoInstructions.
-    pub fn read_line<'a>(&self, line: &'a [LineToken]) -> Result<Matched<'a>, LineFault>
-        // The one form that matches, with an operand for each field.
-        ensures matched { IfOk result (λ m. IsReading self.now (map token_tree line.now) m) }
-
-        // None matches, or more than one, or memory was wanted.
-        ensures fault { IfErr result (λ f. IsLineFault self.now.table (map token_tree line.now) f) }
+    // Which form a line is of, by the pieces of the forms' texts.
+    fn form_of_line<'a>(&self, line: &'a [LineToken]) -> Result<Matched<'a>, LineFault>
+        ensures matched { IfOk result (IsReading self.now.table (map (λ v. v.items) self.now.orders.items) (map token_tree line.now)) }
+        ensures fault { IfErr result (IsLineFault self.now.table (map token_tree line.now)) }
     {
         match self.table.read(self.alloc, line)? {
             Found::Nothing => Err(LineFault::NoInstruction),
@@ -103,5 +106,26 @@ impl Syntax {
                 second: second as u32,
             }),
         }
+    }
+
+    /// Which form a line is of, where an `@` operand stands for any value of the number in its place. A line that no form matches is
+    /// NoInstruction, and one that two or more match is TwoInstructions, which never comes for a line without `@`.
+    pub fn read_line<'a>(&self, line: &'a [LineToken]) -> Result<Matched<'a>, LineFault>
+        // The one form that matches, with an operand for each field.
+        ensures matched { (d : DescriptionTree) → IsSyntaxOf d self.now → IfOk result (IsReading (all_shapes d) (all_orders d) (map token_tree line.now)) }
+
+        // None matches, or more than one, or memory was wanted.
+        ensures fault { (d : DescriptionTree) → IsSyntaxOf d self.now → IfErr result (IsLineFault (all_shapes d) (map token_tree line.now)) }
+
+        // What a line without `@` is read as has the line as its text.
+        ensures plain { (d : DescriptionTree) (ts : List Token) → IsSyntaxOf d self.now → map token_tree line.now ≡ map plain_token ts → IfOk result (HasText d ts) }
+
+        // Such a line is never that of two forms.
+        ensures single { (d : DescriptionTree) (ts : List Token) → IsSyntaxOf d self.now → map token_tree line.now ≡ map plain_token ts → (i j : ℕ) → IfErr result (λ f. f ≡ faults.TwoInstructions i j → ⊥) }
+
+        // The text of an instruction is read as its form with its values.
+        ensures again { (d : DescriptionTree) (k : ℕ) (vs : List ℕ) (t : Tree ℕ) → IsSyntaxOf d self.now → IsInstruction d k vs t → map token_tree line.now ≡ map plain_token (instruction_text d t) → IfOk result (IsReadAs k vs) × IfErr result (λ f. f ≡ faults.NoMemory) }
+    {
+        self.form_of_line(line)
     }
 }

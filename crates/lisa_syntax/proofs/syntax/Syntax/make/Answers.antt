@@ -3,7 +3,7 @@ use Rattle.lisa_tree.specs.declared.descriptions.Description.{Description}
 use Rattle.lisa_tree.specs.Descriptions.{description_tree}
 use Rattle.instruction_forms.specs.declared.form.Form.{Form}
 use Rattle.instruction_forms.specs.Described.{AreForms}
-use Rattle.lisa_syntax.proofs.Made.{parts_sized, parts_level, parts_few, parts_ordered, none_ambiguous, first_ambiguous}
+use Rattle.lisa_syntax.proofs.Made.{parts_sized, parts_level, parts_few, parts_ordered, none_ambiguous, first_ambiguous, made}
 use Rattle.lisa_syntax.proofs.syntax.Syntax.make.Goals as goal
 
 pub text_parts-requires : goal.text_parts-requires
@@ -34,3 +34,9 @@ returns-in_ok-kept-in-None-clause-plain c =
 
 pub kept-requires-clause-ordered : goal.kept-requires-clause-ordered
 kept-requires-clause-ordered c = parts_ordered c.args.machine.now c.description.result.now c.description.ensures c.in_ok-parts.parts c.in_ok-parts.ensures c.accepted.ensures.accepted c.requires.accepted
+
+pub returns-in_ok-kept-in-None-clause-syntax : goal.returns-in_ok-kept-in-None-clause-syntax
+returns-in_ok-kept-in-None-clause-syntax c =
+    made c.args.machine.now c.description.result.now c.description.ensures c.in_ok-parts.parts c.in_ok-parts.ensures c.accepted.ensures.accepted c.requires.accepted
+    (none_ambiguous c.args.machine.now c.description.result.now c.description.ensures c.in_ok-parts.parts c.in_ok-parts.ensures c.accepted.ensures.accepted c.requires.accepted c.deref.result.now c.deref.ensures.value c.in_ok-shared.field-0 c.in_ok-shared.ensures c.in-None.is)
+    c.in_ok-kept-in-None.field-0 c.in_ok-kept-in-None.ensures.shapes c.in_ok-kept-in-None.ensures.orders

@@ -1,7 +1,45 @@
-use Rattle.lisa_syntax.proofs.Texts.{text_kept}
+use Rattle.std.proofs.Common.{ℕ, List, length, sym, ap, ◌∙◌, subst}
+use Rattle.std.specs.List.{All}
+use Rattle.instruction_texts.specs.declared.shapes.Shape.{Shape}
+use Rattle.instruction_texts.specs.Shapes.{IsSized}
+use Rattle.instruction_texts.specs.Written.{Holds}
+use Rattle.lisa_syntax.specs.Orders.{IsOrder}
+use Rattle.lisa_syntax.proofs.Texts.{Shows, ready, order_seen, text_kept}
 use Rattle.lisa_syntax.proofs.syntax.Syntax.text_of.Goals as goal
+
+pub in_text_order-requires-clause-order : goal.in_text_order-requires-clause-order
+in_text_order-requires-clause-order c =
+    let s = c.args.self.now in
+    let r = ready s c.args.form c.args.fields.now c.requires.values in
+    let order = order_seen s c.args.form r.within c.index.result.now c.deref.result.now c.index.ensures c.deref.ensures.value in
+    subst (λ (xs : List ℕ). IsOrder xs) (sym order) (s.ordered c.args.form r.within).is_order
+
+pub in_text_order-requires-clause-level : goal.in_text_order-requires-clause-level
+in_text_order-requires-clause-level c =
+    let s = c.args.self.now in
+    let r = ready s c.args.form c.args.fields.now c.requires.values in
+    let order = order_seen s c.args.form r.within c.index.result.now c.deref.result.now c.index.ensures c.deref.ensures.value in
+    r.level ∙ ap (λ (xs : List ℕ). length xs) (sym order)
+
+pub text_of-requires-clause-sized : goal.text_of-requires-clause-sized
+text_of-requires-clause-sized c =
+    let s = c.args.self.now in
+    let r = ready s c.args.form c.args.fields.now c.requires.values in
+    subst (λ (ss : List Shape). All IsSized ss) (sym c.shapes.ensures) r.sized
+
+pub text_of-requires-clause-holds : goal.text_of-requires-clause-holds
+text_of-requires-clause-holds c =
+    let s = c.args.self.now in
+    let r = ready s c.args.form c.args.fields.now c.requires.values in
+    let order = order_seen s c.args.form r.within c.index.result.now c.deref.result.now c.index.ensures c.deref.ensures.value in
+    let shows = subst (λ (xs : List ℕ). Shows xs c.args.fields.now c.in_ok-values.values.items) order c.in_ok-values.ensures in
+    subst (λ (vs : List ℕ). Holds c.shapes.result.now vs) (sym c.deref-2.ensures.value)
+    (subst (λ (ss : List Shape). Holds ss c.in_ok-values.values.items) (sym c.shapes.ensures) (r.holds c.in_ok-values.values.items shows))
 
 pub returns : goal.returns
 returns c =
-    text_kept c.args.self.now c.args.form c.requires.within c.args.self.now.level c.args.fields.now c.in_ok-values.values.items c.deref.result.now c.index.result.now c.index.ensures c.deref.ensures.value c.in_ok-values.ensures
-    c.shapes.result.now c.shapes.ensures c.deref-2.result.now c.deref-2.ensures.value c.text_with.result c.text_with.ensures.sized c.text_with.ensures.exact
+    let s = c.args.self.now in
+    let r = ready s c.args.form c.args.fields.now c.requires.values in
+    let order = order_seen s c.args.form r.within c.index.result.now c.deref.result.now c.index.ensures c.deref.ensures.value in
+    let shows = subst (λ (xs : List ℕ). Shows xs c.args.fields.now c.in_ok-values.values.items) order c.in_ok-values.ensures in
+    record { text = text_kept s c.args.form c.args.fields.now c.in_ok-values.values.items shows c.shapes.result.now c.shapes.ensures c.deref-2.result.now c.deref-2.ensures.value c.text_of.result c.text_of.ensures.exact }
