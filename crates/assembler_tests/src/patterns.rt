@@ -3,8 +3,7 @@
 ghost use Rattle.std.specs.Prelude.{◌≡◌, ◌<◌, ◌^◌, length};
 
 use pattern_tables::{
-    BitPattern, Decoder, Overlap, Place, common_word, covers, encode, field, first_overlap,
-    first_uncovered,
+    BitPattern, Decoder, Overlap, Place, common_word, covers, field, first_overlap, first_uncovered,
 };
 use std::alloc::Global;
 use std::test::Fail;
@@ -47,9 +46,7 @@ fn decoder(alloc: Global, patterns: &[BitPattern], plain: &[bool]) -> Result<Dec
 }
 
 #[test]
-fn words_are_encoded_and_their_fields_read(rt: HostRuntime) {
-    assert_eq!(rt; encode(0x40, &[7, 1], &[NUMBER, REGISTER]), 0x67);
-    assert_eq!(rt; encode(0x00, &[], &[]), 0x00);
+fn fields_of_words_are_read(rt: HostRuntime) {
     assert_eq!(rt; field(NUMBER, 0x67), 7);
     assert_eq!(rt; field(REGISTER, 0x67), 1);
     assert_eq!(rt; field(OFFSET, 0x82), 2);

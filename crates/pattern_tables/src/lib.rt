@@ -19,7 +19,7 @@ mod table;
 pub use bit_pattern::{BitPattern, common_word, covers};
 pub use covering::first_uncovered;
 pub use decoder::Decoder;
-pub use fields::{Place, encode, field};
+pub use fields::{Place, field};
 pub use overlaps::{Overlap, first_overlap};
 pub use steps::Steps;
 pub use table::PatternTable;
