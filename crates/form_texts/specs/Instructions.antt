@@ -33,6 +33,6 @@ abbrev pub first_bad_from : DescriptionTree → ℕ → List Form → Option ℕ
 first_bad_from d k [] = None
 first_bad_from d k (f ∷ rest) = cond (is_instruction_text (instruction_symbols d f)) (first_bad_from d (k + 1) rest) (Some k)
 
--- The first form whose text is empty, or would be taken for a directive, or has a number that isn't last in its run.
+-- The first form whose text is empty, or has a first run that begins with `.`, or a number that isn't last in its run.
 abbrev pub first_bad_text : DescriptionTree → Option ℕ
 first_bad_text d = first_bad_from d 0 (forms_of d)

@@ -48,7 +48,7 @@ fn starts_dot(run: &[u8]) -> bool
     matches!(run, [b'.', ..])
 }
 
-// Whether the first run begins with `.`, so that the text would be taken for a directive.
+// Whether the first run begins with `.`, as a directive does.
 fn is_dotted(shapes: &[Shape]) -> bool
     ensures { result ≡ is_dotted shapes.now }
 {

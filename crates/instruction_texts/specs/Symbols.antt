@@ -128,7 +128,7 @@ abbrev pub has_pieces : List Shape → Bool
 has_pieces [] = false
 has_pieces (s ∷ ss) = true
 
--- a form may have this text: it isn't empty, it isn't taken for a directive, and a number ends its run
+-- a form may have this text: it isn't empty, its first run doesn't begin with `.`, as a directive does, and a number ends its run
 abbrev pub is_instruction_text : {V : Type 0} → List (Sym V) → Bool
 is_instruction_text s = is_clean s && (has_pieces (gather [] s) && not (is_dotted (gather [] s)))
 
