@@ -4,3 +4,4 @@ mod Parts
 mod Chosen
 mod Kept
 mod Formed
+mod Rootless

@@ -74,11 +74,4 @@ impl Forms {
     {
         &self.items
     }
-
-    /// The width of an instruction; none without a root.
-    pub fn width(&self) -> Option<u32>
-        ensures { result ≡ self.now.width }
-    {
-        self.width
-    }
 }
