@@ -3,6 +3,7 @@ use Rattle.std.proofs.Common.{◌<◌, ◌^◌, ℕ, Bool, List, Option, None, S
 use Rattle.std.specs.Prelude.{unwrap_or}
 use Rattle.lisa_tree.specs.Descriptions.{DescriptionTree}
 use Rattle.description_names.specs.Operations.{is_alias}
+use Rattle.lisa_machine.specs.Verdicts.{IsAccepted}
 use Rattle.instruction_trees.specs.Trees.{tree_at}
 use Rattle.instruction_trees.proofs.FormWords.{read_values}
 use Rattle.coding_tables.specs.Codings.{coding_table}
@@ -18,17 +19,18 @@ use Rattle.form_patterns.proofs.Standing.{all_fit}
 use Rattle.lisa_coding.specs.declared.coding.Coding.{Coding}
 use Rattle.lisa_coding.specs.Parts.{IsCodingOf, IsDecodedAs}
 use Rattle.lisa_coding.proofs.Formed.{frames_counted}
+use Rattle.lisa_coding.proofs.Listed.{from_listed, to_listed}
 
 module _ (d : DescriptionTree) (w : ℕ) where
-  pub decoded : (r : Option ℕ) → AnswersOverlap (instruction_frames d) (instruction_plain d) None → IsDecoded (instruction_frames d) (instruction_plain d) w r → IsDecodedAs d w r
-  decoded None apart is = none_decoded (coding_table d) (instruction_items d) (is_alias d) (forms_of d) w is
-  decoded (Some k) apart is = record {
+  pub decoded : (r : Option ℕ) → IsAccepted d → AnswersOverlap (instruction_frames d) (instruction_plain d) None → IsDecoded (instruction_frames d) (instruction_plain d) w r → IsDecodedAs d w r
+  decoded None accepted apart is = λ t has. none_decoded (coding_table d) (instruction_items d) (is_alias d) (forms_of d) w is t (to_listed d w t accepted has)
+  decoded (Some k) accepted apart is = record {
     within = subst (λ (n : ℕ). k < n) (frames_counted d) is.0;
     tree = tree_at (coding_table d) w 0 (form_at (forms_of d) k) (instruction_items d);
-    has = decoded_tree (coding_table d) (instruction_items d) (is_alias d) (forms_of d) w k (all_fit d) is;
+    has = from_listed d w (tree_at (coding_table d) w 0 (form_at (forms_of d) k) (instruction_items d)) (decoded_tree (coding_table d) (instruction_items d) (is_alias d) (forms_of d) w k (all_fit d) is);
     formed = decoded_form (coding_table d) (instruction_items d) (is_alias d) (forms_of d) w k (all_fit d) is;
     read = read_values (coding_table d) (instruction_items d) (form_at (forms_of d) k) w;
-    only = only_decoded (coding_table d) (instruction_items d) (is_alias d) (forms_of d) w k apart is;
+    only = λ t has. only_decoded (coding_table d) (instruction_items d) (is_alias d) (forms_of d) w k apart is t (to_listed d w t accepted has);
   }
 
   -- a word of more bits than an instruction is none
@@ -40,10 +42,10 @@ module _ (d : DescriptionTree) (w : ℕ) where
       wide (subst (λ (n : ℕ). w < 2 ^ n) s.wide has.below)
 
   pub wider : (c : Coding) → IsCodingOf d c → (w < 2 ^ unwrap_or c.width 0 → ⊥) → IsDecodedAs d w None
-  wider c is wide = decoded None is.apart (too_wide (unwrap_or c.width 0) c.patterns.items is.all_patterns wide)
+  wider c is wide = decoded None is.accepted is.apart (too_wide (unwrap_or c.width 0) c.patterns.items is.all_patterns wide)
 
   pub answered : (c : Coding) (r : Option ℕ) → IsCodingOf d c → w < 2 ^ unwrap_or c.width 0 → AnswersForm c.decoder w r → IsDecodedAs d w r
   answered c r is below answers =
-      decoded r is.apart
+      decoded r is.accepted is.apart
       (answers (unwrap_or c.width 0) (instruction_frames d) c.patterns.items (instruction_plain d)
       (subst (λ (bs : List Bool). HoldPlain c.patterns.items bs c.decoder) is.all_plain is.tables) is.all_patterns below)

@@ -2,16 +2,16 @@
 use Rattle.std.proofs.Common.{◌≡◌, ◌<◌, ◌+◌, ℕ, List, None, Some, true, map, sym, ap, ◌∙◌, subst}
 use Rattle.lisa_tree.specs.Descriptions.{DescriptionTree}
 use Rattle.description_names.specs.Operations.{is_alias}
+use Rattle.lisa_machine.specs.Verdicts.{IsAccepted}
 use Rattle.instruction_trees.specs.Trees as plain
-use Rattle.instruction_trees.specs.Trees.{Tree, Done, In, bits, form, is_plain, slice}
+use Rattle.instruction_trees.specs.Trees.{Tree, bits, form, is_plain, slice}
 use Rattle.instruction_trees.specs.Values.{values, sum_of, weigh}
 use Rattle.instruction_trees.specs.Words.{word_of}
 use Rattle.instruction_trees.proofs.FormWords.{only_tree, pattern_has, read_values}
 use Rattle.coding_tables.specs.Codings.{coding_table}
 use Rattle.coding_tables.specs.Instructions.{instruction_items, forms_of, form_count}
 use Rattle.pattern_tables.specs.Overlaps.{AnswersOverlap}
-use Rattle.pattern_tables.specs.Instructions.{form_at, IsListed}
-use Rattle.pattern_tables.proofs.Decoding.{place_in}
+use Rattle.pattern_tables.specs.Instructions.{form_at}
 use Rattle.pattern_tables.proofs.Treed.{one_plain_tree}
 use Rattle.form_patterns.specs.Instructions.{instruction_frames, instruction_plain, field_places}
 use Rattle.form_patterns.specs.Filled.{AreValuesOf, IsInstruction}
@@ -23,12 +23,10 @@ use Rattle.lisa_coding.specs.Parts.{HasTree, IsCodingOf, IsDecodedAs}
 use Rattle.lisa_coding.specs.Verdicts.{IsUncoveredVerdict}
 use Rattle.lisa_coding.proofs.Fielded.{tree_word, form_within}
 use Rattle.lisa_coding.proofs.Known.{own_word, covered_known}
+use Rattle.lisa_coding.proofs.Listed.{to_listed}
 
 module _ (d : DescriptionTree) (k : ℕ) (vs : List ℕ) where
   -- ---- a tree and its word
-
-  listed : (t : Tree ℕ) → k < form_count d → IsInstruction d k vs t → IsListed (coding_table d) (instruction_items d) (forms_of d) t
-  listed t within is = record { fits = is.fits; listed = subst (λ (f : plain.Form). In f (forms_of d)) (sym is.formed) (place_in (forms_of d) k Done within) }
 
   read_back : (t : Tree ℕ) → IsInstruction d k vs t → map (slice (word_of (coding_table d) t (instruction_items d))) (field_places d (form_at (forms_of d) k)) ≡ vs
   read_back t is =
@@ -40,18 +38,18 @@ module _ (d : DescriptionTree) (k : ℕ) (vs : List ℕ) where
       ∙ ap values (sym (only_tree table items t w is.fits (pattern_has (bits table t items))))
       ∙ is.valued
 
-  plain_word : (t : Tree ℕ) → k < form_count d → IsInstruction d k vs t → is_plain (is_alias d) t ≡ true → AnswersOverlap (instruction_frames d) (instruction_plain d) None
+  plain_word : (t : Tree ℕ) → k < form_count d → IsInstruction d k vs t → is_plain (is_alias d) t ≡ true → IsAccepted d → AnswersOverlap (instruction_frames d) (instruction_plain d) None
       → IsDecodedAs d (word_of (coding_table d) t (instruction_items d)) (Some k)
-  plain_word t within is plain_one apart =
+  plain_word t within is plain_one accepted apart =
       let w = word_of (coding_table d) t (instruction_items d) in
-      let own : HasTree d w t = own_word d t (listed t within is) plain_one in
+      let own : HasTree d w t = own_word d t is.fits plain_one in
       record {
         within = within;
         tree = t;
         has = own;
         formed = is.formed;
         read = is.valued ∙ sym (read_back t is);
-        only = λ u has. one_plain_tree (coding_table d) (instruction_items d) (is_alias d) (forms_of d) w apart u t has own;
+        only = λ u has. one_plain_tree (coding_table d) (instruction_items d) (is_alias d) (forms_of d) w apart u t (to_listed d w u accepted has) (to_listed d w t accepted own);
       }
 
   -- ---- the word that a coding makes
@@ -70,9 +68,9 @@ module _ (d : DescriptionTree) (k : ℕ) (vs : List ℕ) where
         ap (λ (n : ℕ). map (slice n) (field_places d (form_at (forms_of d) k))) (word_is own.0 own.1) ∙ read_back own.0 own.1
 
     pub decoded_as : (t : Tree ℕ) → IsInstruction d k vs t → is_plain (is_alias d) t ≡ true → IsDecodedAs d w (Some k)
-    decoded_as t of plain_one = subst (λ (n : ℕ). IsDecodedAs d n (Some k)) (sym (word_is t of)) (plain_word t are.within of plain_one is.apart)
+    decoded_as t of plain_one = subst (λ (n : ℕ). IsDecodedAs d n (Some k)) (sym (word_is t of)) (plain_word t are.within of plain_one is.accepted is.apart)
 
     pub covered_as : IsUncoveredVerdict d None → IsDecodedAs d w None → ⊥
     covered_as verdict none =
         let own = instruction_of d k vs are in
-        covered_known d own.0 verdict (listed own.0 are.within own.1) (subst (λ (n : ℕ). IsDecodedAs d n None) (word_is own.0 own.1) none)
+        covered_known d own.0 is.accepted verdict own.1.fits (subst (λ (n : ℕ). IsDecodedAs d n None) (word_is own.0 own.1) none)

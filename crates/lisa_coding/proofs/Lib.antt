@@ -1,3 +1,4 @@
+pub mod Listed
 pub mod Formed
 pub mod Decoded
 pub mod Adding

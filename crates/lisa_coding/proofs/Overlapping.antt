@@ -23,6 +23,7 @@ use Rattle.lisa_coding.specs.Parts.{IsCodingOf, HasTree, SharesWord}
 use Rattle.lisa_coding.specs.Rows.{frame_pattern, instruction_patterns}
 use Rattle.lisa_coding.proofs.Fielded.{frame_is}
 use Rattle.lisa_coding.proofs.Formed.{frames_counted}
+use Rattle.lisa_coding.proofs.Listed.{from_listed}
 
 -- ---- patterns
 
@@ -74,8 +75,8 @@ module _ (d : DescriptionTree) where
           within = within;
           first = tree_at (coding_table d) w 0 (form_at (forms_of d) i) (instruction_items d);
           second = tree_at (coding_table d) w 0 (form_at (forms_of d) j) (instruction_items d);
-          first_has = decoded_tree (coding_table d) (instruction_items d) (is_alias d) (forms_of d) w i (all_fit d) (before, o.first, o.one);
-          second_has = decoded_tree (coding_table d) (instruction_items d) (is_alias d) (forms_of d) w j (all_fit d) (o.within, o.second, o.other);
+          first_has = from_listed d w (tree_at (coding_table d) w 0 (form_at (forms_of d) i) (instruction_items d)) (decoded_tree (coding_table d) (instruction_items d) (is_alias d) (forms_of d) w i (all_fit d) (before, o.first, o.one));
+          second_has = from_listed d w (tree_at (coding_table d) w 0 (form_at (forms_of d) j) (instruction_items d)) (decoded_tree (coding_table d) (instruction_items d) (is_alias d) (forms_of d) w j (all_fit d) (o.within, o.second, o.other));
           first_formed = decoded_form (coding_table d) (instruction_items d) (is_alias d) (forms_of d) w i (all_fit d) (before, o.first, o.one);
           second_formed = decoded_form (coding_table d) (instruction_items d) (is_alias d) (forms_of d) w j (all_fit d) (o.within, o.second, o.other);
         }),

@@ -84,6 +84,7 @@ fn with_patterns(
     requires none { AnswersOverlap (instruction_frames (description_tree machine.now)) (instruction_plain (description_tree machine.now)) None }
     ensures { IfOk result (IsCodingOf (description_tree machine.now)) }
 {
+    machine.accepted();
     let plain = Vec::from_slice(alloc, forms.plain())?;
     let decoder = Decoder::make(alloc, &patterns, &plain)?;
     let uncovered = uncovered_name(alloc, machine, forms, &patterns)?;

@@ -28,8 +28,9 @@ returns c =
     let rows = c.in_ok-places.places.items in
     let plain : c.in_ok-plain.plain.items ≡ f.plain.items = c.in_ok-plain.ensures.items ∙ c.plain.ensures in
     record {
-      has_width = subst (λ (w : Option ℕ). HasWidth d w) (sym c.width.ensures) c.requires.forms.has_width;
-      all_patterns = subst (λ (w : Option ℕ). ArePatterns d w c.args.patterns.items) (sym c.width.ensures) c.requires.patterns;
+      accepted = c.accepted.ensures.accepted;
+      has_width = subst (λ (w : Option ℕ). HasWidth d w) (sym c.width.ensures.is) c.requires.forms.has_width;
+      all_patterns = subst (λ (w : Option ℕ). ArePatterns d w c.args.patterns.items) (sym c.width.ensures.is) c.requires.patterns;
       all_places = c.in_ok-places.ensures d (subst (λ (all : List Form). AreForms d all) (sym c.forms.ensures) c.requires.forms.all_forms);
       all_plain = plain ∙ c.requires.forms.all_plain;
       tables = subst (λ (ps : List BitPattern). HoldPlain ps c.in_ok-plain.plain.items c.in_ok-decoder.decoder) c.deref.ensures.value (subst (λ (bs : List Bool). HoldPlain c.deref.result.now bs c.in_ok-decoder.decoder) c.deref-2.ensures.value c.in_ok-decoder.ensures);
