@@ -77,6 +77,10 @@ good_text d k [] f e i = elim i [ ]
 good_text d k (g ∷ fs) f e (here) = (good_first (is_instruction_text (instruction_symbols d g)) (first_bad_from d (k + 1) fs) k e).0
 good_text d k (g ∷ fs) f e (there i) = good_text d (k + 1) fs f (good_first (is_instruction_text (instruction_symbols d g)) (first_bad_from d (k + 1) fs) k e).1 i
 
+-- a form may have its text
+pub good : (d : DescriptionTree) → HasForms d → (f : Form) → In f (forms_of d) → is_instruction_text (instruction_symbols d f) ≡ true
+good d has f i = good_text d 0 (forms_of d) f (no_bad_text d has) i
+
 -- ---- forms
 
 pub fits : (d : DescriptionTree) (f : Form) → In f (forms_of d) → Fits AnyValue (coding_table d) f (instruction_items d)
@@ -91,7 +95,7 @@ module _ (d : DescriptionTree) (accepted : IsAccepted d) (has : HasForms d) wher
   readable o own t i =
       let s = form_symbols (coding_table d) (syntax_table d) o own in
       let first = even d has in
-      let clean = left_of (is_clean s) _ (good_text d 0 (forms_of d) (Choose o own t) (no_bad_text d has) i) in
+      let clean = left_of (is_clean s) _ (good d has (Choose o own t) i) in
       form_readable d (sound d accepted) first.widths (even_of d first) (all_written d has) o own t (fits d (Choose o own t) i) clean
 
   -- a form writes what its pieces are a shape of

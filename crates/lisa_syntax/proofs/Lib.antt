@@ -12,5 +12,8 @@ pub mod Lined
 pub mod Texts
 pub mod Widths
 pub mod Instructed
+mod LineBytes
+mod Showing
+mod TextLines
 pub mod Again
 pub mod OneText

@@ -1,18 +1,21 @@
 //! What instructions are to their texts. Each law is the contract of a function that does nothing.
 
-ghost use Rattle.std.specs.Prelude.{◌≡◌, ◌<◌, ◌↔◌, ℕ, List, None};
+ghost use Rattle.std.specs.Prelude.{◌≡◌, ◌<◌, ◌↔◌, ℕ, List, [], None, Ok, map};
 ghost use Rattle.std.specs.List.{All};
 ghost use Rattle.lisa_tree.specs.Descriptions.{DescriptionTree};
+ghost use Rattle.lisa_machine.specs.Machines.{IsSpelled};
 ghost use Rattle.lisa_machine.specs.Verdicts.{IsAccepted};
-ghost use Rattle.asm_source.specs.Plain.{PlainToken};
+ghost use Rattle.asm_source.specs.Plain.{PlainToken, Instruction};
+ghost use Rattle.asm_source.specs.Parts.{line_of};
 ghost use Rattle.instruction_trees.specs.Trees.{Tree};
 ghost use Rattle.coding_tables.specs.Instructions.{forms_of, form_count};
 ghost use Rattle.pattern_tables.specs.Instructions.{form_at};
 ghost use Rattle.form_patterns.specs.Filled.{IsInstruction};
 ghost use Rattle.instruction_texts.specs.declared.shapes.Shape.{Shape};
 ghost use Rattle.instruction_texts.specs.declared.shapes.Token.{Token};
-ghost use Rattle.instruction_texts.specs.Lines.{Plain, Matches};
+ghost use Rattle.instruction_texts.specs.Lines.{Plain, Matches, plain_token};
 ghost use Rattle.instruction_texts.specs.Shapes.{IsSized};
+ghost use Rattle.instruction_texts.specs.Written.{text_bytes};
 ghost use Rattle.text_tables.specs.Reading.{IsMatch};
 ghost use Rattle.lisa_forms.specs.Verdicts.{HasForms};
 ghost use Rattle.lisa_syntax.specs.Lines.{all_shapes};
@@ -38,4 +41,10 @@ pub fn operands_stand_for_numbers()
 /// value that is written without `-`.
 pub fn lines_are_texts_of_instructions()
     ensures { (d : DescriptionTree) (k : ℕ) (gs : List Plain) (line : List PlainToken) → IsAccepted d → HasForms d → IsMatch (all_shapes d) line k gs ↔ ((fields : List ℕ) × (t : Tree ℕ) × (vs : List ℕ) × IsInstruction d k fields t × IsLineOf d k t vs gs line) }
+{}
+
+/// The bytes of an instruction's text, alone in a line of a source, are read as the text's pieces: no label, comment or `@` stands among
+/// them, and no directive is in their place. The description's strings have no `:`, `;` or `@`.
+pub fn texts_are_lines()
+    ensures { (d : DescriptionTree) (k : ℕ) (vs : List ℕ) (t : Tree ℕ) → IsAccepted d → IsSpelled d → HasForms d → IsInstruction d k vs t → line_of (text_bytes (instruction_text d t)) ≡ Ok ([], Instruction (map plain_token (instruction_text d t))) }
 {}

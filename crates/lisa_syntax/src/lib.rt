@@ -8,8 +8,10 @@ mod reading;
 mod syntax;
 mod writing;
 
+pub use instruction_texts::Operand;
 pub use laws::{
-    lines_are_texts_of_instructions, operands_stand_for_numbers, texts_are_of_one_instruction,
+    lines_are_texts_of_instructions, operands_stand_for_numbers, texts_are_lines,
+    texts_are_of_one_instruction,
 };
 pub use reading::{LineFault, Matched};
 pub use syntax::Syntax;
