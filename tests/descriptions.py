@@ -333,6 +333,7 @@ refused("a label that isn't written", CODED % 'DECLARE { LABEL l; } CODING { 0b0
 refused("a field that isn't in the syntax", CODED % 'DECLARE { LABEL l; } CODING { l=0bx[4] } SYNTAX { "X" }', "20 NotWritten operation=x name=l")
 refused("a field that is twice in the syntax", CODED % 'DECLARE { LABEL l; } CODING { l=0bx[4] } SYNTAX { l=#U l=#X }', "20 NotWritten operation=x name=l")
 refused("a child that isn't in the syntax", CODED % 'DECLARE { INSTANCE y; } CODING { y } SYNTAX { "X" }' + operation("y", 4, "Y"), "20 NotWritten operation=x name=y")
+refused("a child that is twice in the coding", CODED % 'DECLARE { INSTANCE y; } CODING { y y } SYNTAX { y }' + operation("y", 2, "Y"), "20 NotWritten operation=x name=y")
 refused("a child in the syntax alone", CODED % 'DECLARE { INSTANCE y; } CODING { 0b0000 } SYNTAX { "X" y }' + 'OPERATION y { SYNTAX { "Y" } }', "20 NotWritten operation=x name=y")
 
 # ---------------------------------------------------------------- 21, 22: one root, and not too much of anything
@@ -378,6 +379,8 @@ refused("an activation of 13 levels", doubling(12), "22 TooMany what=occurrences
 refused("8,193 registers", "RESOURCE { " + many(8193, "REGISTER uint1 r%d; ") + "} " + MAIN, "22 TooMany what=items count=8193 limit=8192")
 accepted("a loop in a loop", behavior("for (uint16 x = 0; x < 256; x = x + 1) for (uint16 y = 0; y < 14; y = y + 1) ;"), 1, 0, 1, 3)
 refused("a longer loop in a loop", behavior("for (uint16 x = 0; x < 256; x = x + 1) for (uint16 y = 0; y < 15; y = y + 1) ;"), "22 TooMany what=statements count=4097 limit=4096")
+refused("six loops in each other", behavior("".join(f"for (uint16 x{k} = 0; x{k} < 256; x{k} = x{k} + 1) " for k in range(6)) + ";"), "22 TooMany what=statements count=282578800148737 limit=4096")
+refused("an activation of 71 levels", doubling(70), "22 TooMany what=occurrences count=18446744073709551615 limit=4096")
 
 # ---------------------------------------------------------------- 23: texts that can't be read
 
