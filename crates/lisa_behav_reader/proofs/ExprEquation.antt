@@ -5,7 +5,7 @@ use Rattle.std.proofs.lemmas.List.{length-append, length-drop}
 use Rattle.lisa_tree.specs.declared.tokens.Keyword.TheVariants as keywords
 use Rattle.lisa_tree.specs.declared.tokens.Sign.TheVariants as signs
 use Rattle.lisa_tree.specs.declared.tokens.TokenPart.TheVariants as parts
-use Rattle.lisa_tree.specs.declared.expressions.Operator.{Operator}
+use Rattle.operators.specs.declared.binary.Operator.{Operator}
 use Rattle.lisa_tree.specs.Operators.{sign_of}
 use Rattle.lisa_tree.specs.Expressions as expressions
 use Rattle.lisa_tree.specs.Expressions.{ExprTree, expr_depth}

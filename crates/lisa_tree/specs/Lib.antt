@@ -3,7 +3,6 @@ pub mod Statements
 pub mod Activations
 pub mod Descriptions
 pub mod Operators
-pub mod Levels
 pub mod Grammar
 pub mod DescriptionGrammar
 pub mod Spellings

@@ -2,43 +2,7 @@
 
 use crate::tokens::{Base, Shape};
 use lisa_words::Name;
-
-/// An operator with two operands. The Verilog subset has the same ones.
-#[derive(Clone, Copy, Debug, PartialEq, Eq)]
-pub enum Operator {
-    /// `|`
-    Or,
-    /// `^`
-    Xor,
-    /// `&`
-    And,
-    /// `&&`
-    BothTrue,
-    /// `||`
-    OneTrue,
-    /// `==`
-    Equal,
-    /// `!=`
-    Unequal,
-    /// `<`
-    Less,
-    /// `<=`
-    LessEqual,
-    /// `>`
-    Greater,
-    /// `>=`
-    GreaterEqual,
-    /// `<<`
-    Left,
-    /// `>>`
-    Right,
-    /// `+`
-    Add,
-    /// `-`
-    Sub,
-    /// `*`
-    Mul,
-}
+use operators::Operator;
 
 /// A field of the boundary between two stages: `PIPELINE_REGISTER(pipe, before/after).field`.
 #[derive(Debug, Drop)]

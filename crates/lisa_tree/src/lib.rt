@@ -14,7 +14,8 @@ pub use descriptions::{
     Act, CodingItem, CodingPart, Declare, Description, Format, MemoryWord, Operation, Pattern,
     RegisterWord, Resource, Section, SyntaxItem, SyntaxPart,
 };
-pub use expressions::{BoundaryField, Expr, Operator};
+pub use expressions::{BoundaryField, Expr};
 pub use faults::DescFault;
+pub use operators::Operator;
 pub use statements::{ForHead, Stmt};
 pub use tokens::{Base, Keyword, Shape, Sign, Token, TokenPart};

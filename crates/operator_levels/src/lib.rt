@@ -6,4 +6,4 @@ mod laws;
 mod operands;
 
 pub use laws::grouped_by_levels;
-pub use operands::{JoinFault, Joined, Operands, level};
+pub use operands::{JoinFault, Joined, Operands};

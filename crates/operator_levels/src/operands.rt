@@ -1,34 +1,14 @@
 //! Operands that wait for what stands behind their operator.
 
 ghost use Rattle.std.specs.Prelude.{◌≡◌, ◌<◌, ◌≤◌, ◌^◌, ℕ, suc, max, [], IfOk};
-ghost use Rattle.lisa_tree.specs.declared.expressions.Operator.{Operator};
+ghost use Rattle.operators.specs.declared.binary.Operator.{Operator};
 ghost use Rattle.operator_levels.specs.declared.operands.JoinFault.TheVariants.{NoMemory as NoRoom};
-ghost use Rattle.lisa_tree.specs.Operators.{level_of};
+ghost use Rattle.operators.specs.Operators.{level_of};
 ghost use Rattle.operator_levels.specs.Stacks.{stack_of, stack_in, joined_before, pushed, finished, JoinGives};
 
-use lisa_tree::Operator;
 use lisa_words::NoMemory;
+use operators::{Operator, level};
 use std::alloc::{AllocError, AllocFailed, Global};
-
-/// The level of an operator, from 1, the loosest, to 10, the tightest.
-pub fn level(operator: Operator) -> u8
-    ensures value { result ≡ level_of operator }
-    ensures some { 1 ≤ result }
-    ensures few { result ≤ 10 }
-{
-    match operator {
-        Operator::OneTrue => 1,
-        Operator::BothTrue => 2,
-        Operator::Or => 3,
-        Operator::Xor => 4,
-        Operator::And => 5,
-        Operator::Equal | Operator::Unequal => 6,
-        Operator::Less | Operator::LessEqual | Operator::Greater | Operator::GreaterEqual => 7,
-        Operator::Left | Operator::Right => 8,
-        Operator::Add | Operator::Sub => 9,
-        Operator::Mul => 10,
-    }
-}
 
 /// A tree that two trees and an operator make.
 pub trait Joined: Drop {

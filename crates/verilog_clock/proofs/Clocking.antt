@@ -1,5 +1,5 @@
 -- The states of a clock.
-use Rattle.std.proofs.Common.{◌≡◌, ◌≢◌, ℕ, suc, ◌+◌, ◌<◌, List, [], ◌∷◌, ◌++◌, length, map, take, drop, refl, sym, ap, ap₂, ◌∙◌, subst, arith, length-append}
+use Rattle.std.proofs.Common.{◌≡◌, ◌≢◌, ℕ, suc, ◌+◌, ◌<◌, List, [], ◌∷◌, ◌++◌, length, map, take, drop, refl, sym, ap, ap₂, ◌∙◌, subst, arith, fold, length-append}
 use Rattle.std.specs.Prelude.{AllPairs, All}
 use Rattle.std.specs.Global.{Vec}
 use Rattle.std.specs.Vec.{vec_len}
@@ -8,7 +8,7 @@ use Rattle.std.proofs.Math.Seq.{take-append_seam}
 use Rattle.std.proofs.lemmas.List.Sums.{fold-append}
 use Rattle.lisa_engine.specs.State.{State}
 use Rattle.lisa_engine.specs.Memory.{Memory}
-use Rattle.lisa_engine.specs.Shape.{IsShaped, IsFitting, AreCells, HaveDistinctNames}
+use Rattle.lisa_engine.specs.Shape.{IsShaped, IsFitting, AreCells, IsWidth, HaveWidths, HaveDistinctNames}
 use Rattle.lisa_engine.specs.Touches.{TakesBack, put_back}
 use Rattle.lisa_engine.specs.declared.parts.Item.{Item}
 use Rattle.lisa_engine.specs.declared.parts.ArrayItem.{ArrayItem}
@@ -54,6 +54,38 @@ pub first_shaped : (m : ModuleTree) (image : List Memory) (state : State) → st
 first_shaped m image state is cells =
     subst (IsShaped (regs m.members) (arrays m.members)) (sym is) (record { values = first_items_fit m; cells = cells })
 
+-- the shape of every state that the module's definition gives
+states_from : (m : ModuleTree) (state : State) (l : List (List ℕ)) → IsShaped (regs m.members) (arrays m.members) state → IsShaped (regs m.members) (arrays m.members) (fold (v_edge m) state l)
+states_from m state [] shape = shape
+states_from m state (pins ∷ l) shape = states_from m (v_edge m state pins) l (edge_shape m state pins shape)
+
+pub states_shaped : (m : ModuleTree) (image : List Memory) (items : List Item) (all : List ArrayItem) → items ≡ regs m.members → all ≡ arrays m.members
+    → AreCells (arrays m.members) (v_first m image).cells → (l : List (List ℕ)) → IsShaped items all (v_state m image l)
+states_shaped m image items all is_items is_all cells l =
+    subst (λ (xs : List Item). IsShaped xs all (v_state m image l)) (sym is_items)
+    (subst (λ (xs : List ArrayItem). IsShaped (regs m.members) xs (v_state m image l)) (sym is_all)
+    (states_from m (v_first m image) l (record { values = first_items_fit m; cells = cells })))
+
+front_all : (P : Item → Type 0) (xs ys : List Item) → All P (xs ++ ys) → All P xs
+front_all P xs ys all k d within = subst P (get_or_append_left xs ys d k within) (all k d (omega (arith, length-append xs ys)))
+
+back_all : (P : Item → Type 0) (xs ys : List Item) → All P (xs ++ ys) → All P ys
+back_all P xs ys all k d within =
+    let far : length xs + k < length (xs ++ ys) = omega (arith, length-append xs ys) in
+    subst P (get_or-append-add xs ys k d) (all (length xs + k) d far)
+
+pub widths_are : (m : ModuleTree) (items : List Item) (all : List ArrayItem) → IsClockable m → items ≡ regs m.members → all ≡ arrays m.members → HaveWidths items all m.inputs
+widths_are m items all clockable is_items is_all =
+    let wires = map (λ (n : modules.Net). n.item) (nets m.members) in
+    let scalar : All (λ (item : Item). IsWidth item.width) (scalars m) = λ k d within. (clockable.some_scalars k d within, clockable.narrow_scalars k d within) in
+    let array : All (λ (a : ArrayItem). IsWidth a.width) (arrays m.members) = λ k d within. (clockable.some_arrays k d within, clockable.narrow_arrays k d within) in
+    record {
+      of_items = subst (λ (xs : List Item). All (λ (item : Item). IsWidth item.width) xs) (sym is_items)
+          (front_all (λ (item : Item). IsWidth item.width) (regs m.members) (m.inputs ++ wires) scalar);
+      of_arrays = subst (λ (xs : List ArrayItem). All (λ (a : ArrayItem). IsWidth a.width) xs) (sym is_all) array;
+      of_pins = front_all (λ (item : Item). IsWidth item.width) m.inputs wires (back_all (λ (item : Item). IsWidth item.width) (regs m.members) (m.inputs ++ wires) scalar);
+    }
+
 -- one more edge
 pub edge_leads : (m : ModuleTree) (image : List Memory) (old new : State) (pins : List ℕ) (l : List (List ℕ)) → new ≡ v_edge m old pins → old ≡ v_state m image l → new ≡ v_state m image (l ++ (pins ∷ []))
 edge_leads m image old new pins l step at = step ∙ ap (λ (s : State). v_edge m s pins) at ∙ sym (fold-append (v_edge m) (v_first m image) l (pins ∷ []))
@@ -78,12 +110,13 @@ edge_kept m values cells new_values new_cells pins shape step =
     (λ i. state_of (is_values i) (rows (is_cells i))) ∙ step
 
 -- an edge taken back
-module _ {pins items : List Item} {all : List ArrayItem} {defined : List (List ℕ) → State} {values given : List ℕ} {cells : List (List ℕ)} {touches : List Touch} {l : List (List ℕ)} {entry : List ℕ} where
-  pub back_to : TakesBack pins items all defined (state_of values cells) given touches l entry → (new_values : List ℕ) (new_cells : List (List ℕ)) → new_values ≡ given → new_cells ≡ put_back touches cells → state_of new_values new_cells ≡ defined l
+module _ {pins : List Item} {all : List ArrayItem} {defined : List (List ℕ) → State} {values given : List ℕ} {cells : List (List ℕ)} {touches : List Touch} {l : List (List ℕ)} {entry : List ℕ} where
+  pub back_to : TakesBack pins all defined (state_of values cells) given touches l entry → (new_values : List ℕ) (new_cells : List (List ℕ)) → new_values ≡ given → new_cells ≡ put_back touches cells → state_of new_values new_cells ≡ defined l
   back_to t new_values new_cells is_values is_cells = (λ i. state_of (is_values i) (is_cells i)) ∙ sym (taken_back t)
 
-  pub back_shaped : TakesBack pins items all defined (state_of values cells) given touches l entry → (new_values : List ℕ) (new_cells : List (List ℕ)) → new_values ≡ given → new_cells ≡ put_back touches cells → IsShaped items all (state_of new_values new_cells)
-  back_shaped t new_values new_cells is_values is_cells = subst (IsShaped items all) (sym (back_to t new_values new_cells is_values is_cells)) t.back.shape
+  pub back_shaped : TakesBack pins all defined (state_of values cells) given touches l entry → (new_values : List ℕ) (new_cells : List (List ℕ)) → new_values ≡ given → new_cells ≡ put_back touches cells
+      → {items : List Item} → ((entries : List (List ℕ)) → IsShaped items all (defined entries)) → IsShaped items all (state_of new_values new_cells)
+  back_shaped t new_values new_cells is_values is_cells {items = items} shapes = subst (IsShaped items all) (sym (back_to t new_values new_cells is_values is_cells)) (shapes l)
 
 -- an edge, through what is borrowed
 module _ (m : ModuleTree) (w w' : List Net) (a a' : List Act) (all' : List ArrayItem) (v v' : List ℕ) (c c' : List (Vec ℕ)) (pins : List ℕ) (runs : Runs m w a)

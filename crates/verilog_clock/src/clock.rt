@@ -2,7 +2,7 @@
 ghost use Rattle.std.specs.Prelude.{◌≡◌, ◌≤◌, ◌+◌, Err, Some, None, ℕ, List, [], IfOk, OnOk, length, map};
 ghost use Rattle.std.specs.Vec.{vec_len, vec_capacity};
 ghost use Rattle.lisa_engine.specs.Images.{IsImage, missing_memory};
-ghost use Rattle.lisa_engine.specs.Shape.{IsShaped, HaveDistinctNames};
+ghost use Rattle.lisa_engine.specs.Shape.{IsShaped, HaveWidths, HaveDistinctNames};
 ghost use Rattle.verilog_text.specs.Trees.{module_tree};
 ghost use Rattle.verilog_text.specs.Clocked.{regs, arrays as all_arrays, v_first, v_state};
 ghost use Rattle.verilog_text.specs.Clockable.{IsClockable};
@@ -39,10 +39,12 @@ pub struct Clock<'a> {
     ghost item_regs: { items.items ≡ regs (module_tree module.now).members },
     ghost array_regs: { arrays.items ≡ all_arrays (module_tree module.now).members },
     ghost named: { HaveDistinctNames items.items arrays.items module.now.inputs.items },
+    ghost sizes: { HaveWidths items.items arrays.items module.now.inputs.items },
     ghost few: { length arrays.items ≤ 1024 },
     ghost runs: { Runs (module_tree module.now) nets.items acts.items },
     ghost begins: { state_of firsts.items (rows first_rows.items) ≡ v_first (module_tree module.now) image.now },
     ghost first_shape: { IsShaped (regs (module_tree module.now).members) (all_arrays (module_tree module.now).members) (state_of firsts.items (rows first_rows.items)) },
+    ghost shapes: { (l : List (List ℕ)) → IsShaped items.items arrays.items (v_state (module_tree module.now) image.now l) },
     ghost shape: { IsShaped (regs (module_tree module.now).members) (all_arrays (module_tree module.now).members) (state_of values.items (rows cells.items)) },
     ghost settled_room: { vec_len items + vec_len module.now.inputs + vec_len nets ≤ vec_capacity room.settled },
     ghost updates_room: { acts_most acts.items ≤ vec_capacity room.updates },
@@ -148,6 +150,10 @@ impl<'a> Engine for Clock<'a> {
     }
 
     ghost shaped = { λ c. shaped_as c.item_regs c.array_regs c.shape };
+
+    ghost defined_shaped = { λ c l _. c.shapes l };
+
+    ghost sized = { λ c. c.sizes };
 
     ghost named = { λ c. c.named };
 }

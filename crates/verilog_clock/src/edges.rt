@@ -4,7 +4,7 @@ ghost use Rattle.std.specs.Vec.{vec_len, vec_capacity};
 ghost use Rattle.verilog_clock.specs.Compiled.{rows, code_value, nets_values, act_updates, acts_updates, act_most, acts_most};
 
 use crate::code::{Act, Code, Net, Update};
-use crate::operators::{complement, is_true, negate, operate};
+use crate::operations::{complement, is_true, negate, operate};
 
 // The value at a place, or 0.
 fn at(values: &[u64], place: usize) -> u64

@@ -12,7 +12,7 @@ mod edges;
 mod firsts;
 mod lengths;
 mod names;
-mod operators;
+mod operations;
 mod rooms;
 mod scope;
 mod steps;

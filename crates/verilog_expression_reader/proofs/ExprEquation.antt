@@ -2,7 +2,7 @@
 use Rattle.std.proofs.Common.{◌≡◌, ℕ, zero, suc, ◌+◌, ◌-◌, ◌*◌, ◌<◌, ◌≤◌, cond, ltb, List, [], ◌∷◌, length, drop, Option, Some, None, refl, ap, ◌∙◌, arith}
 use Rattle.std.proofs.lemmas.Bool.{lt-ltb}
 use Rattle.std.proofs.lemmas.List.{length-append, length-drop}
-use Rattle.lisa_tree.specs.declared.expressions.Operator.{Operator}
+use Rattle.operators.specs.declared.binary.Operator.{Operator}
 use Rattle.operator_levels.specs.Stacks.{Stack}
 use Rattle.text_scan.specs.Fix.{guarded}
 use Rattle.text_scan.specs.Steps.{◌>>=◌}

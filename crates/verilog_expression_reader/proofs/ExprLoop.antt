@@ -1,6 +1,6 @@
 -- What the loop over operands keeps.
 use Rattle.std.proofs.Common.{◌≡◌, ℕ, drop, Option, Some, None, refl, sym, ap, ◌∙◌}
-use Rattle.lisa_tree.specs.declared.expressions.Operator.{Operator}
+use Rattle.operators.specs.declared.binary.Operator.{Operator}
 use Rattle.verilog_places.specs.Trees.{PlacedTree}
 use Rattle.verilog_places.specs.Spelling.{PlacedToks}
 use Rattle.operator_levels.specs.Stacks.{Stack}

@@ -2,9 +2,9 @@
 use Rattle.std.proofs.Common.{◌≡◌, ℕ, zero, suc, ◌-◌, ◌<◌, ◌≤◌, ltb, List, [], ◌∷◌, ◌++◌, length, drop, Option, Some, None, refl, sym, ap, subst, ◌∙◌, append_assoc, arith}
 use Rattle.std.proofs.lemmas.Bool.{ltb-true}
 use Rattle.std.proofs.lemmas.List.{append-nil, length-append}
-use Rattle.lisa_tree.specs.declared.expressions.Operator.{Operator}
-use Rattle.lisa_tree.specs.declared.expressions.Operator.TheVariants as operators
-use Rattle.lisa_tree.specs.Operators.{level_of}
+use Rattle.operators.specs.declared.binary.Operator.{Operator}
+use Rattle.operators.specs.declared.binary.Operator.TheVariants as operators
+use Rattle.operators.specs.Operators.{level_of}
 use Rattle.operator_levels.specs.Stacks.{Stack}
 use Rattle.operator_levels.proofs.StackLaws.{level_range, finished_depth}
 use Rattle.text_scan.specs.Fix.{guarded, within, fix}

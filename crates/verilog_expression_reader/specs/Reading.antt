@@ -1,7 +1,7 @@
 -- Reading an expression with its places from left to right.
 use Rattle.std.specs.Prelude.{ℕ, zero, suc, ◌+◌, ◌-◌, ◌*◌, List, [], ◌∷◌, length, drop, Option, Some, None, nat_lt, if◌then◌else◌}
-use Rattle.lisa_tree.specs.declared.expressions.Operator.{Operator}
-use Rattle.lisa_tree.specs.declared.expressions.Operator.TheVariants as operators
+use Rattle.operators.specs.declared.binary.Operator.{Operator}
+use Rattle.operators.specs.declared.binary.Operator.TheVariants as operators
 use Rattle.operator_levels.specs.Stacks.{Stack, pushed, finished}
 use Rattle.text_scan.specs.Fix.{fix}
 use Rattle.text_scan.specs.Steps.{◌>>=◌}

@@ -7,9 +7,9 @@ ghost use Rattle.verilog_expression_reader.specs.Reading.{all_then, depth as dep
 ghost use Rattle.verilog_expression_reader.specs.declared.misses.Missed.TheVariants.{NoMemory as NoRoom};
 
 use crate::misses::Missed;
-use lisa_tree::Operator;
 use lisa_words::NoMemory;
 use operator_levels::Joined;
+use operators::Operator;
 use std::alloc::Global;
 use verilog_places::PlacedExpr;
 

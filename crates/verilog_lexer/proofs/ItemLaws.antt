@@ -23,7 +23,7 @@ pub record Takes (bytes : List ℕ) (n : ℕ) (tok : VTok) : Type 0 where
   pub begins : Begins bytes text rest tok
   pub len : length text ≡ n
   pub accepted : is_accepted text tok rest ≡ true
-  pub free : is_glued tok rest ≡ false
+  pub free : is_glued text tok rest ≡ false
 
 -- a gap of n bytes stands at the front
 pub record Skips (bytes : List ℕ) (n : ℕ) : Type 0 where
@@ -40,17 +40,17 @@ ItemIs at bytes (Ok (Take n tok)) = Takes bytes n tok
 ItemIs at bytes (Err place) = Stuck at bytes place
 
 verdict_is : (at : ℕ) (bytes text rest : List ℕ) (tok : VTok) → Begins bytes text rest tok → ItemIs at bytes (verdict at (length text) text tok rest)
-verdict_is at bytes text rest tok h = go (is_accepted text tok rest) (is_glued tok rest) refl refl
+verdict_is at bytes text rest tok h = go (is_accepted text tok rest) (is_glued text tok rest) refl refl
   where
-    go : (a g : Bool) → is_accepted text tok rest ≡ a → is_glued tok rest ≡ g → ItemIs at bytes (cond a (cond g (Err (at + length text)) (Ok (Take (length text) tok))) (Err at))
+    go : (a g : Bool) → is_accepted text tok rest ≡ a → is_glued text tok rest ≡ g → ItemIs at bytes (cond a (cond g (Err (at + length text)) (Ok (Take (length text) tok))) (Err at))
     go true true e f = glued h e f
     go true false e f = record { text = text; rest = rest; begins = h; len = refl; accepted = e; free = f }
     go false g e f = refused h e
 
-pub verdict_good : (at n : ℕ) (text rest : List ℕ) (tok : VTok) → is_accepted text tok rest ≡ true → is_glued tok rest ≡ false → verdict at n text tok rest ≡ Ok (Take n tok)
+pub verdict_good : (at n : ℕ) (text rest : List ℕ) (tok : VTok) → is_accepted text tok rest ≡ true → is_glued text tok rest ≡ false → verdict at n text tok rest ≡ Ok (Take n tok)
 verdict_good at n text rest tok a g = rw (a, g) refl
 
-verdict_glued : (at n : ℕ) (text rest : List ℕ) (tok : VTok) → is_accepted text tok rest ≡ true → is_glued tok rest ≡ true → verdict at n text tok rest ≡ Err (at + n)
+verdict_glued : (at n : ℕ) (text rest : List ℕ) (tok : VTok) → is_accepted text tok rest ≡ true → is_glued text tok rest ≡ true → verdict at n text tok rest ≡ Err (at + n)
 verdict_glued at n text rest tok a g = rw (a, g) refl
 
 verdict_refused : (at n : ℕ) (text rest : List ℕ) (tok : VTok) → is_accepted text tok rest ≡ false → verdict at n text tok rest ≡ Err at

@@ -55,7 +55,7 @@ after_gap : (at : ℕ) (bytes text rest : List ℕ) (r : Answer) → bytes ≡ t
 after_gap at bytes text rest (Ok ts) e g h = gap e g h
 after_gap at bytes text rest (Err place) e g h = behind_gap e g h
 
-after_token : (at : ℕ) (bytes text rest : List ℕ) (tok : VTok) (r : Answer) → Begins bytes text rest tok → is_accepted text tok rest ≡ true → is_glued tok rest ≡ false
+after_token : (at : ℕ) (bytes text rest : List ℕ) (tok : VTok) (r : Answer) → Begins bytes text rest tok → is_accepted text tok rest ≡ true → is_glued text tok rest ≡ false
     → LexIs (at + length text) rest r → LexIs at bytes (r >>= λ ts. Ok ((at, tok) ∷ ts))
 after_token at bytes text rest tok (Ok ts) b a free h = token b a free h
 after_token at bytes text rest tok (Err place) b a free h = behind_token b a free h
@@ -91,7 +91,7 @@ lex_gap at bytes text rest g e =
     ∙ ap (λ (r : Front). r >>= on_item lex at (text ++ rest)) (item_gap at g)
     ∙ ap (λ (l : List ℕ). lex (at + length text, l)) (drop_at text rest (length text) refl)
 
-lex_token : (at : ℕ) (bytes text rest : List ℕ) (tok : VTok) → Begins bytes text rest tok → is_accepted text tok rest ≡ true → is_glued tok rest ≡ false
+lex_token : (at : ℕ) (bytes text rest : List ℕ) (tok : VTok) → Begins bytes text rest tok → is_accepted text tok rest ≡ true → is_glued text tok rest ≡ false
     → lex (at, bytes) ≡ (lex (at + length text, rest) >>= λ ts. Ok ((at, tok) ∷ ts))
 lex_token at bytes text rest tok b a free =
     lex_at at bytes (omega (arith, kind_some (kind_of b.is), length-append text rest, ap length b.parts))

@@ -1,5 +1,5 @@
 -- Reading tokens from left to right, as functions on lists.
-use Rattle.std.specs.Prelude.{ℕ, ◌+◌, ◌*◌, ◌^◌, ◌<◌, Bool, false, List, [], ◌∷◌, length, take, drop, codes, Option, Some, None, Result, Ok, Err, nat_lt, nat_le, ◌==◌, ◌&&◌, not, if◌then◌else◌}
+use Rattle.std.specs.Prelude.{ℕ, ◌+◌, ◌*◌, ◌^◌, ◌<◌, Bool, false, List, [], ◌∷◌, length, take, drop, codes, Option, Some, None, Result, Ok, Err, nat_lt, nat_le, ◌==◌, ◌&&◌, ◌||◌, not, if◌then◌else◌}
 use Rattle.std.specs.List.{prefix_len}
 use Rattle.std.specs.Str.{bytes_eq}
 use Rattle.text_scan.specs.declared.gaps.Gap.{Gap}
@@ -112,11 +112,19 @@ Front = Result Item ℕ
 
 -- the token of this text, where the rest follows
 abbrev pub verdict : ℕ → ℕ → List ℕ → VTok → List ℕ → Front
-verdict at n text tok rest = if is_accepted text tok rest then (if is_glued tok rest then Err (at + n) else Ok (Take n tok)) else Err at
+verdict at n text tok rest = if is_accepted text tok rest then (if is_glued text tok rest then Err (at + n) else Ok (Take n tok)) else Err at
 
 -- a token that no name may follow directly
 abbrev pub loose : ℕ → ℕ → VTok → List ℕ → Front
 loose at n tok rest = if front_is is_name_byte rest then Err (at + n) else Ok (Take n tok)
+
+-- what no number of a base may be followed by directly
+abbrev pub goes_on : ℕ → List ℕ → Bool
+goes_on base rest = front_is is_name_byte rest || (front_is (λ b. b == 63) rest && not (base == 10))
+
+-- a number with its size, by its base
+abbrev pub sized_verdict : ℕ → ℕ → ℕ → VTok → List ℕ → Front
+sized_verdict at n base tok rest = if is_accepted [] tok rest then (if goes_on base rest then Err (at + n) else Ok (Take n tok)) else Err at
 
 -- a width and a value that fits it
 abbrev pub fitting : ℕ → ℕ → Option (ℕ × ℕ)
@@ -125,7 +133,7 @@ fitting width value = if nat_le width 64 && nat_lt value (2 ^ width) then Some (
 -- a number with its size, by what stands behind the letter of its base
 abbrev pub based_verdict : ℕ → List ℕ → ℕ → List ℕ → Front
 based_verdict at zs base body =
-    verdict at (length zs + (2 + length (take (1 + prefix_len (is_more_digit base) (drop 1 body)) body))) []
+    sized_verdict at (length zs + (2 + length (take (1 + prefix_len (is_more_digit base) (drop 1 body)) body))) base
     (Sized (digits_number 10 zs) (digits_number base (take (1 + prefix_len (is_more_digit base) (drop 1 body)) body))) (drop (1 + prefix_len (is_more_digit base) (drop 1 body)) body)
 
 abbrev pub judged : ℕ → List ℕ → Found → Front

@@ -5,7 +5,7 @@ ghost use Rattle.text_scan.specs.Bytes.{front_is, is_digit, is_blank, is_letter}
 ghost use Rattle.text_scan.specs.Gaps.{gap_at};
 ghost use Rattle.verilog_text.specs.Tokens.{vtok_of_part, Sized, Plain};
 ghost use Rattle.verilog_text.specs.Lexing.{is_name_byte, is_graphic, is_more_digit, digits_number};
-ghost use Rattle.verilog_lexer.specs.Reading.{word_at, escaped_at, sized_at, sign_at, longest_at, judged, verdict, past_gap, item_at, loose, fitting, based_verdict, base_behind};
+ghost use Rattle.verilog_lexer.specs.Reading.{word_at, escaped_at, sized_at, sign_at, longest_at, judged, verdict, past_gap, item_at, loose, goes_on, sized_verdict, fitting, based_verdict, base_behind};
 ghost use Rattle.verilog_lexer.specs.Answers.{result_word};
 ghost use Rattle.verilog_lexer.specs.Answers.{Gives, item_of};
 
@@ -73,6 +73,15 @@ fn starts_blank(bytes: &[u8]) -> bool
     match bytes {
         [] => false,
         [first, ..] => is_blank(*first),
+    }
+}
+
+fn starts_question(bytes: &[u8]) -> bool
+    ensures { result ≡ front_is (λ b. b == 63) bytes.now }
+{
+    match bytes {
+        [] => false,
+        [first, ..] => *first == b'?',
     }
 }
 
@@ -176,22 +185,30 @@ fn word_of(size: &[u8], base: u8, digits: &[u8]) -> Option<Word>
     }
 }
 
+// Whether a number of a base may not stand directly before this: a name goes on, or one more digit of unknown bits.
+fn goes_on(base: u8, rest: &[u8]) -> bool
+    ensures { result ≡ goes_on base rest.now }
+{
+    starts_name(rest) || (starts_question(rest) && base != 10)
+}
+
 // A number with its size and its base, by its digits and what stands behind them.
 fn sized(size: &[u8], base: u8, digits: &[u8], rest: &[u8], at: u32) -> Result<Found, VerilogFault>
     requires least { 1 ≤ digits_number 10 size.now }
     requires some { 1 ≤ base }
     requires few { at + (length size.now + (2 + length digits.now)) < 2 ^ 32 }
-    ensures { Gives item_of result (verdict at (length size.now + (2 + length digits.now)) [] (Sized (digits_number 10 size.now) (digits_number base digits.now)) rest.now) }
+    ensures { Gives item_of result (sized_verdict at (length size.now + (2 + length digits.now)) base (Sized (digits_number 10 size.now) (digits_number base digits.now)) rest.now) }
 {
     let Some(word) = word_of(size, base, digits) else {
         return Err(VerilogFault::BadByte { at });
     };
-    unless_glued(
-        at,
-        size.len() + (2 + digits.len()),
-        VTokenPart::Sized(word),
-        rest,
-    )
+    let len = size.len() + (2 + digits.len());
+    if goes_on(base, rest) {
+        return Err(VerilogFault::BadByte {
+            at: at + len as u32,
+        });
+    }
+    Ok(Found::Take(len, VTokenPart::Sized(word)))
 }
 
 // A size and the letter of a base, by what stands behind them.

@@ -16,7 +16,7 @@ use Rattle.verilog_text.specs.WidePlaces.{wide_inputs, wide_members}
 use Rattle.verilog_text.specs.Faults.{HoldsAll, Holds4, VAccepts}
 use Rattle.verilog_text.specs.Clockable.{IsNarrowMember, IsClockable}
 use Rattle.verilog_rules.proofs.Apart.{Has, AreApart, has_either, apart_append, apart_front, apart_back, apart_both, apart_pairs, apart_behind, first_here, first_behind}
-use Rattle.verilog_rules.proofs.Narrow.{Each, each_append, each_all, both_none, narrow_inputs, narrow_members, small_regs, small_arrays, small_nets, small_members, IsSmall}
+use Rattle.verilog_rules.proofs.Narrow.{Each, each_append, each_all, both_none, narrow_inputs, narrow_members, small_regs, small_arrays, small_nets, small_members, IsSmall, IsSome, some_inputs, some_members, some_regs, some_stores, some_nets}
 
 -- what the members declare, by kinds
 abbrev names_in : List MemberTree → List (List ℕ)
@@ -146,6 +146,7 @@ clockable {m = m} s holds =
     let none = both_none (wide_inputs s.spells_inputs at) (wide_members w s.spells_members behind) holds.0.0.1 in
     let pins = narrow_inputs s.spells_inputs at none.0 in
     let small : Each (IsSmall w) m.members = narrow_members w s.spells_members behind none.1 in
+    let some : Each IsSome m.members = some_members s.spells_members in
     let wires = map (λ (net : modules.Net). net.item) (nets m.members) in
     record {
       distinct_scalars = apart_pairs (λ (item : Item). item.name) (scalars m) (scalars_apart m names);
@@ -154,6 +155,10 @@ clockable {m = m} s holds =
           (each_append (λ (item : Item). item.width ≤ 64) (regs m.members) (m.inputs ++ wires) (small_regs w m.members small)
           (each_append (λ (item : Item). item.width ≤ 64) m.inputs wires pins (small_nets w m.members small)));
       narrow_arrays = each_all (λ (array : ArrayItem). array.width ≤ 64) (arrays m.members) (small_arrays w m.members small);
+      some_scalars = each_all (λ (item : Item). 1 ≤ item.width) (scalars m)
+          (each_append (λ (item : Item). 1 ≤ item.width) (regs m.members) (m.inputs ++ wires) (some_regs m.members some)
+          (each_append (λ (item : Item). 1 ≤ item.width) m.inputs wires (some_inputs s.spells_inputs) (some_nets m.members some)));
+      some_arrays = each_all (λ (array : ArrayItem). 1 ≤ array.width) (arrays m.members) (some_stores m.members some);
       few_arrays = few m holds.1;
       narrow = each_all (IsNarrowMember w) m.members (small_members w m.members small);
     }

@@ -189,6 +189,60 @@ small_members w (trees.Wire item e ∷ rest) each = (each.0.1, small_members w r
 small_members w (trees.Initial settings ∷ rest) each = (tt, small_members w rest each.1)
 small_members w (trees.Always edge actions ∷ rest) each = (each.0, small_members w rest each.1)
 
+-- ---- no width is 0
+
+some_range : {ts : VToks} {width : ℕ} → SpellsRange ts width → 1 ≤ width
+some_range grammar.absent = omega arith
+some_range (grammar.present {high = high}) = omega arith
+
+pub some_inputs : {ts : VToks} {all : List Item} → SpellsInputs ts all → Each (λ (item : Item). 1 ≤ item.width) all
+some_inputs grammar.none = tt
+some_inputs (grammar.some optional d ds is) = (some_range d, some_inputs ds)
+
+-- a declaration has a bit at least
+abbrev pub IsSome : MemberTree → Type 0
+IsSome (trees.Reg item) = 1 ≤ item.width
+IsSome (trees.Array array) = 1 ≤ array.width
+IsSome (trees.Wire item e) = 1 ≤ item.width
+IsSome (trees.Always edge actions) = Unit {0}
+IsSome (trees.Initial all) = Unit {0}
+
+some_member : {ts : VToks} {member : MemberTree} → SpellsMember ts member → IsSome member
+some_member (grammar.reg d is) = some_range d
+some_member (grammar.array last digits d depth is) = some_range d
+some_member (grammar.wire d e is) = some_range d
+some_member grammar.first = tt
+some_member (grammar.initial is) = tt
+some_member (grammar.always d is) = tt
+
+pub some_members : {ts : VToks} {all : List MemberTree} → SpellsMembers ts all → Each IsSome all
+some_members grammar.none = tt
+some_members (grammar.some d ds is) = (some_member d, some_members ds)
+
+pub some_regs : (all : List MemberTree) → Each IsSome all → Each (λ (item : Item). 1 ≤ item.width) (regs all)
+some_regs [] each = tt
+some_regs (trees.Reg item ∷ rest) each = (each.0, some_regs rest each.1)
+some_regs (trees.Array array ∷ rest) each = some_regs rest each.1
+some_regs (trees.Wire item e ∷ rest) each = some_regs rest each.1
+some_regs (trees.Initial settings ∷ rest) each = some_regs rest each.1
+some_regs (trees.Always edge actions ∷ rest) each = some_regs rest each.1
+
+pub some_stores : (all : List MemberTree) → Each IsSome all → Each (λ (array : ArrayItem). 1 ≤ array.width) (arrays all)
+some_stores [] each = tt
+some_stores (trees.Reg item ∷ rest) each = some_stores rest each.1
+some_stores (trees.Array array ∷ rest) each = (each.0, some_stores rest each.1)
+some_stores (trees.Wire item e ∷ rest) each = some_stores rest each.1
+some_stores (trees.Initial settings ∷ rest) each = some_stores rest each.1
+some_stores (trees.Always edge actions ∷ rest) each = some_stores rest each.1
+
+pub some_nets : (all : List MemberTree) → Each IsSome all → Each (λ (item : Item). 1 ≤ item.width) (map (λ (net : modules.Net). net.item) (nets all))
+some_nets [] each = tt
+some_nets (trees.Reg item ∷ rest) each = some_nets rest each.1
+some_nets (trees.Array array ∷ rest) each = some_nets rest each.1
+some_nets (trees.Wire item e ∷ rest) each = (each.0, some_nets rest each.1)
+some_nets (trees.Initial settings ∷ rest) each = some_nets rest each.1
+some_nets (trees.Always edge actions ∷ rest) each = some_nets rest each.1
+
 pub each_append : {X : Type 0} (P : X → Type 0) (xs ys : List X) → Each P xs → Each P ys → Each P (xs ++ ys)
 each_append P [] ys one other = other
 each_append P (x ∷ xs) ys one other = (one.0, each_append P xs ys one.1 other)

@@ -295,10 +295,10 @@ accepted (Sized width value) rest g s h = and_from (leb width 64) (ltb value (2 
 accepted (Plain value digits) rest g s h = and_from (ltb value (2 ^ 31)) (not (front_is (λ b. eqb b 39) (g ∷ rest))) (lt-ltb value (2 ^ 31) h.0) (by_space (λ (k : ℕ). not (eqb k 39) ≡ true) g s refl refl)
 accepted (Mark sign) rest g s h = refl
 
-loose : (tok : VTok) (rest : List ℕ) (g : ℕ) → IsSpace g → is_glued tok (g ∷ rest) ≡ false
+loose : (tok : VTok) (rest : List ℕ) (g : ℕ) → IsSpace g → is_glued (token_text tok) tok (g ∷ rest) ≡ false
 loose (Named name) rest g s = refl
 loose (Reserved k) rest g s = refl
-loose (Sized width value) rest g s = by_space (λ (k : ℕ). is_name_byte k ≡ false) g s refl refl
+loose (Sized width value) rest g s = by_space (λ (k : ℕ). is_glued (token_text (Sized width value)) (Sized width value) (k ∷ rest) ≡ false) g s refl refl
 loose (Plain value digits) rest g s = by_space (λ (k : ℕ). is_name_byte k ≡ false) g s refl refl
 loose (Mark sign) rest g s = refl
 

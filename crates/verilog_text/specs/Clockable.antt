@@ -1,5 +1,6 @@
 -- What a module must be so that it can be clocked with words of 64 bits. It follows from the rules on a module's names, lengths
--- and counts: no two declarations share a name, no expression is longer than 64 bits, and there are at most 1,024 arrays.
+-- and counts: no two declarations share a name, each has from 1 to 64 bits, no expression is longer than 64 bits, and there are at
+-- most 1,024 arrays.
 use Rattle.std.specs.Prelude.{suc, ◌-◌, ◌*◌, ◌≤◌, ◌≢◌, length, All, AllPairs}
 use Rattle.verilog_text.specs.Trees.{VTree, Number, Named, Bits, Cell, One, Two, Choose, Join, Repeat, VTrees, End, Then, ActionTrees, Done, Set, Put, If, MemberTree, Wire, Always, ModuleTree}
 use Rattle.verilog_text.specs.Values.{Widths, v_width, parts_width}
@@ -39,5 +40,7 @@ pub record IsClockable (m : ModuleTree) : Type 0 where
   pub distinct_arrays : AllPairs (λ a b. a.name ≢ b.name) (arrays m.members)
   pub narrow_scalars : All (λ item. item.width ≤ 64) (scalars m)
   pub narrow_arrays : All (λ array. array.width ≤ 64) (arrays m.members)
+  pub some_scalars : All (λ item. 1 ≤ item.width) (scalars m)
+  pub some_arrays : All (λ array. 1 ≤ array.width) (arrays m.members)
   pub few_arrays : length (arrays m.members) ≤ 1024
   pub narrow : All (IsNarrowMember (widths_of m)) m.members

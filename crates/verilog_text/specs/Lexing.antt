@@ -96,17 +96,27 @@ is_accepted text (Sized width value) rest = nat_le width 64 && nat_lt value (2 ^
 is_accepted text (Plain value digits) rest = nat_lt value (2 ^ 31) && not (front_is (λ b. b == 39) rest)
 is_accepted text (Mark sign) rest = true
 
--- what no number may be followed by directly
-abbrev pub is_glued : VTok → List ℕ → Bool
-is_glued (Sized width value) rest = front_is is_name_byte rest
-is_glued (Plain value digits) rest = front_is is_name_byte rest
-is_glued _ rest = false
+-- of the base that a letter stands for: its digits may be `?`, for unknown bits, in the standard
+abbrev pub has_unknown : Option ℕ → Bool
+has_unknown None = false
+has_unknown (Some base) = not (base == 10)
+
+-- the same of a number with a size, by the letter behind its `'`
+abbrev pub may_be_unknown : List ℕ → Bool
+may_be_unknown [] = false
+may_be_unknown (b ∷ bs) = if b == 39 then front_is (λ letter. has_unknown (base_of letter)) bs else may_be_unknown bs
+
+-- What no number may be followed by directly: what a name is made of, and a `?` where that would be one more of its digits.
+abbrev pub is_glued : List ℕ → VTok → List ℕ → Bool
+is_glued text (Sized width value) rest = front_is is_name_byte rest || (front_is (λ b. b == 63) rest && may_be_unknown text)
+is_glued text (Plain value digits) rest = front_is is_name_byte rest
+is_glued text _ rest = false
 
 -- the bytes from a place on are blanks, comments and longest tokens
 pub data Lexes : ℕ → List ℕ → List (ℕ × VTok) → Type 0 where
   end : {at : ℕ} → Lexes at [] []
   gap : {at : ℕ} {bytes text rest : List ℕ} {ts : List (ℕ × VTok)} → bytes ≡ text ++ rest → IsGap text rest → Lexes (at + length text) rest ts → Lexes at bytes ts
-  token : {at : ℕ} {bytes text rest : List ℕ} {tok : VTok} {ts : List (ℕ × VTok)} → Begins bytes text rest tok → is_accepted text tok rest ≡ true → is_glued tok rest ≡ false
+  token : {at : ℕ} {bytes text rest : List ℕ} {tok : VTok} {ts : List (ℕ × VTok)} → Begins bytes text rest tok → is_accepted text tok rest ≡ true → is_glued text tok rest ≡ false
       → Lexes (at + length text) rest ts → Lexes at bytes ((at, tok) ∷ ts)
 
 -- at the front of the bytes, which stand from a place on, a byte is at fault, and its place
@@ -114,11 +124,11 @@ pub data Stuck : ℕ → List ℕ → ℕ → Type 0 where
   comment : {at n : ℕ} {bytes : List ℕ} → BrokenGap bytes n → Stuck at bytes (at + n)
   nothing : {at b : ℕ} {bs : List ℕ} → is_blank b ≡ false → starts_comment (b ∷ bs) ≡ false → ((text rest : List ℕ) (tok : VTok) → Begins (b ∷ bs) text rest tok → ⊥) → Stuck at (b ∷ bs) at
   refused : {at : ℕ} {bytes text rest : List ℕ} {tok : VTok} → Begins bytes text rest tok → is_accepted text tok rest ≡ false → Stuck at bytes at
-  glued : {at : ℕ} {bytes text rest : List ℕ} {tok : VTok} → Begins bytes text rest tok → is_accepted text tok rest ≡ true → is_glued tok rest ≡ true → Stuck at bytes (at + length text)
+  glued : {at : ℕ} {bytes text rest : List ℕ} {tok : VTok} → Begins bytes text rest tok → is_accepted text tok rest ≡ true → is_glued text tok rest ≡ true → Stuck at bytes (at + length text)
 
 -- the first byte at fault from a place on
 pub data Breaks : ℕ → List ℕ → ℕ → Type 0 where
   behind_gap : {at place : ℕ} {bytes text rest : List ℕ} → bytes ≡ text ++ rest → IsGap text rest → Breaks (at + length text) rest place → Breaks at bytes place
-  behind_token : {at place : ℕ} {bytes text rest : List ℕ} {tok : VTok} → Begins bytes text rest tok → is_accepted text tok rest ≡ true → is_glued tok rest ≡ false
+  behind_token : {at place : ℕ} {bytes text rest : List ℕ} {tok : VTok} → Begins bytes text rest tok → is_accepted text tok rest ≡ true → is_glued text tok rest ≡ false
       → Breaks (at + length text) rest place → Breaks at bytes place
   stuck : {at place : ℕ} {bytes : List ℕ} → Stuck at bytes place → Breaks at bytes place

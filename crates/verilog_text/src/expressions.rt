@@ -1,6 +1,6 @@
 // Expressions of a module.
-use lisa_tree::Operator;
 use lisa_words::{Name, Word};
+use operators::Operator;
 
 /// An operator with one operand.
 #[derive(Clone, Copy, Debug, PartialEq, Eq)]

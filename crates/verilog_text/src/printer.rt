@@ -1,7 +1,7 @@
 // The text of a module.
 ghost use Rattle.std.specs.Prelude.{◌≡◌, ◌++◌, ◌+◌, ◌-◌, ◌≤◌, ◌<◌, ◌∷◌, ◌^◌, [], ℕ, List, suc, IfOk, OnOk, map, flat_map, length, nat_lt, if◌then◌else◌};
 ghost use Rattle.std.specs.Fmt.{decimal as decimal_digits};
-ghost use Rattle.lisa_tree.specs.Operators.{level_of};
+ghost use Rattle.operators.specs.Operators.{level_of};
 ghost use Rattle.verilog_text.specs.Trees.{vexpr_tree, vexpr_trees, action_then, action_trees, setting_tree, member_tree, module_tree, set_then, Done, If as IfTree, Join as JoinTree, Array as ArrayTree, Wire as WireTree, Always as AlwaysTree};
 ghost use Rattle.verilog_text.specs.Grammar.{vsign_of, vone_sign, setting_tokens};
 ghost use Rattle.verilog_text.specs.Tokens.{Named, Reserved, Sized, Plain, Mark};
@@ -15,28 +15,9 @@ use crate::modules::{Action, Member, Module};
 use crate::pieces::Piece;
 use crate::tokens::{VKeyword, VSign};
 use lisa_engine::{ArrayItem, Item};
-use lisa_tree::Operator;
 use lisa_words::{Name, NoMemory, Word, decimal};
+use operators::{Operator, level};
 use std::alloc::{AllocError, Global};
-
-// The level of an operator, from 1, the loosest, to 10, the tightest.
-fn level(operator: Operator) -> u8
-    ensures value { result ≡ level_of operator }
-    ensures few { result ≤ 10 }
-{
-    match operator {
-        Operator::OneTrue => 1,
-        Operator::BothTrue => 2,
-        Operator::Or => 3,
-        Operator::Xor => 4,
-        Operator::And => 5,
-        Operator::Equal | Operator::Unequal => 6,
-        Operator::Less | Operator::LessEqual | Operator::Greater | Operator::GreaterEqual => 7,
-        Operator::Left | Operator::Right => 8,
-        Operator::Add | Operator::Sub => 9,
-        Operator::Mul => 10,
-    }
-}
 
 fn operator_sign(operator: Operator) -> VSign
     ensures { result ≡ vsign_of operator }

@@ -8,7 +8,7 @@ use Rattle.verilog_lexer.proofs.items.number.Goals as goal
 pub returns-in-Some : goal.returns-in-Some
 returns-in-Some c =
     let is : base_behind c.args.size.now c.args.rest.now ≡ Some c.in-Some.base = sym c.base_behind.ensures.value ∙ c.in-Some.is in
-    rw (based_judged c.args.at c.in-Some.base c.args.size.now c.args.rest.now is, (sym c.behind_letter.ensures.value)) c.based.ensures
+    rw (based_judged c.args.at c.in-Some.base c.args.size.now c.args.rest.now c.requires.all is, (sym c.behind_letter.ensures.value)) c.based.ensures
 
 pub returns-in-None : goal.returns-in-None
 returns-in-None c =

@@ -10,7 +10,7 @@ use Rattle.verilog_text.specs.Clockable.{IsClockable}
 use Rattle.verilog_clock.specs.Named.{Runs}
 use Rattle.verilog_clock.specs.Compiled.{rows}
 use Rattle.verilog_clock.specs.Writes.{state_of}
-use Rattle.verilog_clock.proofs.Clocking.{names_differ, first_state, first_shaped}
+use Rattle.verilog_clock.proofs.Clocking.{names_differ, widths_are, states_shaped, first_state, first_shaped}
 use Rattle.verilog_clock.proofs.clock.Clock.make.Goals as goal
 
 pub first_values-requires : goal.first_values-requires
@@ -39,10 +39,12 @@ invariant_of-result c =
       item_regs = c.in_ok-items.ensures;
       array_regs = c.in_ok-arrays.ensures;
       named = names_differ m c.in_ok-items.items.items all c.requires.module c.in_ok-items.ensures c.in_ok-arrays.ensures;
+      sizes = widths_are m c.in_ok-items.items.items all c.requires.module c.in_ok-items.ensures c.in_ok-arrays.ensures;
       few = omega (arith, ap length c.in_ok-arrays.ensures, c.requires.module.few_arrays);
       runs = subst (λ (x : Module). Runs (module_tree x) c.in_ok-nets.field-0.nets.items c.in_ok-nets.field-0.acts.items) c.in_ok-scope.ensures c.in_ok-nets.ensures.runs;
       begins = begins;
       first_shape = first_shaped m image (state_of c.in_ok-firsts.firsts.items (rows c.in_ok-first_rows.first_rows.items)) begins fits;
+      shapes = states_shaped m image c.in_ok-items.items.items all c.in_ok-items.ensures c.in_ok-arrays.ensures fits;
       shape = first_shaped m image (state_of c.in_ok-values.values.items (rows c.in_ok-cells.cells.items)) now fits;
       settled_room = omega (arith, c.in_ok-nets.ensures.settled, c.len-2.ensures, ap (λ (x : Module). vec_len x.inputs) c.in_ok-scope.ensures);
       updates_room = c.in_ok-nets.ensures.updates;

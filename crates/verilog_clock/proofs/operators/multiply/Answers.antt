@@ -1,5 +1,0 @@
-use Rattle.lisa_words.proofs.Reduced.{masked}
-use Rattle.verilog_clock.proofs.operators.multiply.Goals as goal
-
-pub returns : goal.returns
-returns c = masked _ _ _ c.args.length.most c.args.length.ones
