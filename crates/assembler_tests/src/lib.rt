@@ -1,13 +1,7 @@
-//! Tests of sources, objects and images, and of the patterns and texts of instructions.
+//! Tests of sources, and of objects and images.
 #![tactic(auto)]
 
 #[cfg(test)]
-mod conditions;
-#[cfg(test)]
 mod objects;
 #[cfg(test)]
-mod patterns;
-#[cfg(test)]
 mod sources;
-#[cfg(test)]
-mod texts;

@@ -5,7 +5,7 @@ use Rattle.std.proofs.lemmas.Bool.{cases_lt}
 use Rattle.std.proofs.lemmas.List.{get_or_push, get_or_append_left, get_or-take, length-take, take-append-le, take_all}
 use Rattle.lisa_engine.specs.State.{State}
 use Rattle.lisa_engine.specs.ScheduleLine.{Line}
-use Rattle.lisa_engine.specs.Shape.{IsFitting, IsShaped, AreEntries}
+use Rattle.lisa_engine.specs.Shape.{IsFitting, AreEntries}
 use Rattle.lisa_engine.specs.Touches.{Tracks, LeadsBack, TakesBack}
 use Rattle.lisa_engine.specs.PinValues.{pins_at, IsFor}
 use Rattle.lisa_engine.specs.declared.parts.Item.{Item}
@@ -49,14 +49,14 @@ has_made course now before after touches edge place values row for played is_bef
 
 -- what is kept of the edge leads back over it
 pub leads_over : (course now : Course) (before after : State) (touches : List Touch) (edge : ℕ) (row : List ℕ) (entry : Entry)
-    → HasMade course now before after touches edge row → before ≡ state_at course edge → IsShaped course.items course.arrays before
+    → HasMade course now before after touches edge row → before ≡ state_at course edge
     → restored entry.changes.items after.items ≡ row → entry.touches.items ≡ touches → All (λ change. change.item < length course.items) entry.changes.items
     → LeadsOver course edge entry
-leads_over course now before after touches edge row entry made is_before shape back same places = record {
+leads_over course now before after touches edge row entry made is_before back same places = record {
   places = places;
-  back = subst (λ given. LeadsBack course.items course.arrays course.defined given entry.touches.items (entries_to course edge) (pins_at (length course.pins) course.lines (suc edge))) (sym given_is)
-      (subst (λ ts. LeadsBack course.items course.arrays course.defined before.items ts (entries_to course edge) (pins_at (length course.pins) course.lines (suc edge))) (sym same)
-      (leads_back shape is_before made.led made.tracks));
+  back = subst (λ given. LeadsBack course.arrays course.defined given entry.touches.items (entries_to course edge) (pins_at (length course.pins) course.lines (suc edge))) (sym given_is)
+      (subst (λ ts. LeadsBack course.arrays course.defined before.items ts (entries_to course edge) (pins_at (length course.pins) course.lines (suc edge))) (sym same)
+      (leads_back is_before made.led made.tracks));
 }
   where
     given_is : restored entry.changes.items (state_at course (suc edge)).items ≡ before.items
@@ -81,11 +81,11 @@ kept_less course entries n le all k d within =
 -- the condition for going back over the last edge
 pub takes_back : (course : Course) (present : State) (given : List ℕ) (edge : ℕ) (entry : Entry) → IsFor course.pins course.lines → present ≡ state_at course (suc edge) → LeadsOver course edge entry
     → given ≡ restored entry.changes.items present.items
-    → TakesBack course.pins course.items course.arrays course.defined present given entry.touches.items (entries_to course edge) (pins_at (length course.pins) course.lines (suc edge))
+    → TakesBack course.pins course.arrays course.defined present given entry.touches.items (entries_to course edge) (pins_at (length course.pins) course.lines (suc edge))
 takes_back course present given edge entry for now over is = record {
   entries = entries_fit course.pins course.lines (suc edge) for;
   now = now;
-  back = subst (λ g. LeadsBack course.items course.arrays course.defined g entry.touches.items (entries_to course edge) (pins_at (length course.pins) course.lines (suc edge)))
+  back = subst (λ g. LeadsBack course.arrays course.defined g entry.touches.items (entries_to course edge) (pins_at (length course.pins) course.lines (suc edge)))
       (sym (is ∙ ap (λ s. restored entry.changes.items s.items) now)) over.back;
 }
 
@@ -160,7 +160,7 @@ live_less {course = course} {after = after} {journal = journal} {kept = kept} a 
 -- what `retreat` asks for, after as many edges as there are entries
 pub may_retreat : {course : Course} {present : State} {journal : Journal} (given : List ℕ) (entry : Entry) → IsLive course present journal → 0 < length journal.entries.items
     → entry ≡ get_or journal.entries.items (length journal.entries.items - 1) entry → given ≡ restored entry.changes.items present.items
-    → TakesBack course.pins course.items course.arrays course.defined present given entry.touches.items (entries_to course (length journal.entries.items - 1))
+    → TakesBack course.pins course.arrays course.defined present given entry.touches.items (entries_to course (length journal.entries.items - 1))
     (pins_at (length course.pins) course.lines (suc (length journal.entries.items - 1)))
 may_retreat {course = course} {present = present} {journal = journal} given entry a some is given_is =
     let last : length journal.entries.items ≡ suc (length journal.entries.items - 1) = omega arith in

@@ -36,7 +36,7 @@ pub record HasMade (course now : Course) (before after : State) (touches : List 
 -- what is kept of the edge that follows `before` edges leads back over it
 pub record LeadsOver (course : Course) (before : ℕ) (entry : Entry) : Type 0 where
   pub places : All (λ change. change.item < length course.items) entry.changes.items
-  pub back : LeadsBack course.items course.arrays course.defined (restored entry.changes.items (state_at course (suc before)).items) entry.touches.items
+  pub back : LeadsBack course.arrays course.defined (restored entry.changes.items (state_at course (suc before)).items) entry.touches.items
       (entries_to course before) (pins_at (length course.pins) course.lines (suc before))
 
 -- the present state is the one after as many edges as there are entries, and each entry leads back over its edge

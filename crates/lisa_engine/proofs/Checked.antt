@@ -68,7 +68,7 @@ line_kept pins before number (Some (edge, settings)) line d is = ⊎_elim
     (λ t. let e : ◌≡◌ {A = Result Line ScheduleFault} (Err (NotRising number)) (Ok line) = rw t at known.1 in cc)
     (λ g. kept_placed pins before number edge settings line d (leb-false edge before g) known.0 (rw g at known.1))
     (cases_Bool (nat_le edge before)))
-    (cases_Bool (names_twice pins settings))
+    (cases_Bool (names_twice settings))
 
 -- lines that are kept: each as it stands, and each later than those before it
 pub record AreKept (pins : List Item) (before : ℕ) (lines : List Line) : Type 0 where

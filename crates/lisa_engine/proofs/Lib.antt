@@ -7,6 +7,7 @@ pub mod Numbers
 pub mod Signs
 pub mod SettingLists
 pub mod Widths
+pub mod Names
 pub mod Checked
 pub mod LineTexts
 pub mod Played

@@ -1,14 +1,16 @@
 -- One edge of the engine in memory, forth and back.
-use Rattle.std.proofs.Common.{◌≡◌, ℕ, zero, suc, ◌^◌, ◌<◌, List, [], ◌∷◌, length, refl, sym, ap, ◌∙◌, subst, arith, get_or, set, ⊎_elim}
+use Rattle.std.proofs.Common.{◌≡◌, ℕ, zero, suc, ◌+◌, ◌^◌, ◌%◌, ◌<◌, List, [], ◌∷◌, length, refl, sym, ap, ◌∙◌, subst, arith, get_or, set, fold, ⊎_elim}
 use Rattle.std.proofs.lemmas.List.{set-set, set-get_or, length-set, get_or-set_other}
 use Rattle.std.proofs.lemmas.Bool.{cases_eq}
 use Rattle.std.proofs.lemmas.Grind.{get_or-set_at}
-use Rattle.lisa_engine.specs.Shape.{IsShaped, IsFitting}
-use Rattle.lisa_engine.specs.Touches.{Tracks, IsPlaced}
-use Rattle.lisa_engine.specs.MemStates.{mem_items, mem_arrays, mem_pins}
+use Rattle.lisa_engine.specs.State.{State}
+use Rattle.lisa_engine.specs.Shape.{IsShaped, IsFitting, AreEntries, IsWidth, HaveWidths}
+use Rattle.lisa_engine.specs.Touches.{Tracks, IsPlaced, TakesBack, put_back}
+use Rattle.lisa_engine.specs.MemStates.{mem_items, mem_arrays, mem_pins, mem_first, mem_next, mem_defined}
 use Rattle.lisa_engine.specs.declared.parts.Item.{Item}
 use Rattle.lisa_engine.specs.declared.parts.ArrayItem.{ArrayItem}
 use Rattle.lisa_engine.specs.declared.parts.Touch.{Touch}
+use Rattle.lisa_engine.proofs.Journal.{entries_before, taken_back, taken_shaped}
 
 any_item : Item
 any_item = record { name = []; width = 0 }
@@ -82,3 +84,88 @@ depth_at (suc k) within = absurd (omega arith)
 
 pub mem_index : (touch : Touch) → IsPlaced mem_arrays touch → touch.index < 4
 mem_index touch placed = omega (arith, placed.index any_array, depth_at touch.array placed.array)
+
+-- ---- the shape of every state that the definition gives
+
+next_shaped : (values : List ℕ) (rows : List (List ℕ)) (entry : List ℕ) → IsShaped mem_items mem_arrays (record { items = values; cells = rows }) → IsFitting mem_pins entry
+    → IsShaped mem_items mem_arrays (mem_next (record { items = values; cells = rows }) entry)
+next_shaped values [] entry shape fit = absurd (omega (arith, shape.cells.count))
+next_shaped values (cells ∷ []) entry shape fit = shaped_next (get_or values 0 0 % 4) ((get_or values 0 0 + 1) % 256) (get_or entry 0 0) shape (omega arith) (pin_small refl fit)
+next_shaped values (cells ∷ more ∷ rest) entry shape fit = absurd (omega (arith, shape.cells.count))
+
+first_shaped : IsShaped mem_items mem_arrays mem_first
+first_shaped = record {
+  values = record { count = refl; within = values };
+  cells = record { count = refl; depths = depths; within = within };
+}
+  where
+    values : (k : ℕ) (item : Item) → k < 2 → get_or mem_first.items k 0 < 2 ^ (get_or mem_items k item).width
+    values zero item within = omega arith
+    values (suc zero) item within = omega arith
+    values (suc (suc k)) item within = absurd (omega arith)
+
+    depths : (k : ℕ) (array : ArrayItem) → k < 1 → length (get_or mem_first.cells k []) ≡ (get_or mem_arrays k array).depth
+    depths zero array here = refl
+    depths (suc k) array here = absurd (omega arith)
+
+    within : (k j : ℕ) (array : ArrayItem) → k < 1 → j < length (get_or mem_first.cells k []) → get_or (get_or mem_first.cells k []) j 0 < 2 ^ (get_or mem_arrays k array).width
+    within zero zero array here there = omega arith
+    within zero (suc zero) array here there = omega arith
+    within zero (suc (suc zero)) array here there = omega arith
+    within zero (suc (suc (suc zero))) array here there = omega arith
+    within zero (suc (suc (suc (suc j)))) array here there = absurd (omega arith)
+    within (suc k) j array here there = absurd (omega arith)
+
+shaped_from : (state : State) (l : List (List ℕ)) → IsShaped mem_items mem_arrays state → AreEntries mem_pins l → IsShaped mem_items mem_arrays (fold mem_next state l)
+shaped_from state [] shape entries = shape
+shaped_from state (entry ∷ l) shape entries =
+    shaped_from (mem_next state entry) l (next_shaped state.items state.cells entry shape (entries 0 entry (omega arith))) (λ k d within. entries (suc k) d (omega arith))
+
+pub mem_shapes : {items : List Item} {arrays : List ArrayItem} {pins : List Item} → items ≡ mem_items → arrays ≡ mem_arrays → pins ≡ mem_pins
+    → (l : List (List ℕ)) → AreEntries pins l → IsShaped items arrays (mem_defined l)
+mem_shapes {items = items} is_items is_arrays is_pins l entries =
+    subst (λ arrays. IsShaped items arrays (mem_defined l)) (sym is_arrays)
+    (subst (λ items. IsShaped items mem_arrays (mem_defined l)) (sym is_items)
+    (shaped_from mem_first l first_shaped (subst (λ pins. AreEntries pins l) is_pins entries)))
+
+-- two values, one by one
+two_values : (values : List ℕ) → length values ≡ 2 → get_or values 0 0 ∷ get_or values 1 0 ∷ [] ≡ values
+two_values [] long = absurd (omega (arith, long))
+two_values (a ∷ []) long = absurd (omega (arith, long))
+two_values (a ∷ b ∷ []) long = refl
+two_values (a ∷ b ∷ c ∷ rest) long = absurd (omega (arith, long))
+
+-- an edge taken back
+module _ {pins items : List Item} {arrays : List ArrayItem} {present : State} {given cells : List ℕ} {touches : List Touch} {l : List (List ℕ)} {entry : List ℕ}
+    (shapes : (l : List (List ℕ)) → AreEntries pins l → IsShaped items arrays (mem_defined l)) (is_items : items ≡ mem_items) (is_arrays : arrays ≡ mem_arrays)
+    (is_cells : cells ∷ [] ≡ put_back touches present.cells) (t : TakesBack pins arrays mem_defined present given touches l entry) where
+  pub given_two : length given ≡ 2
+  given_two = (taken_shaped shapes t).values.count ∙ ap length is_items
+
+  pub mem_back : record { items = get_or given 0 0 ∷ get_or given 1 0 ∷ []; cells = cells ∷ [] } ≡ mem_defined l
+  mem_back = (λ i. record { items = two_values given given_two i; cells = is_cells i }) ∙ sym (taken_back t)
+
+  pub mem_back_shaped : IsShaped mem_items mem_arrays (record { items = get_or given 0 0 ∷ get_or given 1 0 ∷ []; cells = cells ∷ [] })
+  mem_back_shaped =
+      subst (IsShaped mem_items mem_arrays) (sym mem_back)
+      (subst (λ items. IsShaped items mem_arrays (mem_defined l)) is_items (subst (λ arrays. IsShaped items arrays (mem_defined l)) is_arrays (shapes l (entries_before pins l entry t.entries))))
+
+pub mem_sizes : {items : List Item} {arrays : List ArrayItem} {pins : List Item} → items ≡ mem_items → arrays ≡ mem_arrays → pins ≡ mem_pins → HaveWidths items arrays pins
+mem_sizes is_items is_arrays is_pins = record {
+  of_items = subst (λ items. (k : ℕ) (item : Item) → k < length items → IsWidth (get_or items k item).width) (sym is_items) of_items;
+  of_arrays = subst (λ arrays. (k : ℕ) (array : ArrayItem) → k < length arrays → IsWidth (get_or arrays k array).width) (sym is_arrays) of_arrays;
+  of_pins = subst (λ pins. (k : ℕ) (item : Item) → k < length pins → IsWidth (get_or pins k item).width) (sym is_pins) of_pins;
+}
+  where
+    of_items : (k : ℕ) (item : Item) → k < 2 → IsWidth (get_or mem_items k item).width
+    of_items zero item within = (omega arith, omega arith)
+    of_items (suc zero) item within = (omega arith, omega arith)
+    of_items (suc (suc k)) item within = absurd (omega arith)
+
+    of_arrays : (k : ℕ) (array : ArrayItem) → k < 1 → IsWidth (get_or mem_arrays k array).width
+    of_arrays zero array within = (omega arith, omega arith)
+    of_arrays (suc k) array within = absurd (omega arith)
+
+    of_pins : (k : ℕ) (item : Item) → k < 1 → IsWidth (get_or mem_pins k item).width
+    of_pins zero item within = (omega arith, omega arith)
+    of_pins (suc k) item within = absurd (omega arith)

@@ -1,5 +1,5 @@
 -- The texts of schedules.
-use Rattle.std.specs.Prelude.{ℕ, ◌+◌, ◌^◌, ◌==◌, ◌&&◌, ◌≡◌, ◌⊎◌, List, [], ◌∷◌, length, take, drop, map, find, position, count_by, codes, not, nat_lt, nat_le, slice_index, slice_index_or, decimal, Bool, if◌then◌else◌, Option, Some, None, unwrap_or, Result, Ok, Err}
+use Rattle.std.specs.Prelude.{ℕ, ◌+◌, ◌^◌, ◌==◌, ◌&&◌, ◌||◌, ◌≡◌, ◌⊎◌, List, [], ◌∷◌, length, take, drop, map, find, position, codes, false, not, nat_lt, nat_le, slice_index, slice_index_or, decimal, Bool, if◌then◌else◌, Option, Some, None, unwrap_or, Result, Ok, Err}
 use Rattle.std.specs.List.{list_any, list_all, slice_split, before_last, after_last}
 use Rattle.std.specs.Option.{option_map, option_and_then}
 use Rattle.std.specs.Char.{digit_value}
@@ -51,9 +51,14 @@ form_of text = form_of_words (slice_split (λ c. c == 32) text)
 abbrev pub is_named : List ℕ → Item → Bool
 is_named name pin = bytes_eq pin.name name
 
--- some pin is named by more than one of the settings
-abbrev pub names_twice : List Item → List (List ℕ × ℕ) → Bool
-names_twice pins settings = list_any (λ pin. nat_lt 1 (count_by (λ setting. is_named setting.0 pin) settings)) pins
+-- one of the settings is of this name
+abbrev pub is_set : List (List ℕ × ℕ) → List ℕ → Bool
+is_set settings name = list_any (λ setting. bytes_eq setting.0 name) settings
+
+-- a name stands in more than one of the settings, whether a pin has it or not
+abbrev pub names_twice : List (List ℕ × ℕ) → Bool
+names_twice [] = false
+names_twice (setting ∷ settings) = is_set settings setting.0 || names_twice settings
 
 abbrev pub is_unknown : List Item → List ℕ × ℕ → Bool
 is_unknown pins setting = not (list_any (is_named setting.0) pins)
@@ -86,7 +91,7 @@ placed_line pins number edge settings =
 abbrev pub checked_line : List Item → ℕ → ℕ → Option (ℕ × List (List ℕ × ℕ)) → Result Line ScheduleFault
 checked_line pins number before None = Err (BadLine number)
 checked_line pins number before (Some (edge, settings)) =
-    if names_twice pins settings then Err (BadLine number)
+    if names_twice settings then Err (BadLine number)
     else unless (find (is_unknown pins) settings) (λ setting. UnknownPin number setting.0)
     (if nat_le edge before then Err (NotRising number) else placed_line pins number edge (map (placed pins) settings))
 

@@ -1,5 +1,5 @@
 -- The shape of states and of pin values: how many values there are, and how wide.
-use Rattle.std.specs.Prelude.{ℕ, ◌<◌, ◌^◌, ◌≡◌, ◌≢◌, List, [], length, slice_index, slice_index_or, All, AllPairs}
+use Rattle.std.specs.Prelude.{ℕ, ◌<◌, ◌≤◌, ◌^◌, ◌≡◌, ◌≢◌, List, [], length, slice_index, slice_index_or, All, AllPairs}
 use Rattle.lisa_engine.specs.State.{State}
 use Rattle.lisa_engine.specs.declared.parts.Item.{Item}
 use Rattle.lisa_engine.specs.declared.parts.ArrayItem.{ArrayItem}
@@ -23,6 +23,16 @@ pub record IsShaped (items : List Item) (arrays : List ArrayItem) (state : State
 -- a list of pin values, an entry for each edge
 abbrev pub AreEntries : List Item → List (List ℕ) → Type 0
 AreEntries pins entries = All (IsFitting pins) entries
+
+-- a width of one word
+abbrev pub IsWidth : ℕ → Type 0
+IsWidth width = (1 ≤ width) × (width ≤ 64)
+
+-- items, cells of arrays and pins have from 1 to 64 bits
+pub record HaveWidths (items : List Item) (arrays : List ArrayItem) (pins : List Item) : Type 0 where
+  pub of_items : All (λ item. IsWidth item.width) items
+  pub of_arrays : All (λ array. IsWidth array.width) arrays
+  pub of_pins : All (λ pin. IsWidth pin.width) pins
 
 -- no two items share a name, nor two arrays, nor two pins
 pub record HaveDistinctNames (items : List Item) (arrays : List ArrayItem) (pins : List Item) : Type 0 where

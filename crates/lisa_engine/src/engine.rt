@@ -1,7 +1,7 @@
 // Engines, by what their own definition gives after a list of pin values.
 ghost use Rattle.std.specs.Prelude.{◌≡◌, ◌<◌, ◌∷◌, [], ◌++◌, List, ℕ, length, slice_index};
 ghost use Rattle.lisa_engine.specs.State.{State, cells_of};
-ghost use Rattle.lisa_engine.specs.Shape.{IsFitting, IsShaped, AreEntries, HaveDistinctNames};
+ghost use Rattle.lisa_engine.specs.Shape.{IsFitting, IsShaped, AreEntries, HaveWidths, HaveDistinctNames};
 ghost use Rattle.lisa_engine.specs.Touches.{Tracks, TakesBack};
 ghost use Rattle.lisa_engine.specs.declared.parts.Item.{Item};
 ghost use Rattle.lisa_engine.specs.declared.parts.ArrayItem.{ArrayItem};
@@ -78,9 +78,9 @@ pub trait Engine {
 
     /// Takes back one edge, given the items before it and its touches.
     fn retreat(&mut self, items: &[u64], touches: &[Touch])
-        requires { (l : List (List ℕ)) × (p : List ℕ) × TakesBack (pin_list self.old) (item_list self.old) (array_list self.old)
+        requires { (l : List (List ℕ)) × (p : List ℕ) × TakesBack (pin_list self.old) (array_list self.old)
             (defined self.old) (present self.old) items.now touches.now l p }
-        ensures back { (l : List (List ℕ)) (p : List ℕ) → TakesBack (pin_list self.old) (item_list self.old) (array_list self.old)
+        ensures back { (l : List (List ℕ)) (p : List ℕ) → TakesBack (pin_list self.old) (array_list self.old)
             (defined self.old) (present self.old) items.now touches.now l p → present self.new ≡ defined self.new l }
         ensures touches { touch_list self.new ≡ [] }
         ensures defined { defined self.new ≡ defined self.old }
@@ -90,6 +90,13 @@ pub trait Engine {
 
     /// There is a value for each item and each cell, within its width.
     ghost shaped: { (engine : Self) → IsShaped (item_list engine) (array_list engine) (present engine) };
+
+    /// So there is in the definition's state after every list of pin values.
+    ghost defined_shaped: { (engine : Self) (l : List (List ℕ)) → AreEntries (pin_list engine) l
+        → IsShaped (item_list engine) (array_list engine) (defined engine l) };
+
+    /// Items, cells and pins have from 1 to 64 bits.
+    ghost sized: { (engine : Self) → HaveWidths (item_list engine) (array_list engine) (pin_list engine) };
 
     /// No two items share a name, nor two arrays, nor two pins.
     ghost named: { (engine : Self) → HaveDistinctNames (item_list engine) (array_list engine) (pin_list engine) };

@@ -1,7 +1,7 @@
 // An engine in memory, for tests.
-ghost use Rattle.std.specs.Prelude.{◌≡◌, ◌≤◌, List, [], ◌∷◌, length, take, All, IfOk};
+ghost use Rattle.std.specs.Prelude.{◌≡◌, ◌≤◌, ℕ, List, [], ◌∷◌, length, take, All, IfOk};
 ghost use Rattle.lisa_engine.specs.State.{State};
-ghost use Rattle.lisa_engine.specs.Shape.{IsShaped};
+ghost use Rattle.lisa_engine.specs.Shape.{IsShaped, AreEntries, HaveWidths};
 ghost use Rattle.lisa_engine.specs.Touches.{IsPlaced, put_back};
 ghost use Rattle.lisa_engine.specs.MemStates.{mem_items, mem_arrays, mem_pins, mem_defined, mem_shaped, mem_named};
 
@@ -26,6 +26,8 @@ pub struct MemEngine {
     ghost has_arrays: { arrays.items ≡ mem_arrays },
     ghost has_pins: { pins.items ≡ mem_pins },
     ghost shape: { IsShaped mem_items mem_arrays (record { items = values; cells = cells ∷ [] }) },
+    ghost shapes: { (l : List (List ℕ)) → AreEntries pins.items l → IsShaped items.items arrays.items (mem_defined l) },
+    ghost sizes: { HaveWidths items.items arrays.items pins.items },
     ghost few: { touches ≤ 2 },
 }
 
@@ -180,6 +182,10 @@ impl Engine for MemEngine {
     }
 
     ghost shaped = { λ e. mem_shaped e.has_items e.has_arrays e.shape };
+
+    ghost defined_shaped = { λ e. e.shapes };
+
+    ghost sized = { λ e. e.sizes };
 
     ghost named = { λ e. mem_named e.has_items e.has_arrays e.has_pins };
 }

@@ -1,5 +1,5 @@
 // Schedules: the values that pins get, edge by edge.
-ghost use Rattle.std.specs.Prelude.{◌≡◌, ◌<◌, ◌^◌, ◌+◌, ◌==◌, if◌then◌else◌, List, [], ℕ, Option, Some, IfOk, IfSome, MatchOption, map, length, take, drop, unwrap_or, nat_le, nat_lt, count_by, fold, All, slice_index_or, ◌≤◌};
+ghost use Rattle.std.specs.Prelude.{◌≡◌, ◌<◌, ◌^◌, ◌+◌, ◌==◌, if◌then◌else◌, List, [], ℕ, Option, Some, Ok, IfOk, IfSome, MatchOption, map, length, take, drop, unwrap_or, nat_le, fold, All, slice_index_or, ◌≤◌};
 ghost use Rattle.std.specs.List.{slice_split, position, find, list_any, before_last, after_last};
 ghost use Rattle.std.specs.Option.{option_map, option_copied};
 ghost use Rattle.std.specs.Str.Lines.{strip_carriage_return};
@@ -10,12 +10,13 @@ ghost use Rattle.lisa_engine.specs.ScheduleLine.{Line};
 use crate::parts::{Item, Setting};
 use lisa_words::{Name, NoMemory, canonical_decimal, hex_value};
 use std::alloc::{AllocError, AllocFailed, Global};
+use std::collections::BTreeSet;
 use std::marker::Model;
 
 /// Why a schedule wasn't read. Lines are counted from 1, and the first line with a fault counts.
 #[derive(Debug, Drop)]
 pub enum ScheduleFault {
-    /// The line is no edge number with one or more settings, or names a pin twice.
+    /// The line is no edge number with one or more settings, or has a name twice, whether a pin has it or not.
     BadLine { line: u32 },
     /// No pin has this name.
     UnknownPin { line: u32, name: Name },
@@ -252,22 +253,20 @@ fn is_pin(pin: &Item, setting: &Written<'_>) -> bool
     pin.name.as_bytes() == setting.name
 }
 
-// More than one of the settings name the pin.
-fn is_named_twice(pin: &Item, settings: &[Written<'_>]) -> bool
-    ensures { result ≡ nat_lt 1 (count_by (λ setting. is_named setting.0 pin.now) settings.now) }
+// A name stands in more than one of the settings: from the last one on, each is looked up among those behind it.
+fn is_any_named_twice(alloc: Global, settings: &[Written<'_>]) -> Result<bool, ScheduleFault>
+    ensures { IsUnlessNoMemory (Ok (names_twice settings.now)) result }
 {
-    settings
-        .iter()
-        .filter(|setting| is_pin(pin, setting))
-        .count()
-        > 1
-}
-
-// Some pin is named by more than one of the settings.
-fn is_any_named_twice(pins: &[Item], settings: &[Written<'_>]) -> bool
-    ensures { result ≡ names_twice pins.now settings.now }
-{
-    pins.iter().any(|pin| is_named_twice(pin, settings))
+    let mut behind = BTreeSet::new(alloc);
+    let mut left = settings.len();
+    while left > 0 {
+        left -= 1;
+        let setting = &settings[left];
+        if !behind.insert(setting.name)? {
+            return Ok(true);
+        }
+    }
+    Ok(false)
 }
 
 // Some pin has the setting's name.
@@ -385,7 +384,7 @@ fn check_line(
 ) -> Result<ScheduleLine, ScheduleFault>
     ensures { IsUnlessNoMemory (checked_line pins.now line before (Some (edge, settings.now))) result }
 {
-    if is_any_named_twice(pins, settings) {
+    if is_any_named_twice(alloc, settings)? {
         return Err(ScheduleFault::BadLine { line });
     }
     if let Some(setting) = find_unknown(pins, settings) {

@@ -13,6 +13,7 @@ use Rattle.text_scan.specs.Fix.{guarded}
 use Rattle.text_scan.proofs.Fixed.{fix_is}
 use Rattle.lisa_lexer.specs.declared.items.Item.{Item}
 use Rattle.lisa_lexer.specs.declared.items.Item.TheVariants.{Skip, Take}
+use Rattle.lisa_lexer.specs.Answers.{HasOutcome, lexes, breaks}
 use Rattle.lisa_lexer.specs.Lexing.{Front, item_at, Answer, ◌>>=◌, on_item, step, size, lex}
 use Rattle.lisa_lexer.proofs.Fronts.{front_more, front_no_comment}
 use Rattle.lisa_lexer.proofs.TokenLaws.{token_some}
@@ -84,6 +85,13 @@ lexed (suc k) at (b ∷ bs) le = rw (lex_is at b bs) (go (item_at at (b ∷ bs))
     go (Ok (Skip n)) h rec = after_gap at (b ∷ bs) h.text h.rest _ h.is h.parts (moved at n (b ∷ bs) h.text h.rest _ h.parts h.len (rec n h.some))
     go (Ok (Take n part)) h rec =
         after_token at (b ∷ bs) h.text h.rest part _ h.no_comment h.begins h.free h.fit (moved at n (b ∷ bs) h.text h.rest _ h.begins.parts h.len (rec n (omega (arith, h.len, token_some h.begins.is))))
+
+pub has_outcome : (bytes : List ℕ) → HasOutcome bytes
+has_outcome bytes = go (lex (0, bytes)) (lexed (length bytes) 0 bytes (omega arith))
+  where
+    go : (r : Answer) → LexIs 0 bytes r → HasOutcome bytes
+    go (Ok ts) h = lexes ts h
+    go (Err fault) h = breaks fault h
 
 -- ---- what holds is answered
 

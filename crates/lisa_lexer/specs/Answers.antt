@@ -4,7 +4,7 @@ use Rattle.std.specs.Global.{Vec}
 use Rattle.lisa_tree.specs.declared.faults.DescFault.{DescFault}
 use Rattle.lisa_tree.specs.declared.faults.DescFault.TheVariants as faults
 use Rattle.lisa_tree.specs.declared.tokens.Token.{Token}
-use Rattle.lisa_tree.specs.Tokens.{Breaks}
+use Rattle.lisa_tree.specs.Tokens.{Lexes, Breaks}
 use Rattle.lisa_lexer.specs.declared.items.Item.{Item}
 use Rattle.lisa_lexer.specs.declared.items.Item.TheVariants.{Skip, Take}
 use Rattle.lisa_lexer.specs.Lexing.{◌>>=◌, Answer}
@@ -33,6 +33,11 @@ GivesFault f (Err fault) = (fault ≡ f) ⊎ (fault ≡ faults.NoMemory)
 abbrev pub IsFirst : List ℕ → DescFault → Type 0
 IsFirst bytes faults.NoMemory = Unit {0}
 IsFirst bytes fault = Breaks 0 bytes fault
+
+-- the bytes are some tokens, or have some fault
+pub data HasOutcome (bytes : List ℕ) : Type 0 where
+  lexes : (ts : List Token) → Lexes 0 bytes ts → HasOutcome bytes
+  breaks : (fault : DescFault) → Breaks 0 bytes fault → HasOutcome bytes
 
 abbrev pub item_len : Item → ℕ
 item_len (Skip n) = n

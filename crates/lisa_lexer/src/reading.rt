@@ -6,7 +6,7 @@ ghost use Rattle.lisa_tree.specs.declared.tokens.Token.{Token};
 ghost use Rattle.lisa_tree.specs.Tokens.{Lexes, Breaks};
 ghost use Rattle.lisa_lexer.specs.Written.{Piece, ArePieces, Reads, text_of, parts_of};
 ghost use Rattle.lisa_lexer.specs.Lexing.{item_at, lex};
-ghost use Rattle.lisa_lexer.specs.Answers.{Gives, GivesTokens, GivesFault, IsFirst, IsPart, Fails, with_front};
+ghost use Rattle.lisa_lexer.specs.Answers.{Gives, GivesTokens, GivesFault, IsFirst, IsPart, Fails, HasOutcome, with_front};
 
 use crate::items::{Item, item_at};
 use lisa_tree::{DescFault, Token};
@@ -74,8 +74,9 @@ pub fn tokens(alloc: Global, bytes: &[u8]) -> Result<Vec<Token>, DescFault>
     all_tokens(alloc, bytes)
 }
 
-/// Bytes are one list of tokens at most, and have a fault only where they are none. A law: the function does nothing.
+/// Bytes are one list of tokens or have a fault, and neither both nor two of them. A law: the function does nothing.
 pub fn tokens_are_unique(bytes: &[u8])
+    ensures some { HasOutcome bytes.now }
     ensures one { (ts us : List Token) → Lexes 0 bytes.now ts → Lexes 0 bytes.now us → ts ≡ us }
     ensures whole { (ts : List Token) (fault : DescFault) → Lexes 0 bytes.now ts → Breaks 0 bytes.now fault → ⊥ }
     ensures first { (f g : DescFault) → Breaks 0 bytes.now f → Breaks 0 bytes.now g → f ≡ g }

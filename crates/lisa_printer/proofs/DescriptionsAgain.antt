@@ -1,5 +1,5 @@
 -- The canonical tokens of a description spell it, wherever some tokens do.
-use Rattle.std.proofs.Common.{◌≡◌, ℕ, Bool, true, false, cond, List, [], ◌∷◌, ◌++◌, Option, Some, None, refl, sym, ap, subst, ◌∙◌, inl, inr, append_assoc}
+use Rattle.std.proofs.Common.{◌≡◌, ℕ, suc, max, Bool, true, false, cond, List, [], ◌∷◌, ◌++◌, Option, Some, None, refl, sym, ap, subst, ◌∙◌, inl, inr, append_assoc}
 use Rattle.std.specs.Prelude.{nat_eq}
 use Rattle.std.specs.List.{flat_map}
 use Rattle.std.specs.Cmp.Lexicographic.{pointwise}
@@ -31,12 +31,12 @@ use Rattle.lisa_tree.specs.Descriptions as descriptions
 use Rattle.lisa_tree.specs.Descriptions.{ResourceTree, CodingTree, DeclareTree, SectionTree, OperationTree, DescriptionTree}
 use Rattle.lisa_tree.specs.Grammar.{Toks, mark}
 use Rattle.lisa_tree.specs.DescriptionGrammar as items
-use Rattle.lisa_tree.specs.DescriptionGrammar.{word, names_by, Each, register_word, memory_word, SpellsDepth, field_tokens, IsOptional, SpellsResource, SpellsInstance, SpellsInstances, SpellsDeclare, SpellsBits, SpellsCodingItem, SpellsRootPlace, SpellsCoding, format_sign, syntax_part_tokens, joint_tokens, syntax_tokens, braced, SpellsSection, SpellsSections, alias_tokens, stage_tokens, SpellsOperation, SpellsDescription}
+use Rattle.lisa_tree.specs.DescriptionGrammar.{word, names_by, Each, register_word, memory_word, SpellsDepth, field_tokens, IsOptional, SpellsResource, SpellsInstance, SpellsInstances, SpellsDeclare, SpellsBits, SpellsCodingItem, SpellsRootPlace, SpellsCoding, format_sign, syntax_part_tokens, joint_tokens, syntax_tokens, braced, IsBalanced, SpellsSection, SpellsSections, alias_tokens, stage_tokens, SpellsOperation, SpellsDescription}
 use Rattle.lisa_printer.specs.CanonicalTokens.{bare_tokens, depth_tokens, resource_tokens, instance_tokens, instances_tokens, declare_tokens, times_tokens, pattern_tokens, coding_item_tokens, coding_tokens, section_tokens, operation_tokens, description_tokens}
 use Rattle.lisa_printer.specs.EvenSemantics.{HasEvenSemantics}
-use Rattle.lisa_printer.proofs.Heights.{IsPlain, even_none, even_plain, even_within, even_of_closed}
+use Rattle.lisa_printer.proofs.Heights.{peak, IsEven, IsPlain, even_none, even_plain, even_within, even_of_closed}
 use Rattle.lisa_printer.proofs.SoundTokens.{AreSound, sound_front, sound_back, sound_sign, sound_word, sound_decimal}
-use Rattle.lisa_printer.proofs.Replaced.{Replaces, nothing, joined, behind, one, instead, in_squares, in_braces, left_out, added, spelled_so}
+use Rattle.lisa_printer.proofs.Replaced.{Replaces, nothing, joined, behind, one, instead, in_squares, in_braces, left_out, added, spelled_so, ReplacesWhere, anywhere, joined_where, braces_where, left_out_where, where_so}
 use Rattle.lisa_printer.proofs.StatementsAgain.{whole_again, stmts_again, acts_again}
 
 -- the canonical tokens of a thing stand in the place of those that spell it, and spell it too
@@ -293,21 +293,28 @@ even_front xs ys h before b after e d =
     h before b (after ++ ys)
     (ap (λ (l : Toks). l ++ ys) e ∙ append_assoc before (braced keywords.Semantics b ++ after) ys ∙ ap (λ (l : Toks). before ++ l) (append_assoc (braced keywords.Semantics b) after ys)) d
 
-sections_again : {ts : Toks} {all : List SectionTree} → SpellsSections ts all → AreSound ts → HasEvenSemantics ts → IsAgain (λ us. SpellsSections us all) ts (flat_map section_tokens all)
-sections_again items.none s even = record { replaced = nothing; spelled = items.none }
-sections_again (items.semantics {ys = ys} xs balanced rest whole) s even =
+-- the same where something holds, as that the brackets of what is left out close themselves
+pub record IsAgainWhere (P : Type 0) (S : Toks → Type 0) (ts us : Toks) : Type 0 where
+  pub replaced : ReplacesWhere P ts us
+  pub spelled : S us
+
+-- so many as are open at a time in tokens that close themselves
+even_section : (xs ys : Toks) → HasEvenSemantics (braced keywords.Semantics xs ++ ys) → IsBalanced xs → IsEven (braced keywords.Semantics xs) (max (suc (peak 0 xs)) 0)
+even_section xs ys u balanced =
+    even_plain {t = word keywords.Semantics} (λ n. refl) (even_within (mark signs.OpenBrace) (mark signs.CloseBrace) (λ n. refl) (λ n. refl) (even_of_closed xs (u [] xs ys refl balanced)) even_none)
+
+sections_again : {P : Type 0} {ts : Toks} {all : List SectionTree} → SpellsSections ts all → AreSound ts → (P → HasEvenSemantics ts) → IsAgainWhere P (λ us. SpellsSections us all) ts (flat_map section_tokens all)
+sections_again items.none s even = record { replaced = anywhere nothing; spelled = items.none }
+sections_again {P = P} (items.semantics {ys = ys} xs balanced rest whole) s even =
     let t = subst AreSound whole s in
-    let u = subst HasEvenSemantics whole even in
-    let closed = even_of_closed xs (u [] xs ys refl balanced) in
-    let section = even_plain {t = word keywords.Semantics} (λ n. refl) (even_within (mark signs.OpenBrace) (mark signs.CloseBrace) (λ n. refl) (λ n. refl) closed even_none) in
-    let h = sections_again rest (sound_back (braced keywords.Semantics xs) ys t) (even_back (braced keywords.Semantics xs) ys u) in
-    record { replaced = spelled_so whole (left_out section h.replaced); spelled = h.spelled }
-sections_again (items.some {ys = ys} {a = a} xs d rest whole) s even =
+    let u : P → HasEvenSemantics (braced keywords.Semantics xs ++ ys) = λ p. subst HasEvenSemantics whole (even p) in
+    let h = sections_again {P = P} rest (sound_back (braced keywords.Semantics xs) ys t) (λ p. even_back (braced keywords.Semantics xs) ys (u p)) in
+    record { replaced = where_so whole (left_out_where (λ p. even_section xs ys (u p) balanced) h.replaced); spelled = h.spelled }
+sections_again {P = P} (items.some {ys = ys} {a = a} xs d rest whole) s even =
     let t = subst AreSound whole s in
-    let u = subst HasEvenSemantics whole even in
     let h = section_again xs a d (sound_front xs ys t) in
-    let k = sections_again rest (sound_back xs ys t) (even_back xs ys u) in
-    record { replaced = spelled_so whole (joined h.replaced k.replaced); spelled = items.some (section_tokens a) h.spelled k.spelled refl }
+    let k = sections_again {P = P} rest (sound_back xs ys t) (λ p. even_back xs ys (subst HasEvenSemantics whole (even p))) in
+    record { replaced = where_so whole (joined_where (anywhere h.replaced) k.replaced); spelled = items.some (section_tokens a) h.spelled k.spelled refl }
 
 -- ---- operations and descriptions
 
@@ -319,41 +326,43 @@ stage_again : (stage : Option (List ℕ × List ℕ)) → AreSound (stage_tokens
 stage_again None s = nothing
 stage_again (Some stage) s = behind (λ n. refl) s.0 (behind (λ n. refl) s.1.0 (behind (λ n. refl) (sound_sign signs.Dot) (one (λ n. refl) s.1.1.1.0)))
 
-operation_again : {ts : Toks} (o : OperationTree) → SpellsOperation ts o → AreSound ts → HasEvenSemantics ts → IsAgain (λ us. SpellsOperation us o) ts (operation_tokens o)
-operation_again o (xs, d, whole) s even =
+operation_again : {P : Type 0} {ts : Toks} (o : OperationTree) → SpellsOperation ts o → AreSound ts → (P → HasEvenSemantics ts) → IsAgainWhere P (λ us. SpellsOperation us o) ts (operation_tokens o)
+operation_again {P = P} o (xs, d, whole) s even =
     let body : Toks = mark signs.OpenBrace ∷ (xs ++ mark signs.CloseBrace ∷ []) in
     let head : Toks = word keywords.Operation ∷ parts.Named o.name ∷ (stage_tokens o.stage ++ body) in
     let t = sound_back (alias_tokens o.alias) head (subst AreSound whole s) in
-    let u = even_back (alias_tokens o.alias) head (subst HasEvenSemantics whole even) in
-    let u' = even_back (stage_tokens o.stage) body (even_back (word keywords.Operation ∷ parts.Named o.name ∷ []) (stage_tokens o.stage ++ body) u) in
     let inside = (sound_back (stage_tokens o.stage) body t.1.1).1 in
-    let h = sections_again d (sound_front xs (mark signs.CloseBrace ∷ []) inside)
-    (even_front xs (mark signs.CloseBrace ∷ []) (even_back (mark signs.OpenBrace ∷ []) (xs ++ mark signs.CloseBrace ∷ []) u')) in
+    let u : P → HasEvenSemantics xs = λ p.
+    even_front xs (mark signs.CloseBrace ∷ [])
+    (even_back (mark signs.OpenBrace ∷ []) (xs ++ mark signs.CloseBrace ∷ [])
+    (even_back (stage_tokens o.stage) body
+    (even_back (word keywords.Operation ∷ parts.Named o.name ∷ []) (stage_tokens o.stage ++ body) (even_back (alias_tokens o.alias) head (subst HasEvenSemantics whole (even p)))))) in
+    let h = sections_again {P = P} d (sound_front xs (mark signs.CloseBrace ∷ []) inside) u in
+    let named : Replaces (word keywords.Operation ∷ parts.Named o.name ∷ []) (word keywords.Operation ∷ parts.Named o.name ∷ []) = behind (λ n. refl) (sound_word keywords.Operation) (one (λ n. refl) t.1.0) in
     record {
-      replaced = spelled_so whole
-          (joined (alias_again o.alias) (behind (λ n. refl) (sound_word keywords.Operation) (behind (λ n. refl) t.1.0
-          (joined (stage_again o.stage (sound_front (stage_tokens o.stage) body t.1.1)) (in_braces h.replaced nothing)))));
+      replaced = where_so whole
+          (joined_where (anywhere (alias_again o.alias))
+          (joined_where (anywhere named) (joined_where (anywhere (stage_again o.stage (sound_front (stage_tokens o.stage) body t.1.1))) (braces_where h.replaced))));
       spelled = (flat_map section_tokens o.sections, h.spelled, refl);
     }
 
-operations_again : {ts : Toks} {all : List OperationTree} → Each SpellsOperation ts all → AreSound ts → HasEvenSemantics ts → IsAgain (λ us. Each SpellsOperation us all) ts (flat_map operation_tokens all)
-operations_again items.none s even = record { replaced = nothing; spelled = items.none }
-operations_again (items.some {xs = xs} {ys = ys} {a = a} d rest whole) s even =
+operations_again : {P : Type 0} {ts : Toks} {all : List OperationTree} → Each SpellsOperation ts all → AreSound ts → (P → HasEvenSemantics ts) → IsAgainWhere P (λ us. Each SpellsOperation us all) ts (flat_map operation_tokens all)
+operations_again items.none s even = record { replaced = anywhere nothing; spelled = items.none }
+operations_again {P = P} (items.some {xs = xs} {ys = ys} {a = a} d rest whole) s even =
     let t = subst AreSound whole s in
-    let u = subst HasEvenSemantics whole even in
-    let h = operation_again a d (sound_front xs ys t) (even_front xs ys u) in
-    let k = operations_again rest (sound_back xs ys t) (even_back xs ys u) in
-    record { replaced = spelled_so whole (joined h.replaced k.replaced); spelled = items.some h.spelled k.spelled refl }
+    let u : P → HasEvenSemantics (xs ++ ys) = λ p. subst HasEvenSemantics whole (even p) in
+    let h = operation_again {P = P} a d (sound_front xs ys t) (λ p. even_front xs ys (u p)) in
+    let k = operations_again {P = P} rest (sound_back xs ys t) (λ p. even_back xs ys (u p)) in
+    record { replaced = where_so whole (joined_where h.replaced k.replaced); spelled = items.some h.spelled k.spelled refl }
 
-pub description_again : {ts : Toks} {d : DescriptionTree} → SpellsDescription ts d → AreSound ts → HasEvenSemantics ts → IsAgain (λ us. SpellsDescription us d) ts (description_tokens d)
-description_again {d = d} x s even =
+pub description_again : {ts : Toks} {d : DescriptionTree} → SpellsDescription ts d → AreSound ts → IsAgainWhere (HasEvenSemantics ts) (λ us. SpellsDescription us d) ts (description_tokens d)
+description_again {ts = ts} {d = d} x s =
     let front : Toks = braced keywords.Resource x.resource_part in
     let t = subst AreSound x.whole s in
-    let u = subst HasEvenSemantics x.whole even in
     let h = each_again SpellsResource resource_tokens resource_again x.spells_resources (inner keywords.Resource x.resource_part (sound_front front x.operation_part t)) in
-    let k = operations_again x.spells_operations (sound_back front x.operation_part t) (even_back front x.operation_part u) in
+    let k = operations_again {P = HasEvenSemantics ts} x.spells_operations (sound_back front x.operation_part t) (λ p. even_back front x.operation_part (subst HasEvenSemantics x.whole p)) in
     record {
-      replaced = spelled_so x.whole (joined (braced_again keywords.Resource h.replaced) k.replaced);
+      replaced = where_so x.whole (joined_where (anywhere (braced_again keywords.Resource h.replaced)) k.replaced);
       spelled = record {
         resource_part = flat_map resource_tokens d.resources;
         operation_part = flat_map operation_tokens d.operations;

@@ -71,3 +71,29 @@ added p s k = record { high = k.high; low = k.low; even = k.even; kept = even_pl
 -- the same tokens by another name
 pub spelled_so : {ts ts' us : Toks} → ts ≡ ts' → Replaces ts' us → Replaces ts us
 spelled_so {us = us} e h = subst (λ (l : Toks). Replaces l us) (sym e) h
+
+-- ---- where something holds
+
+-- they are sound, and stand in the place of others where this holds
+pub record ReplacesWhere (P : Type 0) (ts us : Toks) : Type 0 where
+  pub sound : AreSound us
+  pub replaces : P → Replaces ts us
+
+pub anywhere : {P : Type 0} {ts us : Toks} → Replaces ts us → ReplacesWhere P ts us
+anywhere h = record { sound = h.sound; replaces = λ p. h }
+
+pub joined_where : {P : Type 0} {xs xs' ys ys' : Toks} → ReplacesWhere P xs xs' → ReplacesWhere P ys ys' → ReplacesWhere P (xs ++ ys) (xs' ++ ys')
+joined_where {xs' = xs'} {ys' = ys'} h k = record { sound = AreSound-append xs' ys' h.sound k.sound; replaces = λ p. joined (h.replaces p) (k.replaces p) }
+
+pub braces_where : {P : Type 0} {xs xs' : Toks} → ReplacesWhere P xs xs'
+    → ReplacesWhere P (mark signs.OpenBrace ∷ (xs ++ (mark signs.CloseBrace ∷ []))) (mark signs.OpenBrace ∷ (xs' ++ (mark signs.CloseBrace ∷ [])))
+braces_where {xs' = xs'} h = record {
+  sound = (sound_sign signs.OpenBrace, AreSound-append xs' (mark signs.CloseBrace ∷ []) h.sound (sound_sign signs.CloseBrace, tt));
+  replaces = λ p. in_braces (h.replaces p) nothing;
+}
+
+pub left_out_where : {P : Type 0} {xs ys ys' : Toks} {h : ℕ} → (P → IsEven xs h) → ReplacesWhere P ys ys' → ReplacesWhere P (xs ++ ys) ys'
+left_out_where e k = record { sound = k.sound; replaces = λ p. left_out (e p) (k.replaces p) }
+
+pub where_so : {P : Type 0} {ts ts' us : Toks} → ts ≡ ts' → ReplacesWhere P ts' us → ReplacesWhere P ts us
+where_so {P = P} {us = us} e h = subst (λ (l : Toks). ReplacesWhere P l us) (sym e) h

@@ -5,7 +5,8 @@ ghost use Rattle.std.specs.Prelude.{◌≡◌, ◌≤◌, ◌∷◌, ◌++◌, [
 ghost use Rattle.lisa_tree.specs.declared.tokens.Sign.TheVariants as signs;
 ghost use Rattle.lisa_tree.specs.declared.tokens.TokenPart.TheVariants as parts;
 ghost use Rattle.lisa_tree.specs.Grammar.{mark};
-ghost use Rattle.lisa_tree.specs.Operators.{sign_of, level_of};
+ghost use Rattle.lisa_tree.specs.Operators.{sign_of};
+ghost use Rattle.operators.specs.Operators.{level_of};
 ghost use Rattle.lisa_tree.specs.Expressions.{Boundary, expr_tree};
 ghost use Rattle.lisa_printer.specs.CanonicalTokens.{own_level, bare_tokens, expr_tokens};
 ghost use Rattle.lisa_printer.specs.Sheets.{write_all};
@@ -16,25 +17,8 @@ use crate::tokens::{
 };
 use lisa_tree::{Base, BoundaryField, Expr, Keyword, Operator, Sign};
 use lisa_words::{Name, NoMemory};
+use operators::level;
 use std::alloc::Global;
-
-fn level(operator: Operator) -> u8
-    ensures value { result ≡ level_of operator }
-    ensures few { result ≤ 10 }
-{
-    match operator {
-        Operator::OneTrue => 1,
-        Operator::BothTrue => 2,
-        Operator::Or => 3,
-        Operator::Xor => 4,
-        Operator::And => 5,
-        Operator::Equal | Operator::Unequal => 6,
-        Operator::Less | Operator::LessEqual | Operator::Greater | Operator::GreaterEqual => 7,
-        Operator::Left | Operator::Right => 8,
-        Operator::Add | Operator::Sub => 9,
-        Operator::Mul => 10,
-    }
-}
 
 fn sign(operator: Operator) -> Sign
     ensures { result ≡ sign_of operator }

@@ -1,5 +1,5 @@
 -- Bytes, tokens and the description that they spell.
-use Rattle.std.proofs.Common.{◌≡◌, ℕ, ◌+◌, ◌<◌, ◌≤◌, List, [], ◌∷◌, ◌++◌, length, get_or, Option, Some, None, refl, sym, ap, subst, ◌∙◌, arith, ◌⊎◌, inl, inr}
+use Rattle.std.proofs.Common.{◌≡◌, ℕ, zero, suc, ◌+◌, ◌<◌, ◌≤◌, List, [], ◌∷◌, ◌++◌, length, get_or, Option, Some, None, refl, sym, ap, subst, ◌∙◌, arith, ◌⊎◌, inl, inr}
 use Rattle.std.proofs.lemmas.Bool.{cases_lt}
 use Rattle.std.proofs.lemmas.List.{length-append, length-map}
 use Rattle.std.proofs.lemmas.Option.{slice_get_read}
@@ -7,19 +7,21 @@ use Rattle.std.specs.List.{slice_get}
 use Rattle.lisa_tree.specs.declared.faults.DescFault.{DescFault}
 use Rattle.lisa_tree.specs.declared.faults.DescFault.TheVariants as faults
 use Rattle.lisa_tree.specs.declared.tokens.Token.{Token}
-use Rattle.lisa_tree.specs.Brackets.{IsTooDeep, IsFlat}
+use Rattle.lisa_tree.specs.declared.tokens.TokenPart.{TokenPart}
+use Rattle.lisa_tree.specs.Brackets.{open_at, IsTooDeep, IsFlat}
 use Rattle.lisa_tree.specs.Descriptions.{DescriptionTree}
 use Rattle.lisa_tree.specs.Texts.{SpellsText}
 use Rattle.lisa_tree.specs.Tokens as tokens
 use Rattle.lisa_tree.specs.Tokens.{Lexes, Breaks, toks}
 use Rattle.text_scan.proofs.StepLaws.{some_is}
 use Rattle.lisa_lexer.specs.Answers.{IsFirst}
-use Rattle.lisa_lexer.proofs.Lexed.{lexes_same, lexes_whole, breaks_same}
+use Rattle.lisa_lexer.specs.Answers as lexer
+use Rattle.lisa_lexer.proofs.Lexed.{lexes_same, lexes_whole, breaks_same, has_outcome as has_tokens}
 use Rattle.lisa_behav_reader.specs.declared.misses.Missed.{Missed}
 use Rattle.lisa_behav_reader.specs.declared.misses.Missed.TheVariants as misses
 use Rattle.lisa_behav_reader.specs.Gives.{Fails}
 use Rattle.lisa_behav_reader.specs.Places.{IsPlace}
-use Rattle.lisa_reader.specs.Answers.{AreFlat, IsBroken, broken_token, too_deep, spells_none, IsSameFault}
+use Rattle.lisa_reader.specs.Answers.{AreFlat, IsBroken, broken_token, too_deep, spells_none, HasOutcome, spells, breaks, IsSameFault}
 use Rattle.lisa_reader.specs.Reading.{description_of}
 use Rattle.lisa_reader.proofs.DescriptionLaws.{description_sound, description_there}
 
@@ -100,6 +102,45 @@ one_fault bytes _ _ (too_deep {ts = ts} {i = i} l deep there) (spells_none flat 
 one_fault bytes _ g (spells_none flat none le) (broken_token b) = absurd (lexes_whole flat.lexes b)
 one_fault bytes _ _ (spells_none flat none le) (too_deep {ts = ts} {i = i} l deep there) = absurd (not_flat bytes ts l i deep (flat_tokens bytes ts l flat.tokens flat.lexes flat.flat))
 one_fault bytes _ _ (spells_none flat none le) (spells_none other nothing ge) = tt
+
+-- ---- and each text has one or the other
+
+-- among so many tokens one is the first that is too deep, or none is too deep
+deep_or_flat : (ts : List TokenPart) (k : ℕ) → k ≤ length ts → ((i : ℕ) × IsTooDeep ts i) ⊎ ((j : ℕ) → j < k → open_at ts j ≤ 64)
+deep_or_flat ts zero le = inr (λ j lt. absurd (omega (arith, lt)))
+deep_or_flat ts (suc k) le = go (deep_or_flat ts k (omega (arith, le))) (cases_lt 64 (open_at ts k))
+  where
+    go : (((i : ℕ) × IsTooDeep ts i) ⊎ ((j : ℕ) → j < k → open_at ts j ≤ 64)) → ((64 < open_at ts k) ⊎ (open_at ts k ≤ 64)) → ((i : ℕ) × IsTooDeep ts i) ⊎ ((j : ℕ) → j < suc k → open_at ts j ≤ 64)
+    go (inl there) here = inl there
+    go (inr below) (inl deep) = inl (k, record { within = omega (arith, le); deep = deep; first = below })
+    go (inr below) (inr flat) = inr (λ j lt. up_to j lt)
+      where
+        up_to : (j : ℕ) → j < suc k → open_at ts j ≤ 64
+        up_to j lt = elim (cases_lt j k) [
+          | inl less ↦ below j less
+          | inr ge ↦ let same : k ≡ j = omega (arith, lt, ge) in subst (λ (i : ℕ). open_at ts i ≤ 64) same flat
+        ]
+
+one_there : (ts : List Token) (i : ℕ) → i < length ts → (t : Token) × (slice_get ts i ≡ Some t)
+one_there [] i lt = absurd (omega (arith, lt))
+one_there (t ∷ ts) zero lt = (t, refl)
+one_there (t ∷ ts) (suc i) lt = one_there ts i (omega (arith, lt))
+
+pub has_outcome : (bytes : List ℕ) → HasOutcome bytes
+has_outcome bytes = by_tokens (has_tokens bytes)
+  where
+    by_tree : (ts : List Token) → Lexes 0 bytes ts → IsFlat (toks ts) → (read : Option DescriptionTree) → description_of (toks ts) ≡ read → HasOutcome bytes
+    by_tree ts l flat (Some d) e = spells d (found bytes ts l d flat e)
+    by_tree ts l flat None e = breaks (faults.NotADescription 0) (spells_none (record { tokens = ts; lexes = l; flat = flat }) (not_none bytes ts l e) (omega arith))
+
+    by_depth : (ts : List Token) → Lexes 0 bytes ts → (((i : ℕ) × IsTooDeep (toks ts) i) ⊎ ((j : ℕ) → j < length (toks ts) → open_at (toks ts) j ≤ 64)) → HasOutcome bytes
+    by_depth ts l (inl (i, deep)) =
+        let there = one_there ts i (omega (arith, deep.within, length-map ts (λ (x : Token). x.part))) in breaks (faults.TooDeep there.0.at) (too_deep l deep there.1)
+    by_depth ts l (inr flat) = by_tree ts l flat (description_of (toks ts)) refl
+
+    by_tokens : lexer.HasOutcome bytes → HasOutcome bytes
+    by_tokens (lexer.lexes ts l) = by_depth ts l (deep_or_flat (toks ts) (length (toks ts)) (omega arith))
+    by_tokens (lexer.breaks fault b) = breaks fault (broken_token b)
 
 -- ---- what is answered
 

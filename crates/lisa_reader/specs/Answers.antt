@@ -23,6 +23,11 @@ pub data IsBroken (bytes : List ℕ) : DescFault → Type 0 where
   -- the tokens spell no description of depth at most 128; the place is only bounded, by the number of bytes
   spells_none : {at : ℕ} → AreFlat bytes → ((d : DescriptionTree) → ¬ SpellsText bytes d) → at ≤ length bytes → IsBroken bytes (faults.NotADescription at)
 
+-- the bytes spell some description, or have some fault
+pub data HasOutcome (bytes : List ℕ) : Type 0 where
+  spells : (d : DescriptionTree) → SpellsText bytes d → HasOutcome bytes
+  breaks : (fault : DescFault) → IsBroken bytes fault → HasOutcome bytes
+
 -- the same fault, apart from the place of one that is only bounded
 abbrev pub IsSameFault : DescFault → DescFault → Type 0
 IsSameFault (faults.NotADescription at) (faults.NotADescription place) = Unit {0}

@@ -1,5 +1,8 @@
-use Rattle.lisa_reader.proofs.ByteLaws.{one_description, spelled_unbroken, one_fault}
+use Rattle.lisa_reader.proofs.ByteLaws.{one_description, spelled_unbroken, one_fault, has_outcome}
 use Rattle.lisa_reader.proofs.laws.descriptions_are_unique.Goals as goal
+
+pub returns-clause-some : goal.returns-clause-some
+returns-clause-some c = has_outcome c.args.bytes.now
 
 pub returns-clause-one : goal.returns-clause-one
 returns-clause-one c = λ d e s t. one_description c.args.bytes.now d e s t

@@ -60,7 +60,7 @@ returns-clause-came g c =
     = subst (λ items. All (λ change. change.item < length items) entry.changes.items) items_are c.in_ok-changes.ensures.places in
     let over : LeadsOver course (length c.args.self.now.journal.entries.items) entry
     = leads_over course now (g.E.Engine.present c.args.self.now.engine) (g.E.Engine.present c.advance-next.new.engine) (g.E.Engine.touch_list c.advance-next.new.engine) (length c.args.self.now.journal.entries.items) c.advance-next.new.row entry
-    made c.requires.live.now (g.met.E.Engine.shaped c.args.self.now.engine) (c.in_ok-changes.ensures.back ∙ row_is) (c.in_ok-touches.ensures.items ∙ c.touched.ensures) places in
+    made c.requires.live.now (c.in_ok-changes.ensures.back ∙ row_is) (c.in_ok-touches.ensures.items ∙ c.touched.ensures) places in
     live_more entry c.requires.live made over c.requires.limit c.in_ok-push.ensures.items
     (ap length (kept_items c.args.self.now.journal.row.len c.advance-next.new.row c.args.self.now.journal.row.items row_long) ∙ row_total)
     (ap length (kept_items c.args.self.now.journal.pins.len c.advance-next.new.pins c.args.self.now.journal.pins.items pins_long) ∙ pins_total)

@@ -40,10 +40,10 @@ retreat-requires g c =
     let given_is : c.deref-2.result.now ≡ restored c.in-Some.entry.changes.items (g.E.Engine.present c.args.self.now.engine).items
     = c.deref-2.ensures.value ∙ kept_items c.args.self.now.journal.row.len c.restore.new.row _ restored_long ∙ c.restore.ensures
     ∙ (λ i. restored (c.deref.ensures.value i) ((row_is ∙ c.keep_row.ensures) i)) in
-    let takes : TakesBack (g.E.Engine.pin_list c.args.self.now.engine) (g.E.Engine.item_list c.args.self.now.engine) (g.E.Engine.array_list c.args.self.now.engine) (g.E.Engine.defined c.args.self.now.engine)
+    let takes : TakesBack (g.E.Engine.pin_list c.args.self.now.engine) (g.E.Engine.array_list c.args.self.now.engine) (g.E.Engine.defined c.args.self.now.engine)
     (g.E.Engine.present c.args.self.now.engine) c.deref-2.result.now c.deref-3.result.now (entries_to (course_of (g.E.Engine.pin_list c.args.self.now.engine) (g.E.Engine.item_list c.args.self.now.engine) (g.E.Engine.array_list c.args.self.now.engine) (g.E.Engine.defined c.args.self.now.engine) c.args.self.now.schedule) (length c.args.self.now.journal.entries.items - 1))
     (pins_at (length (g.E.Engine.pin_list c.args.self.now.engine)) c.args.self.now.schedule (suc (length c.args.self.now.journal.entries.items - 1)))
-    = subst (λ ts. TakesBack (g.E.Engine.pin_list c.args.self.now.engine) (g.E.Engine.item_list c.args.self.now.engine) (g.E.Engine.array_list c.args.self.now.engine) (g.E.Engine.defined c.args.self.now.engine)
+    = subst (λ ts. TakesBack (g.E.Engine.pin_list c.args.self.now.engine) (g.E.Engine.array_list c.args.self.now.engine) (g.E.Engine.defined c.args.self.now.engine)
     (g.E.Engine.present c.args.self.now.engine) c.deref-2.result.now ts (entries_to (course_of (g.E.Engine.pin_list c.args.self.now.engine) (g.E.Engine.item_list c.args.self.now.engine) (g.E.Engine.array_list c.args.self.now.engine) (g.E.Engine.defined c.args.self.now.engine) c.args.self.now.schedule) (length c.args.self.now.journal.entries.items - 1))
     (pins_at (length (g.E.Engine.pin_list c.args.self.now.engine)) c.args.self.now.schedule (suc (length c.args.self.now.journal.entries.items - 1))))
     (sym c.deref-3.ensures.value) (may_retreat c.deref-2.result.now c.in-Some.entry c.requires.live c.requires.some last given_is) in
@@ -60,10 +60,10 @@ returns g c =
     let given_is : c.deref-2.result.now ≡ restored c.in-Some.entry.changes.items (g.E.Engine.present c.args.self.now.engine).items
     = c.deref-2.ensures.value ∙ kept_items c.args.self.now.journal.row.len c.restore.new.row _ restored_long ∙ c.restore.ensures
     ∙ (λ i. restored (c.deref.ensures.value i) ((row_is ∙ c.keep_row.ensures) i)) in
-    let takes : TakesBack (g.E.Engine.pin_list c.args.self.now.engine) (g.E.Engine.item_list c.args.self.now.engine) (g.E.Engine.array_list c.args.self.now.engine) (g.E.Engine.defined c.args.self.now.engine)
+    let takes : TakesBack (g.E.Engine.pin_list c.args.self.now.engine) (g.E.Engine.array_list c.args.self.now.engine) (g.E.Engine.defined c.args.self.now.engine)
     (g.E.Engine.present c.args.self.now.engine) c.deref-2.result.now c.deref-3.result.now (entries_to (course_of (g.E.Engine.pin_list c.args.self.now.engine) (g.E.Engine.item_list c.args.self.now.engine) (g.E.Engine.array_list c.args.self.now.engine) (g.E.Engine.defined c.args.self.now.engine) c.args.self.now.schedule) (length c.args.self.now.journal.entries.items - 1))
     (pins_at (length (g.E.Engine.pin_list c.args.self.now.engine)) c.args.self.now.schedule (suc (length c.args.self.now.journal.entries.items - 1)))
-    = subst (λ ts. TakesBack (g.E.Engine.pin_list c.args.self.now.engine) (g.E.Engine.item_list c.args.self.now.engine) (g.E.Engine.array_list c.args.self.now.engine) (g.E.Engine.defined c.args.self.now.engine)
+    = subst (λ ts. TakesBack (g.E.Engine.pin_list c.args.self.now.engine) (g.E.Engine.array_list c.args.self.now.engine) (g.E.Engine.defined c.args.self.now.engine)
     (g.E.Engine.present c.args.self.now.engine) c.deref-2.result.now ts (entries_to (course_of (g.E.Engine.pin_list c.args.self.now.engine) (g.E.Engine.item_list c.args.self.now.engine) (g.E.Engine.array_list c.args.self.now.engine) (g.E.Engine.defined c.args.self.now.engine) c.args.self.now.schedule) (length c.args.self.now.journal.entries.items - 1))
     (pins_at (length (g.E.Engine.pin_list c.args.self.now.engine)) c.args.self.now.schedule (suc (length c.args.self.now.journal.entries.items - 1))))
     (sym c.deref-3.ensures.value) (may_retreat c.deref-2.result.now c.in-Some.entry c.requires.live c.requires.some last given_is) in
