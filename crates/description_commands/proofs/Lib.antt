@@ -3,6 +3,7 @@ mod Fitting
 mod Faulty
 mod PinCounts
 mod ThinTasks
+mod ThinShapes
 pub mod Stopped
 mod Accepting
 mod Settling

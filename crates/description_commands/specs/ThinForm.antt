@@ -3,7 +3,7 @@ use Rattle.std.specs.Prelude.{ℕ, zero, suc, ◌<◌, ◌≤◌, ◌≡◌, ◌
 use Rattle.lisa_words.specs.declared.words.Kind.TheVariants.{Unsigned}
 use Rattle.lisa_words.specs.Words.{word_add}
 use Rattle.lisa_tree.specs.declared.tokens.Base.TheVariants as bases
-use Rattle.lisa_tree.specs.declared.expressions.Operator.TheVariants as operators
+use Rattle.operators.specs.declared.binary.Operator.TheVariants as operators
 use Rattle.lisa_tree.specs.declared.descriptions.RegisterWord.TheVariants as registers
 use Rattle.lisa_tree.specs.Expressions as expressions
 use Rattle.lisa_tree.specs.Statements as statements

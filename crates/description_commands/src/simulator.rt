@@ -1,11 +1,11 @@
 //! The simulator of a thin description.
-ghost use Rattle.std.specs.Prelude.{◌≡◌, ◌<◌, ◌∷◌, [], length, map, IfOk};
+ghost use Rattle.std.specs.Prelude.{◌≡◌, ◌<◌, ◌∷◌, [], ℕ, List, length, map, IfOk};
 ghost use Rattle.description_commands.specs.ThinForm.{thin_items, thin_value};
 ghost use Rattle.description_commands.specs.ThinView.{thin_of};
 ghost use Rattle.description_commands.specs.ThinRuns.{thin_machine};
 ghost use Rattle.description_commands.specs.ThinStates.{state_with};
 ghost use Rattle.engine_commands.specs.Machines.{machine_of};
-ghost use Rattle.lisa_engine.specs.Shape.{IsShaped, HaveDistinctNames};
+ghost use Rattle.lisa_engine.specs.Shape.{IsShaped, HaveWidths, HaveDistinctNames};
 
 use crate::parts::ThinParts;
 use lisa_engine::{ArrayItem, Engine, Item, Touch};
@@ -23,6 +23,8 @@ pub struct Simulator<'a> {
     ghost width: { now.width ≡ thin.now.width },
     ghost item: { items.items ≡ thin_items (thin_of thin.now) },
     ghost shape: { IsShaped items.items arrays.items (state_with now.bits (map (λ c. c.items) cells.items)) },
+    ghost shapes: { (l : List (List ℕ)) → IsShaped items.items arrays.items (state_with (thin_value (thin_of thin.now) (length l)) (map (λ c. c.items) cells.items)) },
+    ghost sizes: { HaveWidths items.items arrays.items [] },
     ghost names: { HaveDistinctNames items.items arrays.items [] },
 }
 
@@ -117,6 +119,10 @@ impl<'a> Engine for Simulator<'a> {
     }
 
     ghost shaped = { λ s. s.shape };
+
+    ghost defined_shaped = { λ s l _. s.shapes l };
+
+    ghost sized = { λ s. s.sizes };
 
     ghost named = { λ s. s.names };
 }

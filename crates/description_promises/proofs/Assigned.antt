@@ -43,7 +43,7 @@ use Rattle.description_promises.specs.Ranks.{Ranks}
 use Rattle.description_promises.specs.Assigning.{IsPlace, register, element, declared}
 use Rattle.description_promises.proofs.Among.{free_place}
 use Rattle.description_promises.proofs.Standing.{expression_stand}
-use Rattle.description_promises.proofs.Decoding.{off_right, is_found, is_right_first, position_there}
+use Rattle.description_promises.proofs.Decoding.{off_right, is_found, is_right, position_there}
 use Rattle.description_promises.proofs.Named.{what_is}
 use Rattle.description_promises.proofs.Choosing.{rightly_declared}
 use Rattle.description_promises.proofs.Chosen.{IsSome, in_here, in_later, none_open, together_some, merged_only, known_only, closed_known, plain_listed}
@@ -347,10 +347,10 @@ module _ (d : DescriptionTree) (known : Known) (kinds : AreKinds d known) (names
     value_some : (e : ExprTree) → AllStand d (uses o regions.Expression [] e) → IsSome (value_assignable known.assignables d o e)
     value_some (exprs.Named n) s =
         let here = s (at o regions.Expression [] (places.Reads n)) (inl refl) in
-        name_some n (is_found (name_at d o) (is_known d o [] n) n (free_place (unknown d) d stand _ here)) (is_right_first (name_at d o) (is_misread known d o n None) n (free_place (wrong_kind known d) d uses_free _ here))
+        name_some n (is_found (name_at d o) (is_known d o [] n) n (free_place (unknown d) d stand _ here)) (is_right (name_at d o) (is_misread known d o n None) n (free_place (wrong_kind known d) d uses_free _ here))
     value_some (exprs.Element n index) s =
         let here = s (at o regions.Expression [] (places.ReadsElement n)) (inl refl) in
-        element_some n (is_found (name_at d o) (is_known d o [] n) n (free_place (unknown d) d stand _ here)) (is_right_first (name_at d o) (is_misindexed known d o n None) n (free_place (wrong_kind known d) d uses_free _ here))
+        element_some n (is_found (name_at d o) (is_known d o [] n) n (free_place (unknown d) d stand _ here)) (is_right (name_at d o) (is_misindexed known d o n None) n (free_place (wrong_kind known d) d uses_free _ here))
     value_some (exprs.Number v base) s = (_, refl)
     value_some (exprs.Input field) s = (_, refl)
     value_some (exprs.Output field) s = (_, refl)
@@ -380,7 +380,7 @@ module _ (d : DescriptionTree) (known : Known) (kinds : AreKinds d known) (names
 
   pub written : (ranks : Ranks d) (o : ℕ) (region : Region) (scope : Scope) (n : List ℕ) → Stands d (at o region scope (places.Writes n)) → local_named n scope ≡ None → (i : ℕ) → declared_at d o n ≡ Some i → known.assignables (entry_node d i) ≡ Some assigns.Yes
   written ranks o region scope n s no_local i at =
-      let e : is_miswritten known d o n (local_named n scope) ≡ false = is_right_first (owner_name d o region) (is_miswritten known d o n (local_named n scope)) n (free_place (wrong_kind known d) d uses_free _ s) in
+      let e : is_miswritten known d o n (local_named n scope) ≡ false = is_right (owner_name d o region) (is_miswritten known d o n (local_named n scope)) n (free_place (wrong_kind known d) d uses_free _ s) in
       let f : meant_miswritten known d (meaning d o n) ≡ false = ap (is_miswritten known d o n) (sym no_local) ∙ e in
       let g : meant_miswritten known d (meanings.Declared i) ≡ false = ap (λ (r : Option ℕ). meant_miswritten known d (meaning_of r (resource_at d n))) (sym at) ∙ f in
       let off : known.unassignable i ≡ false = off_right (is_apart (known.traits i)) (known.unassignable i) (off_right (known.typeless i) _ g) in

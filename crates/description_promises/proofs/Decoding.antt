@@ -64,10 +64,6 @@ not_faulty true n e = absurd (cc e)
 pub is_right : (o : List ℕ) (b : Bool) (n : List ℕ) → told o (faulty b n) ≡ None → b ≡ false
 is_right o b n e = not_faulty b n (no_name o (faulty b n) e)
 
--- the same, where the name is the first of two
-pub is_right_first : (o : List ℕ) (b : Bool) (n : List ℕ) → told o (option_or (faulty b n) None) ≡ None → b ≡ false
-is_right_first o b n e = not_faulty b n (or_left (faulty b n) None (no_name o (option_or (faulty b n) None) e))
-
 pub width_is : (n : List ℕ) (width : ℕ) → width_fault n width ≡ None → (1 ≤ width) × (width ≤ 64)
 width_is n width e = by (nat_le 1 width) (nat_le width 64) refl refl e
   where

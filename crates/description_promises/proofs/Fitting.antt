@@ -218,7 +218,7 @@ module _ (d : DescriptionTree) (known : Known) (stand : IsFree (unknown d) d) (u
       let found : stands d o group ≡ true = is_found (name_at d o) (stands d o group) group (or_right (register_unknown d o register) (part_unknown d o group) u) in
       let right = not_faulty (is_wrong_root_group known d (meaning d o group)) group (or_right (register_name known d o register) (faulty (is_wrong_root_group known d (meaning d o group)) group) w) in
       let r = rightly d o group (is_wrong_root_group known d) (λ k. refl) found right in
-      let g = sort_group d r.number (known.traits r.number).rooted true r.right refl in (
+      let g = sort_group d r.number (known.traits r.number).listed_rooted true r.right refl in (
         word_fits o register (or_left (register_unknown d o register) (part_unknown d o group) u) (or_left (register_name known d o register) (faulty (is_wrong_root_group known d (meaning d o group)) group) w),
         (g.0, record { number = r.number; declared = r.declared; is = g.1 }),
       )

@@ -2,7 +2,7 @@
 use Rattle.std.proofs.Common.{◌≡◌, ◌⊎◌, ◌<◌, ◌+◌, ◌||◌, ◌&&◌, ℕ, List, [], ◌∷◌, Option, None, Some, Bool, true, false, cond, not, nat_eq, nat_le, length, refl, sym, ap, ◌∙◌, arith, inl, inr, ⊎_elim}
 use Rattle.std.specs.Prelude.{slice_get}
 use Rattle.std.specs.Int.{is_power_of_two}
-use Rattle.std.specs.Option.{is_some, option_or}
+use Rattle.std.specs.Option.{is_some}
 use Rattle.std.specs.List.{AllByRecursion}
 use Rattle.std.proofs.lemmas.Bool.{and_parts, eqb-true, eq-eqb, leb-true, cases_lt}
 use Rattle.std.proofs.lemmas.Option.{slice_get_within}
@@ -42,7 +42,7 @@ use Rattle.description_promises.specs.Codings.{IsInput}
 use Rattle.description_promises.specs.Resolving.{IsValue, Readable, reads_local, reads_word, reads_value, Writable, writes_local, writes_register, writes_value, IsArray, IsOutput, IsBoundary, TellsDecoded, IsWidth, IsDepth, FitsDepth, FitsResource}
 use Rattle.description_promises.proofs.Among.{free_place}
 use Rattle.description_promises.proofs.Standing.{resource_stands}
-use Rattle.description_promises.proofs.Decoding.{off_left, not_off, or_left, or_right, some_of, is_found, is_right_first, no_name, not_faulty, width_is, position_there}
+use Rattle.description_promises.proofs.Decoding.{off_left, not_off, or_left, or_right, some_of, is_found, is_right, no_name, not_faulty, width_is, position_there}
 use Rattle.description_promises.proofs.Fitting.{input_of}
 use Rattle.description_promises.proofs.Typing.{HasShape, typed_of, word_of, element_of, all_declared, entry_there, some_type}
 
@@ -91,25 +91,25 @@ module _ (d : DescriptionTree) where
     pub read_element : (o : ℕ) (region : Region) (scope : Scope) (n : List ℕ) → Stands d (at o region scope (places.ReadsElement n)) → IsArray d o scope n
     read_element o region scope n s =
         array_is o scope n (is_found (name_at d o) (is_known d o scope n) n (free_place (unknown d) d stand _ s))
-        (is_right_first (owner_name d o region) (is_misindexed known d o n (local_named n scope)) n (free_place (wrong_kind known d) d uses_free _ s))
+        (is_right (owner_name d o region) (is_misindexed known d o n (local_named n scope)) n (free_place (wrong_kind known d) d uses_free _ s))
 
     pub written_element : (o : ℕ) (region : Region) (scope : Scope) (n : List ℕ) → Stands d (at o region scope (places.WritesElement n)) → IsArray d o scope n
     written_element o region scope n s =
         array_is o scope n (is_found (name_at d o) (is_known d o scope n) n (free_place (unknown d) d stand _ s))
-        (is_right_first (owner_name d o region) (is_misindexed known d o n (local_named n scope)) n (free_place (wrong_kind known d) d uses_free _ s))
+        (is_right (owner_name d o region) (is_misindexed known d o n (local_named n scope)) n (free_place (wrong_kind known d) d uses_free _ s))
 
     pub executes_pipe : (o : ℕ) (region : Region) (scope : Scope) (pipe : List ℕ) → Stands d (at o region scope (places.Executes pipe)) → is_pipeline d pipe ≡ true
-    executes_pipe o region scope pipe s = not_off (is_pipeline d pipe) (is_right_first (owner_name d o region) (not (is_pipeline d pipe)) pipe (free_place (wrong_kind known d) d uses_free _ s))
+    executes_pipe o region scope pipe s = not_off (is_pipeline d pipe) (is_right (owner_name d o region) (not (is_pipeline d pipe)) pipe (free_place (wrong_kind known d) d uses_free _ s))
 
     pub shifts_pipe : (o : ℕ) (region : Region) (scope : Scope) (pipe : List ℕ) → Stands d (at o region scope (places.Shifts pipe)) → is_pipeline d pipe ≡ true
-    shifts_pipe o region scope pipe s = not_off (is_pipeline d pipe) (is_right_first (owner_name d o region) (not (is_pipeline d pipe)) pipe (free_place (wrong_kind known d) d uses_free _ s))
+    shifts_pipe o region scope pipe s = not_off (is_pipeline d pipe) (is_right (owner_name d o region) (not (is_pipeline d pipe)) pipe (free_place (wrong_kind known d) d uses_free _ s))
 
     -- ---- fields
 
     pub reads_input : (o : ℕ) (region : Region) (scope : Scope) (field : List ℕ) → Stands d (at o region scope (places.ReadsInput field)) → IsInput d o field
     reads_input o region scope field s =
         input_of d known stand uses_free o field (is_found (name_at d o) (is_field d field) field (free_place (unknown d) d stand _ s))
-        (not_off (may_input (own_stage d o)) (is_right_first (owner_name d o region) (not (may_input (own_stage d o))) field (free_place (wrong_kind known d) d uses_free _ s)))
+        (not_off (may_input (own_stage d o)) (is_right (owner_name d o region) (not (may_input (own_stage d o))) field (free_place (wrong_kind known d) d uses_free _ s)))
 
     -- an operation's own stage is one of the pipeline's
     stage_low : (o stage : ℕ) → own_stage d o ≡ Some stage → stage < length (stages d)
@@ -149,7 +149,7 @@ module _ (d : DescriptionTree) where
     pub writes_output : (o : ℕ) (region : Region) (scope : Scope) (field : List ℕ) → Stands d (at o region scope (places.WritesOutput field)) → IsOutput d o field
     writes_output o region scope field s =
         output_of o field (is_found (name_at d o) (is_field d field) field (free_place (unknown d) d stand _ s))
-        (not_off (may_output (length (stages d)) (own_stage d o)) (is_right_first (owner_name d o region) (not (may_output (length (stages d)) (own_stage d o))) field (free_place (wrong_kind known d) d uses_free _ s)))
+        (not_off (may_output (length (stages d)) (own_stage d o)) (is_right (owner_name d o region) (not (may_output (length (stages d)) (own_stage d o))) field (free_place (wrong_kind known d) d uses_free _ s)))
 
     pub no_output_read : (o : ℕ) (region : Region) (scope : Scope) (field : List ℕ) → Stands d (at o region scope (places.ReadsOutput field)) → ⊥
     no_output_read o region scope field s = absurd (cc (no_name (owner_name d o region) (Some field) (free_place (wrong_kind known d) d uses_free _ s)))
@@ -173,13 +173,13 @@ module _ (d : DescriptionTree) where
         let first = staged o pipe before (or_right (name_unknown d o scope pipe) (stage_unknown d o pipe before) (or_left (control_unknown d o scope pipe before) (behind_unknown d o pipe after field) u)) in
         let second = staged o pipe after (or_left (stage_unknown d o pipe after) (field_unknown d o field) (or_right (control_unknown d o scope pipe before) (behind_unknown d o pipe after field) u)) in
         let shape = some_of (field_shape d field) (is_found (name_at d o) (is_field d field) field (or_right (stage_unknown d o pipe after) (field_unknown d o field) (or_right (control_unknown d o scope pipe before) (behind_unknown d o pipe after field) u))) in
-        let w = or_left (boundary_name d pipe before after field) None (no_name (owner_name d o region) (option_or (boundary_name d pipe before after field) None) (free_place (wrong_kind known d) d uses_free _ s)) in
+        let w = no_name (owner_name d o region) (boundary_name d pipe before after field) (free_place (wrong_kind known d) d uses_free _ s) in
         let near = named_so pipe before after field first.0 w in
         let next = next_to first.1.0 second.1.0 (ap (λ (r : Option ℕ). are_apart r (Some second.1.0)) (sym first.1.1) ∙ ap (are_apart (stage_at d before)) (sym second.1.1) ∙ near) in
         record { pipeline = first.0; stage = first.1.0; from = first.1.1; to = second.1.1 ∙ ap (λ (k : ℕ). Some k) (sym next); shape = shape.0; is = shape.1 }
 
     pub reads_decoded : (o : ℕ) (region : Region) (scope : Scope) → Stands d (at o region scope places.ReadsDecoded) → TellsDecoded d o region
-    reads_decoded o region scope s = by region (not_off (tells_decoded (is_root d o) region) (is_right_first (owner_name d o region) (not (tells_decoded (is_root d o) region)) _ (free_place (wrong_kind known d) d uses_free _ s)))
+    reads_decoded o region scope s = by region (not_off (tells_decoded (is_root d o) region) (is_right (owner_name d o region) (not (tells_decoded (is_root d o) region)) _ (free_place (wrong_kind known d) d uses_free _ s)))
       where
         by : (r : Region) → tells_decoded (is_root d o) r ≡ true → TellsDecoded d o r
         by regions.Behavior e = record { root = e; where_it_may = inl refl }
@@ -203,7 +203,7 @@ module _ (d : DescriptionTree) where
       pub readable : (o : ℕ) (region : Region) (scope : Scope) (n : List ℕ) → Stands d (at o region scope (places.Reads n)) → Readable known.types d o scope n
       readable o region scope n s =
           by (local_named n scope) refl (is_found (name_at d o) (is_known d o scope n) n (free_place (unknown d) d stand _ s))
-          (is_right_first (owner_name d o region) (is_misread known d o n (local_named n scope)) n (free_place (wrong_kind known d) d uses_free _ s))
+          (is_right (owner_name d o region) (is_misread known d o n (local_named n scope)) n (free_place (wrong_kind known d) d uses_free _ s))
         where
           meant : local_named n scope ≡ None → (x y : Option ℕ) → declared_at d o n ≡ x → resource_at d n ≡ y → is_something (meaning_of x y) ≡ true → meant_misread known d (meaning_of x y) ≡ false → Readable known.types d o scope n
           meant no_local (Some i) y is named s r = let v = value_of o scope n i no_local is (off_left (known.typeless i) (is_apart (known.traits i)) r) in reads_value v.0 v.1
@@ -220,7 +220,7 @@ module _ (d : DescriptionTree) where
       pub writable : (o : ℕ) (region : Region) (scope : Scope) (n : List ℕ) → Stands d (at o region scope (places.Writes n)) → Writable known.types d o scope n
       writable o region scope n s =
           by (local_named n scope) refl (is_found (name_at d o) (is_known d o scope n) n (free_place (unknown d) d stand _ s))
-          (is_right_first (owner_name d o region) (is_miswritten known d o n (local_named n scope)) n (free_place (wrong_kind known d) d uses_free _ s))
+          (is_right (owner_name d o region) (is_miswritten known d o n (local_named n scope)) n (free_place (wrong_kind known d) d uses_free _ s))
         where
           meant : local_named n scope ≡ None → (x y : Option ℕ) → declared_at d o n ≡ x → resource_at d n ≡ y → is_something (meaning_of x y) ≡ true → meant_miswritten known d (meaning_of x y) ≡ false → Writable known.types d o scope n
           meant no_local (Some i) y is named s r = let v = value_of o scope n i no_local is (off_left (known.typeless i) _ r) in writes_value v.0 v.1

@@ -4,8 +4,8 @@ use Rattle.std.specs.Prelude.{slice_get, option_map}
 use Rattle.std.specs.Option.{is_some}
 use Rattle.std.proofs.lemmas.Option.{slice_get_within}
 use Rattle.lisa_tree.specs.declared.tokens.Shape.{Shape}
-use Rattle.lisa_tree.specs.declared.expressions.Operator.{Operator}
-use Rattle.lisa_tree.specs.declared.expressions.Operator.TheVariants as operators
+use Rattle.operators.specs.declared.binary.Operator.{Operator}
+use Rattle.operators.specs.declared.binary.Operator.TheVariants as operators
 use Rattle.lisa_tree.specs.Expressions as exprs
 use Rattle.lisa_tree.specs.Expressions.{ExprTree}
 use Rattle.lisa_tree.specs.Descriptions as trees
@@ -46,7 +46,7 @@ use Rattle.description_promises.specs.Freedom.{IsFree, Stands, AllStand}
 use Rattle.description_promises.specs.Ranks.{Ranks}
 use Rattle.description_promises.proofs.Among.{free_place, among_left, among_right}
 use Rattle.description_promises.proofs.Standing.{expression_stand, expression_number, has_section}
-use Rattle.description_promises.proofs.Decoding.{off_left, off_right, or_right, some_of, is_found, is_right_first, position_there}
+use Rattle.description_promises.proofs.Decoding.{off_left, off_right, or_right, some_of, is_found, is_right, position_there}
 use Rattle.description_promises.proofs.Named.{what_is}
 use Rattle.description_promises.proofs.Choosing.{rightly_declared}
 use Rattle.description_promises.proofs.Settling.{choice_there, operation_is, choice_is, child_is, reference_is, all_settled}
@@ -209,7 +209,7 @@ module _ (d : DescriptionTree) (known : Known) (kinds : AreKinds d known) (names
 
     read_typed : (region : Region) (scope : Scope) (n : List ℕ) → Stands d (at o region scope (places.Reads n)) → HasShape (name_type known.types d o scope n)
     read_typed region scope n s =
-        by (local_named n scope) (is_found (name_at d o) (is_known d o scope n) n (free_place (unknown d) d stand _ s)) (is_right_first (owner_name d o region) (is_misread known d o n (local_named n scope)) n (free_place (wrong_kind known d) d uses_free _ s))
+        by (local_named n scope) (is_found (name_at d o) (is_known d o scope n) n (free_place (unknown d) d stand _ s)) (is_right (owner_name d o region) (is_misread known d o n (local_named n scope)) n (free_place (wrong_kind known d) d uses_free _ s))
       where
         by : (r : Option Local) → (is_some r || stands d o n) ≡ true → is_misread known d o n r ≡ false → HasShape (or_meant_type known.types d o n r)
         by (Some local) k e = (local.shape, refl)
@@ -219,7 +219,7 @@ module _ (d : DescriptionTree) (known : Known) (kinds : AreKinds d known) (names
 
     written_typed : (region : Region) (scope : Scope) (n : List ℕ) → Stands d (at o region scope (places.Writes n)) → HasShape (name_type known.types d o scope n)
     written_typed region scope n s =
-        by (local_named n scope) (is_found (name_at d o) (is_known d o scope n) n (free_place (unknown d) d stand _ s)) (is_right_first (owner_name d o region) (is_miswritten known d o n (local_named n scope)) n (free_place (wrong_kind known d) d uses_free _ s))
+        by (local_named n scope) (is_found (name_at d o) (is_known d o scope n) n (free_place (unknown d) d stand _ s)) (is_right (owner_name d o region) (is_miswritten known d o n (local_named n scope)) n (free_place (wrong_kind known d) d uses_free _ s))
       where
         by : (r : Option Local) → (is_some r || stands d o n) ≡ true → is_miswritten known d o n r ≡ false → HasShape (or_meant_type known.types d o n r)
         by (Some local) k e = (local.shape, refl)
@@ -250,7 +250,7 @@ module _ (d : DescriptionTree) (known : Known) (kinds : AreKinds d known) (names
     expression_typed region scope (exprs.Named n) s = read_typed region scope n (s _ (inl refl))
     expression_typed region scope (exprs.Element n index) s =
         elements_typed scope n (is_found (name_at d o) (is_known d o scope n) n (free_place (unknown d) d stand _ (s (at o region scope (places.ReadsElement n)) (inl refl))))
-        (is_right_first (owner_name d o region) (is_misindexed known d o n (local_named n scope)) n (free_place (wrong_kind known d) d uses_free _ (s (at o region scope (places.ReadsElement n)) (inl refl))))
+        (is_right (owner_name d o region) (is_misindexed known d o n (local_named n scope)) n (free_place (wrong_kind known d) d uses_free _ (s (at o region scope (places.ReadsElement n)) (inl refl))))
     expression_typed region scope (exprs.Input field) s = field_typed (name_at d o) field (free_place (unknown d) d stand _ (s (at o region scope (places.ReadsInput field)) (inl refl)))
     expression_typed region scope (exprs.Output field) s = field_typed (name_at d o) field (free_place (unknown d) d stand _ (s (at o region scope (places.ReadsOutput field)) (inl refl)))
     expression_typed region scope (exprs.Boundary pipe before after field) s =
@@ -273,7 +273,7 @@ module _ (d : DescriptionTree) (known : Known) (kinds : AreKinds d known) (names
     target_typed region scope (exprs.Named n) s = written_typed region scope n (s _ (inl refl))
     target_typed region scope (exprs.Element n index) s =
         elements_typed scope n (is_found (name_at d o) (is_known d o scope n) n (free_place (unknown d) d stand _ (s (at o region scope (places.WritesElement n)) (inl refl))))
-        (is_right_first (owner_name d o region) (is_misindexed known d o n (local_named n scope)) n (free_place (wrong_kind known d) d uses_free _ (s (at o region scope (places.WritesElement n)) (inl refl))))
+        (is_right (owner_name d o region) (is_misindexed known d o n (local_named n scope)) n (free_place (wrong_kind known d) d uses_free _ (s (at o region scope (places.WritesElement n)) (inl refl))))
     target_typed region scope (exprs.Output field) s = field_typed (name_at d o) field (free_place (unknown d) d stand _ (s (at o region scope (places.WritesOutput field)) (inl refl)))
     target_typed region scope (exprs.Number v base) s = expression_typed region scope (exprs.Number v base) s
     target_typed region scope (exprs.Input field) s = expression_typed region scope (exprs.Input field) s

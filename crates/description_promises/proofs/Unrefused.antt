@@ -1,8 +1,7 @@
 -- In an expression in which nothing is wrong no use is refused, so its type rests on none.
 use Rattle.std.proofs.Common.{◌≡◌, ◌++◌, ◌||◌, ℕ, List, [], Option, None, Some, Bool, true, false, cond, not, refl, ap₂, inl}
-use Rattle.std.specs.Option.{option_or}
-use Rattle.lisa_tree.specs.declared.expressions.Operator.{Operator}
-use Rattle.lisa_tree.specs.declared.expressions.Operator.TheVariants as operators
+use Rattle.operators.specs.declared.binary.Operator.{Operator}
+use Rattle.operators.specs.declared.binary.Operator.TheVariants as operators
 use Rattle.lisa_tree.specs.Expressions as exprs
 use Rattle.lisa_tree.specs.Expressions.{ExprTree}
 use Rattle.lisa_tree.specs.Descriptions.{DescriptionTree}
@@ -20,7 +19,7 @@ use Rattle.kind_checks.specs.Uses.{tells_decoded, meant_misread, is_misread}
 use Rattle.kind_checks.specs.WrongKinds.{wrong_kind, faulty, boundary_name}
 use Rattle.description_promises.specs.Freedom.{IsFree, AllStand}
 use Rattle.description_promises.proofs.Among.{free_place, among_left, among_right}
-use Rattle.description_promises.proofs.Decoding.{or_left, no_name, is_right_first}
+use Rattle.description_promises.proofs.Decoding.{no_name, is_right}
 
 neither : (operator : Operator) (a b : Bool) → a ≡ false → b ≡ false → two_refused operator a b ≡ false
 neither operators.Left a b e f = e
@@ -46,14 +45,14 @@ module _ (d : DescriptionTree) (known : Known) (uses_free : IsFree (wrong_kind k
   meant_fits (meanings.Declared i) e = fit i e
 
   pub use_fits : (e : ExprTree) → AllStand d (uses o regions.Expression [] e) → is_refused unfit d o e ≡ false
-  use_fits (exprs.Named n) s = meant_fits (meaning d o n) (is_right_first (name_at d o) (is_misread known d o n None) n (free_place (wrong_kind known d) d uses_free _ (s (at o regions.Expression [] (places.Reads n)) (inl refl))))
-  use_fits (exprs.Input field) s = is_right_first (name_at d o) (not (may_input (own_stage d o))) field (free_place (wrong_kind known d) d uses_free _ (s (at o regions.Expression [] (places.ReadsInput field)) (inl refl)))
+  use_fits (exprs.Named n) s = meant_fits (meaning d o n) (is_right (name_at d o) (is_misread known d o n None) n (free_place (wrong_kind known d) d uses_free _ (s (at o regions.Expression [] (places.Reads n)) (inl refl))))
+  use_fits (exprs.Input field) s = is_right (name_at d o) (not (may_input (own_stage d o))) field (free_place (wrong_kind known d) d uses_free _ (s (at o regions.Expression [] (places.ReadsInput field)) (inl refl)))
   use_fits (exprs.Output field) s = absurd (cc (no_name (name_at d o) (Some field) (free_place (wrong_kind known d) d uses_free _ (s (at o regions.Expression [] (places.ReadsOutput field)) (inl refl)))))
   use_fits (exprs.Boundary pipe before after field) s =
       let w = free_place (wrong_kind known d) d uses_free _ (s (at o regions.Expression [] (places.ReadsBoundary pipe before after field)) (inl refl)) in
       bounds pipe field (is_pipeline d pipe) (are_apart (stage_at d before) (stage_at d after))
-      (or_left (boundary_name d pipe before after field) None (no_name (name_at d o) (option_or (boundary_name d pipe before after field) None) w))
-  use_fits exprs.Decoded s = is_right_first (name_at d o) (not (tells_decoded (is_root d o) regions.Expression)) _ (free_place (wrong_kind known d) d uses_free _ (s (at o regions.Expression [] places.ReadsDecoded) (inl refl)))
+      (no_name (name_at d o) (boundary_name d pipe before after field) w)
+  use_fits exprs.Decoded s = is_right (name_at d o) (not (tells_decoded (is_root d o) regions.Expression)) _ (free_place (wrong_kind known d) d uses_free _ (s (at o regions.Expression [] places.ReadsDecoded) (inl refl)))
   use_fits (exprs.Number v base) s = refl
   use_fits (exprs.Element n index) s = refl
   use_fits (exprs.Cast shape a) s = refl

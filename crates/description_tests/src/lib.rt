@@ -1,24 +1,7 @@
-//! Tests of how descriptions are read, printed and looked up.
+//! Tests of the digest of descriptions, and of what machines show.
 #![tactic(auto)]
 
 #[cfg(test)]
-mod activations;
-#[cfg(test)]
-mod behavior;
-#[cfg(test)]
 mod digest;
 #[cfg(test)]
-mod graph;
-#[cfg(test)]
-mod lexer;
-mod meant;
-#[cfg(test)]
-mod places;
-#[cfg(test)]
-mod printer;
-#[cfg(test)]
-mod reader;
-#[cfg(test)]
-mod samples;
-#[cfg(test)]
-mod sections;
+mod machines;

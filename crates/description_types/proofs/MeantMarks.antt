@@ -38,11 +38,13 @@ abbrev Having : DescriptionTree → Trait → List Bool → Type 0
 Having d q marks = AreMeant d (λ j. holds q (own_traits d j) ≡ true) (saw marks)
 
 pub each_trait : (d : DescriptionTree) (m : TraitMarks) → Having d which.Label m.label → Having d which.Child m.child → Having d which.Staged m.staged → Having d which.Rooted m.rooted → Having d which.Uncoded m.uncoded
-    → Having d which.Misplaced m.misplaced → Having d which.Instructions m.instructions → AreTraits d (traits_by m)
-each_trait d m label child staged rooted uncoded misplaced instructions which.Label = label
-each_trait d m label child staged rooted uncoded misplaced instructions which.Child = child
-each_trait d m label child staged rooted uncoded misplaced instructions which.Staged = staged
-each_trait d m label child staged rooted uncoded misplaced instructions which.Rooted = rooted
-each_trait d m label child staged rooted uncoded misplaced instructions which.Uncoded = uncoded
-each_trait d m label child staged rooted uncoded misplaced instructions which.Misplaced = misplaced
-each_trait d m label child staged rooted uncoded misplaced instructions which.Instructions = instructions
+    → Having d which.Misplaced m.misplaced → Having d which.Instructions m.instructions → Having d which.ListedStaged m.listed_staged → Having d which.ListedRooted m.listed_rooted → AreTraits d (traits_by m)
+each_trait d m label child staged rooted uncoded misplaced instructions listed_staged listed_rooted which.Label = label
+each_trait d m label child staged rooted uncoded misplaced instructions listed_staged listed_rooted which.Child = child
+each_trait d m label child staged rooted uncoded misplaced instructions listed_staged listed_rooted which.Staged = staged
+each_trait d m label child staged rooted uncoded misplaced instructions listed_staged listed_rooted which.Rooted = rooted
+each_trait d m label child staged rooted uncoded misplaced instructions listed_staged listed_rooted which.Uncoded = uncoded
+each_trait d m label child staged rooted uncoded misplaced instructions listed_staged listed_rooted which.Misplaced = misplaced
+each_trait d m label child staged rooted uncoded misplaced instructions listed_staged listed_rooted which.Instructions = instructions
+each_trait d m label child staged rooted uncoded misplaced instructions listed_staged listed_rooted which.ListedStaged = listed_staged
+each_trait d m label child staged rooted uncoded misplaced instructions listed_staged listed_rooted which.ListedRooted = listed_rooted

@@ -39,6 +39,8 @@ same_traits s t each = λ i. record {
   uncoded = each which.Uncoded i;
   misplaced = each which.Misplaced i;
   instructions = each which.Instructions i;
+  listed_staged = each which.ListedStaged i;
+  listed_rooted = each which.ListedRooted i;
 }
 
 one_traits : (d : DescriptionTree) (known other : ℕ → Traits) → AreTraits d known → AreTraits d other → known ≡ other

@@ -1,7 +1,7 @@
 -- Uses in an operation's expression that go against what they are of. What rests on such a use is open, so that nothing else is at fault by it.
 use Rattle.std.specs.Prelude.{ℕ, ◌+◌, Bool, true, false, List, Option, None, Some, ◌||◌, not, nat_eq}
-use Rattle.lisa_tree.specs.declared.expressions.Operator.{Operator}
-use Rattle.lisa_tree.specs.declared.expressions.Operator.TheVariants as operators
+use Rattle.operators.specs.declared.binary.Operator.{Operator}
+use Rattle.operators.specs.declared.binary.Operator.TheVariants as operators
 use Rattle.lisa_tree.specs.Expressions as exprs
 use Rattle.lisa_tree.specs.Expressions.{ExprTree}
 use Rattle.lisa_tree.specs.Descriptions.{DescriptionTree}

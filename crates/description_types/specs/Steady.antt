@@ -4,8 +4,8 @@ use Rattle.std.proofs.lemmas.Bool.{and_parts, eqb-true}
 use Rattle.lisa_words.specs.declared.words.Kind.{Kind}
 use Rattle.lisa_words.specs.declared.words.Kind.TheVariants as kinds
 use Rattle.lisa_tree.specs.declared.tokens.Shape.{Shape}
-use Rattle.lisa_tree.specs.declared.expressions.Operator.{Operator}
-use Rattle.lisa_tree.specs.declared.expressions.Operator.TheVariants as operators
+use Rattle.operators.specs.declared.binary.Operator.{Operator}
+use Rattle.operators.specs.declared.binary.Operator.TheVariants as operators
 use Rattle.lisa_tree.specs.Expressions as exprs
 use Rattle.lisa_tree.specs.Expressions.{ExprTree}
 use Rattle.lisa_tree.specs.Descriptions.{DescriptionTree}

@@ -24,12 +24,14 @@ holds which.Rooted t = t.rooted
 holds which.Uncoded t = t.uncoded
 holds which.Misplaced t = t.misplaced
 holds which.Instructions t = t.instructions
+holds which.ListedStaged t = t.listed_staged
+holds which.ListedRooted t = t.listed_rooted
 
 abbrev pub no_traits : Traits
-no_traits = record { label = false; child = false; staged = false; rooted = false; uncoded = false; misplaced = false; instructions = false }
+no_traits = record { label = false; child = false; staged = false; rooted = false; uncoded = false; misplaced = false; instructions = false; listed_staged = false; listed_rooted = false }
 
 abbrev pub label_traits : Traits
-label_traits = record { label = true; child = false; staged = false; rooted = false; uncoded = false; misplaced = false; instructions = false }
+label_traits = record { label = true; child = false; staged = false; rooted = false; uncoded = false; misplaced = false; instructions = false; listed_staged = false; listed_rooted = false }
 
 -- of a choice, as of a child that stands in no coding
 abbrev pub choice_traits : DescriptionTree → ℕ → Traits
@@ -41,6 +43,8 @@ choice_traits d c = record {
   uncoded = nat_lt 1 (length (plain_at d c));
   misplaced = list_any (λ o. is_coding (coding_in (sections_at d o))) (alternatives_at d c);
   instructions = false;
+  listed_staged = list_any (λ o. is_some (own_stage d o)) (alternatives_at d c);
+  listed_rooted = list_any (is_root d) (alternatives_at d c);
 }
 
 -- of a child of a choice, by how it stands in the coding of its own operation
@@ -53,6 +57,8 @@ child_traits name t = record {
   uncoded = t.uncoded && not name.coded;
   misplaced = t.misplaced && not name.coded;
   instructions = name.instructions;
+  listed_staged = t.listed_staged;
+  listed_rooted = t.listed_rooted;
 }
 
 -- of a name by what it is declared as; a reference has none by itself
@@ -74,6 +80,8 @@ pub record TraitMarks : Type 0 where
   pub uncoded : List Bool
   pub misplaced : List Bool
   pub instructions : List Bool
+  pub listed_staged : List Bool
+  pub listed_rooted : List Bool
 
 -- what such marks say; nothing holds past their end
 abbrev pub traits_by : TraitMarks → ℕ → Traits
@@ -85,4 +93,6 @@ traits_by marks i = record {
   uncoded = saw marks.uncoded i;
   misplaced = saw marks.misplaced i;
   instructions = saw marks.instructions i;
+  listed_staged = saw marks.listed_staged i;
+  listed_rooted = saw marks.listed_rooted i;
 }

@@ -86,6 +86,8 @@ fn no_traits() -> Traits
         uncoded: false,
         misplaced: false,
         instructions: false,
+        listed_staged: false,
+        listed_rooted: false,
     }
 }
 
@@ -101,6 +103,8 @@ fn label_traits() -> Traits
         uncoded: false,
         misplaced: false,
         instructions: false,
+        listed_staged: false,
+        listed_rooted: false,
     }
 }
 
@@ -109,14 +113,17 @@ fn choice_traits<N: Names>(names: &N, choice: usize) -> Traits
     ensures { result ≡ choice_traits (N.tree names.now) choice }
 {
     let plain = names.plain_at(choice);
+    let listed = names.alternatives_at(choice);
     Traits {
         label: false,
         child: true,
         staged: any_staged(names, plain),
         rooted: any_rooted(names, plain),
         uncoded: plain.len() > 1,
-        misplaced: any_coded(names, names.alternatives_at(choice)),
+        misplaced: any_coded(names, listed),
         instructions: false,
+        listed_staged: any_staged(names, listed),
+        listed_rooted: any_rooted(names, listed),
     }
 }
 
@@ -155,6 +162,8 @@ fn child_traits(name: CodedName, choice: Traits) -> Traits
         uncoded: choice.uncoded && !name.coded,
         misplaced: choice.misplaced && !name.coded,
         instructions: name.instructions,
+        listed_staged: choice.listed_staged,
+        listed_rooted: choice.listed_rooted,
     }
 }
 
@@ -208,6 +217,8 @@ fn holds(which: Trait, traits: Traits) -> bool
         Trait::Uncoded => traits.uncoded,
         Trait::Misplaced => traits.misplaced,
         Trait::Instructions => traits.instructions,
+        Trait::ListedStaged => traits.listed_staged,
+        Trait::ListedRooted => traits.listed_rooted,
     }
 }
 
@@ -241,12 +252,14 @@ pub(crate) struct UseTables {
     uncoded: Vec<bool>,
     misplaced: Vec<bool>,
     instructions: Vec<bool>,
+    listed_staged: Vec<bool>,
+    listed_rooted: Vec<bool>,
 }
 
 impl Model for UseTables {
     ghost Value = { TraitMarks };
 
-    ghost view = { λ t. record { label = t.label.items; child = t.child.items; staged = t.staged.items; rooted = t.rooted.items; uncoded = t.uncoded.items; misplaced = t.misplaced.items; instructions = t.instructions.items } };
+    ghost view = { λ t. record { label = t.label.items; child = t.child.items; staged = t.staged.items; rooted = t.rooted.items; uncoded = t.uncoded.items; misplaced = t.misplaced.items; instructions = t.instructions.items; listed_staged = t.listed_staged.items; listed_rooted = t.listed_rooted.items } };
 }
 
 // Which declared names may mean a declaration with a trait.
@@ -286,6 +299,8 @@ impl UseTables {
             uncoded: having(alloc, names, meanings, &own, Trait::Uncoded)?,
             misplaced: having(alloc, names, meanings, &own, Trait::Misplaced)?,
             instructions: having(alloc, names, meanings, &own, Trait::Instructions)?,
+            listed_staged: having(alloc, names, meanings, &own, Trait::ListedStaged)?,
+            listed_rooted: having(alloc, names, meanings, &own, Trait::ListedRooted)?,
         })
     }
 
@@ -301,6 +316,8 @@ impl UseTables {
             uncoded: mark_at(&self.uncoded, entry),
             misplaced: mark_at(&self.misplaced, entry),
             instructions: mark_at(&self.instructions, entry),
+            listed_staged: mark_at(&self.listed_staged, entry),
+            listed_rooted: mark_at(&self.listed_rooted, entry),
         }
     }
 }

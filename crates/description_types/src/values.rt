@@ -29,6 +29,8 @@ pub enum Trait {
     Uncoded,
     Misplaced,
     Instructions,
+    ListedStaged,
+    ListedRooted,
 }
 
 /// How a declared name may be used. Each holds of a reference where it holds of a declaration that it may mean, and of a choice where it
@@ -49,6 +51,10 @@ pub struct Traits {
     pub misplaced: bool,
     /// It is the group of the root's coding.
     pub instructions: bool,
+    /// An alternative, or an alias, has a stage of its own.
+    pub listed_staged: bool,
+    /// An alternative, or an alias, has the root.
+    pub listed_rooted: bool,
 }
 
 /// How a declared name stands in the coding and the syntax of its operation.

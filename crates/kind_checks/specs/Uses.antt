@@ -46,9 +46,9 @@ is_no_array (Some _) = true
 abbrev pub is_uncallable : Traits → Bool
 is_uncallable t = t.label || is_apart t
 
--- no operation with a stage or with the root is coded by another one
+-- no operation with a stage or with the root is coded by another one, nor is such an alias
 abbrev pub is_no_operand : Traits → Bool
-is_no_operand t = t.staged || t.rooted
+is_no_operand t = t.listed_staged || t.listed_rooted
 
 -- declarations of both sorts are meant
 abbrev pub sorts_differ : Traits → Bool
@@ -97,6 +97,16 @@ module _ (known : Known) (d : DescriptionTree) where
   is_miswritten o n (Some local) = local.counts
   is_miswritten o n None = meant_miswritten (meaning d o n)
 
+  abbrev pub meant_miscounted : Meaning → Bool
+  meant_miscounted meanings.Nothing = false
+  meant_miscounted (meanings.Resource k) = is_no_word (slice_get d.resources k)
+  meant_miscounted (meanings.Declared i) = false
+
+  -- what the head of a `for` names isn't assigned by that, but an array has its index there too
+  abbrev pub is_miscounted : ℕ → List ℕ → Option Local → Bool
+  is_miscounted o n (Some local) = false
+  is_miscounted o n None = meant_miscounted (meaning d o n)
+
   abbrev pub meant_miscalled : Meaning → Bool
   meant_miscalled meanings.Nothing = false
   meant_miscalled (meanings.Resource k) = true
@@ -124,11 +134,11 @@ module _ (known : Known) (d : DescriptionTree) where
   is_wrong_operand (meanings.Resource k) = true
   is_wrong_operand (meanings.Declared i) = by_sort (is_no_operand (known.traits i)) (is_no_operand (known.traits i)) true (what_at d i)
 
-  -- the root's group is a group, and none of its alternatives has a root
+  -- the root's group is a group, and neither an alternative nor an alias in it has a root
   abbrev pub is_wrong_root_group : Meaning → Bool
   is_wrong_root_group meanings.Nothing = false
   is_wrong_root_group (meanings.Resource k) = true
-  is_wrong_root_group (meanings.Declared i) = by_sort true (known.traits i).rooted true (what_at d i)
+  is_wrong_root_group (meanings.Declared i) = by_sort true (known.traits i).listed_rooted true (what_at d i)
 
   abbrev pub is_wrong_field : Bool → Meaning → Bool
   is_wrong_field free meanings.Nothing = false

@@ -1,6 +1,7 @@
 -- A name is used against its declaration.
 use Rattle.std.specs.Prelude.{◌≡◌, ℕ, Bool, true, false, List, [], ◌∷◌, Option, None, Some, cond, ◌&&◌, ◌||◌, not, length, codes}
 use Rattle.std.specs.Option.{option_or, is_some}
+use Rattle.lisa_tree.specs.declared.tokens.Shape.{Shape}
 use Rattle.lisa_tree.specs.declared.faults.DescFault.{DescFault}
 use Rattle.lisa_tree.specs.declared.faults.DescFault.TheVariants as faults
 use Rattle.lisa_tree.specs.Expressions as exprs
@@ -21,7 +22,7 @@ use Rattle.description_names.specs.Declarations.{declared_at}
 use Rattle.description_names.specs.Meanings.{meaning}
 use Rattle.description_types.specs.Refused.{may_input, are_apart}
 use Rattle.description_types.specs.Tables.{Known, AreKinds}
-use Rattle.kind_checks.specs.Uses.{is_misread, is_misindexed, is_miswritten, is_miscalled, is_misstarted, is_wrong_operand, is_wrong_root_group, is_wrong_field, is_wrong_number, is_wrong_shown, is_misdeclared, may_output, tells_decoded, is_free, is_wrong_register}
+use Rattle.kind_checks.specs.Uses.{is_misread, is_misindexed, is_miswritten, is_miscounted, is_miscalled, is_misstarted, is_wrong_operand, is_wrong_root_group, is_wrong_field, is_wrong_number, is_wrong_shown, is_misdeclared, may_output, tells_decoded, is_free, is_wrong_register}
 
 -- the name, where it is at fault
 abbrev pub faulty : Bool → List ℕ → Option (List ℕ)
@@ -89,40 +90,45 @@ root_name known d o register group = option_or (register_name known d o register
 abbrev pub boundary_name : DescriptionTree → List ℕ → List ℕ → List ℕ → List ℕ → Option (List ℕ)
 boundary_name d pipe before after field = cond (is_pipeline d pipe) (faulty (are_apart (stage_at d before) (stage_at d after)) field) (Some pipe)
 
--- where something is read
-abbrev pub misread_name : Known → DescriptionTree → ℕ → Region → Scope → Place → Option (List ℕ)
-misread_name known d o region scope (places.Reads n) = faulty (is_misread known d o n (local_named n scope)) n
-misread_name known d o region scope (places.ReadsElement n) = faulty (is_misindexed known d o n (local_named n scope)) n
-misread_name known d o region scope (places.ReadsInput field) = input_name d o field
-misread_name known d o region scope (places.ReadsOutput field) = Some field
-misread_name known d o region scope (places.ReadsBoundary pipe before after field) = boundary_name d pipe before after field
-misread_name known d o region scope places.ReadsDecoded = decoded_name d o region
-misread_name known d o region scope _ = None
+-- the variable of a loop has its index where the head gives it no type
+abbrev pub counter_name : Known → DescriptionTree → ℕ → Scope → Option Shape → List ℕ → Option (List ℕ)
+counter_name known d o scope None n = faulty (is_miscounted known d o n (local_named n scope)) n
+counter_name known d o scope (Some shape) n = None
 
--- where something is assigned or done
-abbrev pub misused_name : Known → DescriptionTree → ℕ → Scope → Place → Option (List ℕ)
-misused_name known d o scope (places.Writes n) = faulty (is_miswritten known d o n (local_named n scope)) n
-misused_name known d o scope (places.WritesElement n) = faulty (is_misindexed known d o n (local_named n scope)) n
-misused_name known d o scope (places.WritesOutput field) = output_name d o field
-misused_name known d o scope (places.Calls n) = faulty (is_miscalled known d o n (local_named n scope)) n
-misused_name known d o scope (places.Stalls pipe stage) = pipe_name d pipe
-misused_name known d o scope (places.Flushes pipe stage) = pipe_name d pipe
-misused_name known d o scope (places.Executes pipe) = pipe_name d pipe
-misused_name known d o scope (places.Shifts pipe) = pipe_name d pipe
-misused_name known d o scope _ = None
-
--- at the other places
-abbrev pub misplaced_name : Known → DescriptionTree → ℕ → Place → Option (List ℕ)
-misplaced_name known d o (places.Resource k resource) = resource_name d resource
-misplaced_name known d o (places.Head operation) = head_name d operation
-misplaced_name known d o (places.Declared k n) = faulty (is_misdeclared known d (declared_at d o n)) n
-misplaced_name known d o (places.Root register group) = root_name known d o register group
-misplaced_name known d o (places.Field n pattern) = faulty (is_wrong_field known d (is_free pattern) (meaning d o n)) n
-misplaced_name known d o (places.Operand n) = faulty (is_wrong_operand known d (meaning d o n)) n
-misplaced_name known d o (places.Number n format) = faulty (is_wrong_number known d (meaning d o n)) n
-misplaced_name known d o (places.Shown n) = faulty (is_wrong_shown known d (meaning d o n)) n
-misplaced_name known d o (places.Starts n) = faulty (is_misstarted known d (meaning d o n)) n
-misplaced_name known d o _ = None
+-- the name that is at fault at a place
+abbrev pub wrong_name : Known → DescriptionTree → ℕ → Region → Scope → Place → Option (List ℕ)
+wrong_name known d o region scope (places.Resource k resource) = resource_name d resource
+wrong_name known d o region scope (places.Head operation) = head_name d operation
+wrong_name known d o region scope (places.Section all k) = None
+wrong_name known d o region scope (places.Declared k n) = faulty (is_misdeclared known d (declared_at d o n)) n
+wrong_name known d o region scope (places.Alternatives all) = None
+wrong_name known d o region scope (places.Stands n) = None
+wrong_name known d o region scope (places.Root register group) = root_name known d o register group
+wrong_name known d o region scope (places.Field n pattern) = faulty (is_wrong_field known d (is_free pattern) (meaning d o n)) n
+wrong_name known d o region scope (places.Operand n) = faulty (is_wrong_operand known d (meaning d o n)) n
+wrong_name known d o region scope (places.Number n format) = faulty (is_wrong_number known d (meaning d o n)) n
+wrong_name known d o region scope (places.Shown n) = faulty (is_wrong_shown known d (meaning d o n)) n
+wrong_name known d o region scope (places.Reads n) = faulty (is_misread known d o n (local_named n scope)) n
+wrong_name known d o region scope (places.ReadsElement n) = faulty (is_misindexed known d o n (local_named n scope)) n
+wrong_name known d o region scope (places.ReadsInput field) = input_name d o field
+wrong_name known d o region scope (places.ReadsOutput field) = Some field
+wrong_name known d o region scope (places.ReadsBoundary pipe before after field) = boundary_name d pipe before after field
+wrong_name known d o region scope places.ReadsDecoded = decoded_name d o region
+wrong_name known d o region scope (places.Casts shape) = None
+wrong_name known d o region scope (places.Writes n) = faulty (is_miswritten known d o n (local_named n scope)) n
+wrong_name known d o region scope (places.WritesElement n) = faulty (is_misindexed known d o n (local_named n scope)) n
+wrong_name known d o region scope (places.WritesOutput field) = output_name d o field
+wrong_name known d o region scope (places.Local shape n value) = None
+wrong_name known d o region scope (places.Assigns target value) = None
+wrong_name known d o region scope places.Loops = None
+wrong_name known d o region scope (places.Counts head) = counter_name known d o scope head.shape head.name
+wrong_name known d o region scope (places.Steps n) = faulty (is_miscounted known d o n (local_named n scope)) n
+wrong_name known d o region scope (places.Calls n) = faulty (is_miscalled known d o n (local_named n scope)) n
+wrong_name known d o region scope (places.Stalls pipe stage) = pipe_name d pipe
+wrong_name known d o region scope (places.Flushes pipe stage) = pipe_name d pipe
+wrong_name known d o region scope (places.Executes pipe) = pipe_name d pipe
+wrong_name known d o region scope (places.Shifts pipe) = pipe_name d pipe
+wrong_name known d o region scope (places.Starts n) = faulty (is_misstarted known d (meaning d o n)) n
 
 -- ---- faults
 
@@ -134,10 +140,6 @@ told operation (Some n) = Some (faults.WrongKind operation n)
 abbrev pub owner_name : DescriptionTree → ℕ → Region → List ℕ
 owner_name d o regions.Resources = []
 owner_name d o _ = name_at d o
-
--- the name that is at fault at a place
-abbrev pub wrong_name : Known → DescriptionTree → ℕ → Region → Scope → Place → Option (List ℕ)
-wrong_name known d o region scope place = option_or (misread_name known d o region scope place) (option_or (misused_name known d o scope place) (misplaced_name known d o place))
 
 abbrev pub wrong_kind : Known → DescriptionTree → Condition DescFault
 wrong_kind known d o region scope place = told (owner_name d o region) (wrong_name known d o region scope place)

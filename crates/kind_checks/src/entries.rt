@@ -13,11 +13,11 @@ pub(crate) fn is_uncallable(traits: Traits) -> bool
     traits.label || is_apart(traits)
 }
 
-/// Whether a child isn't coded by another operation.
+/// Whether a child isn't coded by another operation; aliases count.
 pub(crate) fn is_no_operand(traits: Traits) -> bool
     ensures { result ≡ is_no_operand traits }
 {
-    traits.staged || traits.rooted
+    traits.listed_staged || traits.listed_rooted
 }
 
 /// Whether labels and children are meant.

@@ -4,7 +4,7 @@ ghost use Rattle.std.specs.Prelude.{◌≡◌, ◌||◌, Some};
 ghost use Rattle.description_names.specs.declared.declared.What.TheVariants as whats;
 ghost use Rattle.description_names.specs.Declarations.{plain_at};
 ghost use Rattle.description_types.specs.Tables.{known_by};
-ghost use Rattle.kind_checks.specs.Uses.{meant_misread, is_misread, meant_misindexed, is_misindexed, meant_miswritten, is_miswritten, meant_miscalled, is_miscalled, is_wrong_register, is_misstarted, is_wrong_operand, is_wrong_root_group, is_wrong_field, is_wrong_number, is_wrong_shown, is_empty, what_misdeclared, is_misdeclared};
+ghost use Rattle.kind_checks.specs.Uses.{meant_misread, is_misread, meant_misindexed, is_misindexed, meant_miswritten, is_miswritten, meant_miscounted, is_miscounted, meant_miscalled, is_miscalled, is_wrong_register, is_misstarted, is_wrong_operand, is_wrong_root_group, is_wrong_field, is_wrong_number, is_wrong_shown, is_empty, what_misdeclared, is_misdeclared};
 
 use crate::entries::{by_sort, is_no_operand, is_uncallable, sorts_differ};
 use crate::resources::{is_no_array, is_no_register, is_no_word};
@@ -87,6 +87,25 @@ impl<'a, N: Names> Uses<'a, N> {
         }
     }
 
+    fn meant_miscounted(&self, meaning: Meaning) -> bool
+        ensures { result ≡ meant_miscounted (known_by self.now.kinds.now) (N.tree self.now.names.now) meaning }
+    {
+        match meaning {
+            Meaning::Nothing | Meaning::Declared(_) => false,
+            Meaning::Resource(counter) => is_no_word(resource(self.names, counter)),
+        }
+    }
+
+    /// Whether the head of a `for` names an array or the pipeline.
+    pub fn is_miscounted(&self, operation: usize, name: &Name, local: Option<Local>) -> bool
+        ensures { result ≡ is_miscounted (known_by self.now.kinds.now) (N.tree self.now.names.now) operation name.now local }
+    {
+        match local {
+            Some(_) => false,
+            None => self.meant_miscounted(self.names.meaning(operation, name)),
+        }
+    }
+
     fn meant_miscalled(&self, meaning: Meaning) -> bool
         ensures { result ≡ meant_miscalled (known_by self.now.kinds.now) (N.tree self.now.names.now) meaning }
     {
@@ -146,7 +165,7 @@ impl<'a, N: Names> Uses<'a, N> {
         }
     }
 
-    /// Whether a root's group is no group, or has an alternative with a root.
+    /// Whether a root's group is no group, or has an alternative or an alias with a root.
     pub fn is_wrong_root_group(&self, meaning: Meaning) -> bool
         ensures { result ≡ is_wrong_root_group (known_by self.now.kinds.now) (N.tree self.now.names.now) meaning }
     {
@@ -154,7 +173,7 @@ impl<'a, N: Names> Uses<'a, N> {
             Meaning::Nothing => false,
             Meaning::Resource(_) => true,
             Meaning::Declared(number) => {
-                let rooted = self.kinds.traits_at(number).rooted;
+                let rooted = self.kinds.traits_at(number).listed_rooted;
                 by_sort(true, rooted, true, self.names.what_at(number))
             }
         }

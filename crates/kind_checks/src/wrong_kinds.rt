@@ -2,6 +2,7 @@
 
 ghost use Rattle.std.specs.Prelude.{◌≡◌, IfOk, length, option_copied, Some, None};
 ghost use Rattle.lisa_tree.specs.Expressions.{expr_tree};
+ghost use Rattle.lisa_tree.specs.Statements.{head_tree};
 ghost use Rattle.lisa_tree.specs.Descriptions.{operation_tree, resource_tree};
 ghost use Rattle.lisa_tree.specs.Spellings.{keyword_text};
 ghost use Rattle.lisa_tree.specs.declared.tokens.Keyword.TheVariants as keywords;
@@ -10,7 +11,7 @@ ghost use Rattle.description_names.specs.Resources.{stages};
 ghost use Rattle.description_names.specs.Operations.{name_at};
 ghost use Rattle.description_types.specs.Tables.{known_by};
 ghost use Rattle.kind_checks.specs.Uses.{may_output, tells_decoded, is_free};
-ghost use Rattle.kind_checks.specs.WrongKinds.{faulty, pipe_name, input_name, output_name, decoded_name, resource_name, stage_name, head_name, register_name, root_name, boundary_name, misread_name, misused_name, misplaced_name, wrong_name, owner_name, told, wrong_kind};
+ghost use Rattle.kind_checks.specs.WrongKinds.{faulty, pipe_name, input_name, output_name, decoded_name, resource_name, stage_name, head_name, register_name, root_name, boundary_name, counter_name, wrong_name, owner_name, told, wrong_kind};
 
 use crate::aliases::is_wrong_alias;
 use crate::resources::stage_count;
@@ -18,7 +19,7 @@ use crate::uses::Uses;
 use description_names::Names;
 use description_places::{Condition, Region, Scope, Site};
 use description_types::{Kinds, are_apart, is_pipeline, is_root, may_input, operation_name};
-use lisa_tree::{BoundaryField, DescFault, Expr, Operation, Pattern, Resource};
+use lisa_tree::{BoundaryField, DescFault, Expr, ForHead, Operation, Pattern, Resource};
 use lisa_words::{Name, NoMemory};
 use std::alloc::Global;
 
@@ -179,61 +180,6 @@ impl<'a, N: Names> WrongKind<'a, N> {
         faulty(are_apart(before, after), &boundary.field)
     }
 
-    // What is at fault where something is read.
-    fn misread_name<'s>(
-        &'s self,
-        operation: usize,
-        region: Region,
-        scope: &Scope,
-        site: Site<'s>,
-    ) -> Option<&'s Name>
-        ensures { option_copied result ≡ misread_name (known_by self.now.uses.kinds.now) (N.tree self.now.uses.names.now) operation region scope.now (place_of site.entry) }
-    {
-        let uses = &self.uses;
-        match site {
-            Site::Reads(name) => {
-                let local = scope.find(name);
-                faulty(uses.is_misread(operation, name, local), name)
-            }
-            Site::ReadsElement(name) => {
-                let local = scope.find(name);
-                faulty(uses.is_misindexed(operation, name, local), name)
-            }
-            Site::ReadsInput(field) => self.input_name(operation, field),
-            Site::ReadsOutput(field) => Some(field),
-            Site::ReadsBoundary(boundary) => self.boundary_name(boundary),
-            Site::ReadsDecoded => self.decoded_name(operation, region),
-            _ => None,
-        }
-    }
-
-    // What is at fault where something is assigned or done.
-    fn misused_name<'s>(&self, operation: usize, scope: &Scope, site: Site<'s>) -> Option<&'s Name>
-        ensures { option_copied result ≡ misused_name (known_by self.now.uses.kinds.now) (N.tree self.now.uses.names.now) operation scope.now (place_of site.entry) }
-    {
-        let uses = &self.uses;
-        match site {
-            Site::Writes(name) => {
-                let local = scope.find(name);
-                faulty(uses.is_miswritten(operation, name, local), name)
-            }
-            Site::WritesElement(name) => {
-                let local = scope.find(name);
-                faulty(uses.is_misindexed(operation, name, local), name)
-            }
-            Site::WritesOutput(field) => self.output_name(operation, field),
-            Site::Calls(name) => {
-                let local = scope.find(name);
-                faulty(uses.is_miscalled(operation, name, local), name)
-            }
-            Site::Stalls(pipe, _) => self.pipe_name(pipe),
-            Site::Flushes(pipe, _) => self.pipe_name(pipe),
-            Site::Executes(pipe) => self.pipe_name(pipe),
-            Site::Shifts(pipe) => self.pipe_name(pipe),
-            _ => None,
-        }
-    }
-
     // The word of a root and its group.
     fn root_name<'s>(
         &self,
@@ -252,9 +198,32 @@ impl<'a, N: Names> WrongKind<'a, N> {
         }
     }
 
-    // What is at fault at the other places of an operation.
-    fn misplaced_name<'s>(&self, operation: usize, site: Site<'s>) -> Option<&'s Name>
-        ensures { option_copied result ≡ misplaced_name (known_by self.now.uses.kinds.now) (N.tree self.now.uses.names.now) operation (place_of site.entry) }
+    // The variable of a loop to which the head gives no type.
+    fn counter_name<'s>(
+        &self,
+        operation: usize,
+        scope: &Scope,
+        head: &'s ForHead,
+    ) -> Option<&'s Name>
+        ensures { option_copied result ≡ counter_name (known_by self.now.uses.kinds.now) (N.tree self.now.uses.names.now) operation scope.now (head_tree head.now).shape (head_tree head.now).name }
+    {
+        if head.shape.is_some() {
+            return None;
+        }
+        let local = scope.find(&head.name);
+        let broken = self.uses.is_miscounted(operation, &head.name, local);
+        faulty(broken, &head.name)
+    }
+
+    // The name that is at fault at a place.
+    fn wrong_name<'s>(
+        &'s self,
+        operation: usize,
+        region: Region,
+        scope: &Scope,
+        site: Site<'s>,
+    ) -> Option<&'s Name>
+        ensures { option_copied result ≡ wrong_name (known_by self.now.uses.kinds.now) (N.tree self.now.uses.names.now) operation region scope.now (place_of site.entry) }
     {
         let uses = &self.uses;
         match site {
@@ -281,31 +250,46 @@ impl<'a, N: Names> WrongKind<'a, N> {
                 let meaning = uses.names.meaning(operation, name);
                 faulty(uses.is_wrong_shown(meaning), name)
             }
+            Site::Reads(name) => {
+                let local = scope.find(name);
+                faulty(uses.is_misread(operation, name, local), name)
+            }
+            Site::ReadsElement(name) => {
+                let local = scope.find(name);
+                faulty(uses.is_misindexed(operation, name, local), name)
+            }
+            Site::ReadsInput(field) => self.input_name(operation, field),
+            Site::ReadsOutput(field) => Some(field),
+            Site::ReadsBoundary(boundary) => self.boundary_name(boundary),
+            Site::ReadsDecoded => self.decoded_name(operation, region),
+            Site::Writes(name) => {
+                let local = scope.find(name);
+                faulty(uses.is_miswritten(operation, name, local), name)
+            }
+            Site::WritesElement(name) => {
+                let local = scope.find(name);
+                faulty(uses.is_misindexed(operation, name, local), name)
+            }
+            Site::WritesOutput(field) => self.output_name(operation, field),
+            Site::Counts(head) => self.counter_name(operation, scope, head),
+            Site::Steps(name) => {
+                let local = scope.find(name);
+                faulty(uses.is_miscounted(operation, name, local), name)
+            }
+            Site::Calls(name) => {
+                let local = scope.find(name);
+                faulty(uses.is_miscalled(operation, name, local), name)
+            }
+            Site::Stalls(pipe, _) => self.pipe_name(pipe),
+            Site::Flushes(pipe, _) => self.pipe_name(pipe),
+            Site::Executes(pipe) => self.pipe_name(pipe),
+            Site::Shifts(pipe) => self.pipe_name(pipe),
             Site::Starts(name) => {
                 let meaning = uses.names.meaning(operation, name);
                 faulty(uses.is_misstarted(meaning), name)
             }
             _ => None,
         }
-    }
-
-    // The name that is at fault at a place.
-    fn wrong_name<'s>(
-        &'s self,
-        operation: usize,
-        region: Region,
-        scope: &Scope,
-        site: Site<'s>,
-    ) -> Option<&'s Name>
-        ensures { option_copied result ≡ wrong_name (known_by self.now.uses.kinds.now) (N.tree self.now.uses.names.now) operation region scope.now (place_of site.entry) }
-    {
-        if let Some(name) = self.misread_name(operation, region, scope, site) {
-            return Some(name);
-        }
-        if let Some(name) = self.misused_name(operation, scope, site) {
-            return Some(name);
-        }
-        self.misplaced_name(operation, site)
     }
 
     // The operation of a place; the resources have the empty name.

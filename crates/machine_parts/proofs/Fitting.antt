@@ -9,9 +9,10 @@ use Rattle.lisa_engine.specs.declared.parts.Item.{Item}
 use Rattle.lisa_engine.specs.Shape.{IsFitting}
 use Rattle.typed_values.specs.Words.{TypedWord, word_width}
 use Rattle.reset_values.specs.Effects.{reset_moment}
+use Rattle.reset_values.specs.Laws.{IsWithin, first_width, HaveTypes}
+use Rattle.reset_values.proofs.Kept.{reset_keeps}
 use Rattle.machine_parts.specs.Parts.{item, register_in, register_bits, registers_of, first_values}
 use Rattle.machine_parts.specs.Laws.{HasWidth, HaveWidths}
-use Rattle.machine_parts.proofs.Kept.{IsWithin, first_width, AreKept, reset_keeps}
 
 -- ---- lists with one more in front
 
@@ -28,8 +29,8 @@ behind P x xs all k d lt = all (suc k) d (omega (arith, lt))
 front : {X : Type 0} (P : X → Type 0) (x : X) (xs : List X) → All P (x ∷ xs) → P x
 front P x xs all = all 0 x (omega arith)
 
-kept_behind : (r : ResourceTree) (w : TypedWord) (rs : List ResourceTree) (ws : List TypedWord) → AreKept (r ∷ rs) (w ∷ ws) → AreKept rs ws
-kept_behind r w rs ws kept = record { widths = let e = kept.widths in cc; within = behind IsWithin w ws kept.within }
+kept_behind : (r : ResourceTree) (w : TypedWord) (rs : List ResourceTree) (ws : List TypedWord) → HaveTypes (r ∷ rs) (w ∷ ws) → HaveTypes rs ws
+kept_behind r w rs ws kept = record { kinds = let e = kept.kinds in cc; widths = let e = kept.widths in cc; within = behind IsWithin w ws kept.within }
 
 -- ---- a register's value
 
@@ -39,7 +40,7 @@ width_is width least most = grind (arith, nat_tests, least, most)
 register_fits : (shape : Shape) (name : List ℕ) (w : TypedWord) → w.width ≡ word_width shape.width → IsWithin w → HasWidth (item shape name) → w.bits < 2 ^ shape.width
 register_fits shape name w is within has = subst (λ (width : ℕ). w.bits < 2 ^ width) (is ∙ width_is shape.width has.least has.most) within
 
-register_and_rest : (r : ResourceTree) (shape : Shape) (name : List ℕ) (w : TypedWord) (rs : List ResourceTree) (ws : List TypedWord) → first_width r ≡ word_width shape.width → AreKept (r ∷ rs) (w ∷ ws)
+register_and_rest : (r : ResourceTree) (shape : Shape) (name : List ℕ) (w : TypedWord) (rs : List ResourceTree) (ws : List TypedWord) → first_width r ≡ word_width shape.width → HaveTypes (r ∷ rs) (w ∷ ws)
     → HaveWidths (item shape name ∷ filter_map register_in rs) → IsFitting (filter_map register_in rs) (filter_map register_bits (zip rs ws))
     → IsFitting (item shape name ∷ filter_map register_in rs) (w.bits ∷ filter_map register_bits (zip rs ws))
 register_and_rest r shape name w rs ws is kept have rest =
@@ -48,7 +49,7 @@ register_and_rest r shape name w rs ws is kept have rest =
 
 -- ---- all of them
 
-all_fit : (rs : List ResourceTree) (ws : List TypedWord) → AreKept rs ws → HaveWidths (filter_map register_in rs) → IsFitting (filter_map register_in rs) (filter_map register_bits (zip rs ws))
+all_fit : (rs : List ResourceTree) (ws : List TypedWord) → HaveTypes rs ws → HaveWidths (filter_map register_in rs) → IsFitting (filter_map register_in rs) (filter_map register_bits (zip rs ws))
 all_fit [] ws kept have = record { count = refl; within = λ k i lt. absurd (let no_place = lt in omega (arith, no_place)) }
 all_fit (r ∷ rs) [] kept have = absurd (let e = kept.widths in cc)
 all_fit (trees.Register word shape name None ∷ rs) (w ∷ ws) kept have =

@@ -1,3 +1,3 @@
 pub mod Blocks
+pub mod Kept
 pub mod Maps
-pub mod Turns

@@ -4,10 +4,11 @@ use Rattle.std.specs.Prelude.{nat_eq, slice_set, slice_index_or}
 use Rattle.std.specs.Map.{lookup}
 use Rattle.std.specs.Cmp.Lexicographic.{pointwise}
 use Rattle.indexmap.specs.IndexMap.{insert_entry}
+use Rattle.lisa_words.specs.declared.words.Kind.{Kind}
 use Rattle.typed_values.specs.declared.values.Value.{Value}
 use Rattle.typed_values.specs.Words.{TypedWord, typed_word, truth}
 use Rattle.std.proofs.lemmas.List.{map-set, get_or-map}
-use Rattle.reset_values.specs.Effects.{like}
+use Rattle.typed_values.specs.Effects.{like}
 
 abbrev pub plain : List ℕ × Value → List ℕ × TypedWord
 plain e = (e.0, typed_word e.1)
@@ -31,8 +32,8 @@ taken zero es = refl
 taken (suc count) [] = refl
 taken (suc count) (e ∷ es) = ap (λ (l : List (List ℕ × TypedWord)). plain e ∷ l) (taken count es)
 
-pub replaced : (xs : List Value) (k : ℕ) (old new v : Value) → k < length xs → old ≡ slice_index_or xs k old → typed_word new ≡ like (typed_word old) (typed_word v)
-    → map typed_word (slice_set xs k new) ≡ slice_set (map typed_word xs) k (like (slice_index_or (map typed_word xs) k (truth false)) (typed_word v))
-replaced xs k old new v h is e =
+pub replaced : (xs : List Value) (k : ℕ) (old new : Value) (given : Kind → TypedWord) → k < length xs → old ≡ slice_index_or xs k old → typed_word new ≡ like (typed_word old) given
+    → map typed_word (slice_set xs k new) ≡ slice_set (map typed_word xs) k (like (slice_index_or (map typed_word xs) k (truth false)) given)
+replaced xs k old new given h is e =
     let read : typed_word old ≡ slice_index_or (map typed_word xs) k (truth false) = ap typed_word is ∙ sym (get_or-map typed_word xs k old (truth false) h) in
-    map-set typed_word xs k new ∙ ap (λ (w : TypedWord). slice_set (map typed_word xs) k w) (e ∙ ap (λ (w : TypedWord). like w (typed_word v)) read)
+    map-set typed_word xs k new ∙ ap (λ (w : TypedWord). slice_set (map typed_word xs) k w) (e ∙ ap (λ (w : TypedWord). like w given) read)

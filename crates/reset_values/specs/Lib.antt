@@ -1,2 +1,3 @@
 pub mod Counts
 pub mod Effects
+pub mod Laws

@@ -2,8 +2,10 @@
 #![tactic(auto)]
 
 mod counts;
+mod laws;
 mod memories;
 mod running;
 
 pub use counts::{count_statement, count_statements};
+pub use laws::reset_keeps_types;
 pub use running::reset_values;

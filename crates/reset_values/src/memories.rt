@@ -1,6 +1,6 @@
 //! Registers and locals with their values.
 
-ghost use Rattle.std.specs.Prelude.{◌≡◌, OnOk, IfOk, length, map, slice_index_or, false};
+ghost use Rattle.std.specs.Prelude.{◌≡◌, OnOk, IfOk, length, map, take, slice_index_or, false};
 ghost use Rattle.lisa_tree.specs.Expressions.{expr_tree};
 ghost use Rattle.lisa_tree.specs.Descriptions.{resource_tree};
 ghost use Rattle.typed_values.specs.Words.{typed_word, truth};
@@ -9,14 +9,15 @@ ghost use Rattle.std.specs.Prelude.{option_map};
 ghost use Rattle.std.specs.Map.{lookup};
 ghost use Rattle.description_names.specs.Same.{same_name};
 ghost use Rattle.description_names.specs.Resources.{resource_at};
-ghost use Rattle.reset_values.specs.Effects.{register_value, first_value, first_moment, moment_of, name_value, reader, like, leave, with_local, with_register, assigned_name, assigned};
+ghost use Rattle.typed_values.specs.Effects.{in_kind};
+ghost use Rattle.reset_values.specs.Effects.{register_value, first_value, first_moment, moment_of, name_value, reader, with_locals, with_local, with_register, assigned_name, assigned};
 
 use description_names::Names;
 use indexmap::IndexMap;
 use lisa_tree::{BoundaryField, Expr, Resource};
 use lisa_words::{Name, NoMemory};
 use std::alloc::Global;
-use typed_values::{Reads, Value, evaluate};
+use typed_values::{Reads, Value, Whole, evaluate};
 
 /// The values of resources, by their numbers, and of locals, by their names.
 #[derive(Drop)]
@@ -44,16 +45,6 @@ fn register_value(registers: &[Value], number: usize) -> Value
         registers[number]
     } else {
         Value::truth(false)
-    }
-}
-
-// A value as one of the type of another.
-fn like(old: Value, new: Value) -> Value
-    ensures { typed_word result ≡ like (typed_word old) (typed_word new) }
-{
-    Value {
-        kind: old.kind,
-        word: new.fitted(old.word.width),
     }
 }
 
@@ -117,12 +108,12 @@ impl Memory {
         Ok(())
     }
 
-    fn set_register(&mut self, number: Option<usize>, value: Value)
-        ensures { moment_of self.new ≡ with_register number (typed_word value) (moment_of self.old) }
+    fn set_register(&mut self, number: Option<usize>, given: Whole)
+        ensures { moment_of self.new ≡ with_register number (in_kind given) (moment_of self.old) }
     {
         if let Some(number) = number {
             if number < self.registers.len() {
-                self.registers[number] = like(self.registers[number], value);
+                self.registers[number] = given.like(self.registers[number]);
             }
         }
     }
@@ -131,14 +122,14 @@ impl Memory {
         &mut self,
         names: &N,
         name: &Name,
-        value: Value,
+        given: Whole,
     ) -> Result<(), NoMemory>
-        ensures { OnOk result (moment_of self.new ≡ assigned_name (N.tree names.now) name.now (typed_word value) (moment_of self.old) (lookup (same_name name.now) (moment_of self.old).locals)) }
+        ensures { OnOk result (moment_of self.new ≡ assigned_name (N.tree names.now) name.now (in_kind given) (moment_of self.old) (lookup (same_name name.now) (moment_of self.old).locals)) }
     {
         match self.local_named(name) {
-            Some(old) => self.set_local(name, like(old, value)),
+            Some(old) => self.set_local(name, given.like(old)),
             None => {
-                self.set_register(names.resource_at(name), value);
+                self.set_register(names.resource_at(name), given);
                 Ok(())
             }
         }
@@ -149,19 +140,19 @@ impl Memory {
         &mut self,
         names: &N,
         target: &Expr,
-        value: Value,
+        given: Whole,
     ) -> Result<(), NoMemory>
-        ensures { OnOk result (moment_of self.new ≡ assigned (N.tree names.now) (expr_tree target.now) (typed_word value) (moment_of self.old)) }
+        ensures { OnOk result (moment_of self.new ≡ assigned (N.tree names.now) (expr_tree target.now) (in_kind given) (moment_of self.old)) }
     {
         match target {
-            Expr::Named(name) => self.assign_name(names, name, value),
+            Expr::Named(name) => self.assign_name(names, name, given),
             _ => Ok(()),
         }
     }
 
     /// Lets go of the locals but the first ones.
     pub fn leave(&mut self, count: usize)
-        ensures { moment_of self.new ≡ leave count (moment_of self.old) }
+        ensures { moment_of self.new ≡ with_locals (take count (moment_of self.old).locals) (moment_of self.old) }
     {
         self.locals.truncate(count);
     }

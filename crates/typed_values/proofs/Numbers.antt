@@ -13,7 +13,7 @@ pub record Holds (shape : Shape) (value : ℕ) : Type 0 where
   pub most : shape.width ≤ 64
   pub fits : value < 2 ^ shape.width
 
-digits_hold : (v : ℕ) → v < 2 ^ 64 → (digit_count v ≤ 64) × (v < 2 ^ digit_count v)
+pub digits_hold : (v : ℕ) → v < 2 ^ 64 → (digit_count v ≤ 64) × (v < 2 ^ digit_count v)
 digits_hold v h =
     let l = leading_length 64 v h in
     let e : l.0 ≡ digit_count v = let a = l.1 in omega (arith, a) in

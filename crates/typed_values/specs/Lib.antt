@@ -1,3 +1,5 @@
 pub mod Words
 pub mod Operators
 pub mod Expressions
+pub mod Effects
+pub mod Laws

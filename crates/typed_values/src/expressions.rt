@@ -6,7 +6,7 @@ ghost use Rattle.description_places.specs.Literals.{literal};
 ghost use Rattle.typed_values.specs.Words.{typed_word};
 ghost use Rattle.typed_values.specs.Expressions.{Reader, made_of, complement, value};
 
-use crate::operators::{chosen, operand, two};
+use crate::operations::{chosen, operand, two};
 use crate::values::Value;
 use lisa_tree::{BoundaryField, Expr, Operator};
 use lisa_words::{Kind, Name, not};
@@ -33,8 +33,8 @@ pub trait Reads {
         ensures { typed_word result ≡ (reader self.now).decoded };
 }
 
-// The number that a literal is.
-fn literal(expression: &Expr) -> Option<u64>
+/// The number that a literal is.
+pub(crate) fn literal(expression: &Expr) -> Option<u64>
     ensures { result ≡ literal (expr_tree expression.now) }
 {
     match expression {
