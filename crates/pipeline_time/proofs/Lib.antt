@@ -1,0 +1,14 @@
+pub mod Lists
+pub mod Tree
+pub mod Induct
+pub mod Leaves
+pub mod Turns
+pub mod Places
+pub mod Agree
+pub mod Steps
+pub mod Falls
+pub mod Once
+pub mod Counts
+pub mod Held
+pub mod Disjoint
+pub mod Sample

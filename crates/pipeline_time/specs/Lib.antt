@@ -1,0 +1,9 @@
+pub mod Acts
+pub mod Cores
+pub mod Running
+pub mod Edges
+pub mod Journal
+pub mod States
+pub mod Bits
+pub mod Sound
+pub mod Laws

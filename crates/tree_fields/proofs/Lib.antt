@@ -1,0 +1,4 @@
+mod Ranges
+mod Clear
+mod Emptied
+mod Read
