@@ -643,6 +643,9 @@ def wrong_kinds(names, types, place):
         elif not local and (isinstance(it, Resource) and not is_register(it) or isinstance(it, Entry) and (
                 wrong_value(names, types, it) or any(types.assignable_declaration(m) is False for m in names.meant(it)))):
             yield name
+    elif what == "head name":
+        if not local and isinstance(it, Resource) and not is_register(it) and it.sort != "pin":
+            yield name
     elif what == "call":
         if local or isinstance(it, Resource) or isinstance(it, Entry) and (types.is_apart(it) or any(m.sort == "LABEL" for m in names.meant(it))):
             yield name
@@ -669,13 +672,13 @@ def wrong_coded(names, types, place, it):
             if register is not None and not is_register(register):
                 yield data[0][1]
     elif what == "root group":
-        if it is not None and (not is_child or it.sort != "GROUP" or any(names.is_root(a) for a in alternatives)):
+        if it is not None and (not is_child or it.sort != "GROUP" or any(names.is_root(a) for a in it.alternatives)):
             yield data[0]
     elif what == "coding field":
         if it is not None and (not isinstance(it, Entry) or it.sort != "LABEL" or set(data[1]) != {"x"}):
             yield data[0]
     elif what == "coding child":
-        if it is not None and (not is_child or any(names.own_stage(a) is not None or names.is_root(a) for a in alternatives)):
+        if it is not None and (not is_child or any(names.own_stage(a) is not None or names.is_root(a) for a in it.alternatives)):
             yield data[0]
     elif what == "syntax number":
         if it is not None and (not isinstance(it, Entry) or it.sort != "LABEL" or names.field_of(it) is None):

@@ -220,6 +220,7 @@ def by_icarus(folder, module, edges):
 
 
 def by_lisa(program, folder, module, edges):
+    """The states by the program, or what it says where it gives none."""
     _, _, _, arrays, image, schedule = module
     (folder / "image").write_text(image_text(arrays, image))
     (folder / "schedule").write_text("".join(
@@ -227,7 +228,7 @@ def by_lisa(program, folder, module, edges):
     words = [program, "clocktrace", "m.v", "image", "schedule", str(edges)]
     done = subprocess.run(words, cwd=folder, capture_output=True, text=True)
     if done.returncode:
-        sys.exit(f"{folder}: status {done.returncode}: {done.stderr.strip()}")
+        return f"status {done.returncode}: {done.stderr.strip()}"
     return states_of(done.stdout, False)
 
 
@@ -247,7 +248,10 @@ def compare(program, folder, seed, edges):
     module = text, inputs, registers, arrays, maker.image(arrays), maker.schedule(inputs, edges)
     folder.mkdir(parents=True, exist_ok=True)
     (folder / "m.v").write_text(text)
-    ours, theirs = by_lisa(program, folder, module, edges), by_icarus(folder, module, edges)
+    ours = by_lisa(program, folder, module, edges)
+    if isinstance(ours, str):
+        return ours, True
+    theirs = by_icarus(folder, module, edges)
     return (None, False) if theirs is None else (next(differences(ours, theirs), None), True)
 
 
@@ -261,6 +265,7 @@ def main():
     words = parser.parse_args()
     if not (shutil.which("iverilog") and shutil.which("vvp")):
         print("compare_icarus: Icarus Verilog is missing, so nothing is compared")
+        print("0 passed, 0 failed")
         return 0
     program = str(Path(words.program).resolve())
     wrong = compared = 0
@@ -271,8 +276,8 @@ def main():
             if found:
                 wrong += 1
                 print(f"module {seed}: {found}")
-    print(f"{compared - wrong} of {compared} modules agree with Icarus Verilog over {words.edges} edges, "
-          f"{words.modules - compared} more it can't run itself")
+    print(f"modules that agree with Icarus Verilog over {words.edges} edges ({words.modules - compared} more it can't run itself):")
+    print(f"{compared - wrong} passed, {wrong} failed")
     return 1 if wrong else 0
 
 

@@ -205,13 +205,24 @@ refused("a group of aliases alone", "RESOURCE { } " + MAIN + " OPERATION x { DEC
 
 refused("an alias with an expression", ALIASED + "ALIAS OPERATION y { CODING { 0b0000 } EXPRESSION { ir } }", "8 WrongKind operation=y name=y")
 refused("an alias with an activation", ALIASED + "ALIAS OPERATION y { CODING { 0b0000 } ACTIVATION { } }", "8 WrongKind operation=y name=y")
-refused("an alias with a root", ALIASED + "ALIAS OPERATION y { DECLARE { GROUP h = { x }; } CODING { ir == h } }", "8 WrongKind operation=y name=y")
+refused("an alias with a root in the root's group", ALIASED + "ALIAS OPERATION y { DECLARE { GROUP h = { x }; } CODING { ir == h } }", "8 WrongKind operation=d name=g")
+refused("an alias with a root", "RESOURCE { REGISTER uint4 ir; } OPERATION main { } OPERATION x { CODING { 0b0000 } } ALIAS OPERATION y { DECLARE { GROUP h = { x }; } CODING { ir == h } }", "8 WrongKind operation=y name=y")
+IN_CODING = PIPE + 'OPERATION main { DECLARE { GROUP g = { y || z }; } CODING { g } SYNTAX { g } } OPERATION z { CODING { 0b0 } SYNTAX { "Z" } } '
+refused("an alias with a stage in a coding", IN_CODING + "ALIAS OPERATION y IN p.A { CODING { 0b1 } SYNTAX { \"Y\" } }", "8 WrongKind operation=main name=g")
+refused("an alias with a root in a coding", IN_CODING + "ALIAS OPERATION y { DECLARE { GROUP h = { z }; } CODING { a == h } }", "8 WrongKind operation=main name=g")
 refused("an alias with a reference", ALIASED + "ALIAS OPERATION y { DECLARE { REFERENCE g; } CODING { 0b0000 } }", "8 WrongKind operation=y name=y")
 accepted("a group of one operation and an alias", REGS + MAIN + " OPERATION w { DECLARE { GROUP g = { x || y }; } CODING { g } SYNTAX { g } BEHAVIOR { a = g; } } OPERATION x { CODING { 0b0 } EXPRESSION { a } } ALIAS OPERATION y { CODING { 0b0 } }", 4, 0, 1, 3)
 refused("the root's group called through a reference",
         "RESOURCE { REGISTER uint4 ir; } OPERATION main { } OPERATION d { DECLARE { GROUP g = { x }; } CODING { ir == g } } OPERATION x { DECLARE { REFERENCE g; } CODING { 0b0000 } BEHAVIOR { g(); } }",
         "8 WrongKind operation=x name=g")
 refused("execute of a register", behavior("a.execute();"), "8 WrongKind operation=main name=a")
+refused("an array that a loop assigns first", behavior("for (r = 0; a < 3; a = a + 1) ;"), "8 WrongKind operation=main name=r")
+refused("an array that a loop steps", behavior("for (uint8 x = 0; x < 3; r = x + 1) ;"), "8 WrongKind operation=main name=r")
+refused("a memory that a loop steps", behavior("for (uint8 x = 0; x < 3; m = x + 1) ;"), "8 WrongKind operation=main name=m")
+refused("an array in the test of a loop", behavior("for (uint8 x = 0; r < 3; x = x + 1) ;"), "8 WrongKind operation=main name=r")
+refused("a pipeline that a loop assigns first", PIPE + "OPERATION main { BEHAVIOR { for (p = 0; a < 3; a = a + 1) ; } }", "8 WrongKind operation=main name=p")
+refused("a pipeline that a loop steps", PIPE + "OPERATION main { BEHAVIOR { for (uint8 x = 0; x < 3; p = x + 1) ; } }", "8 WrongKind operation=main name=p")
+refused("a pin that a loop steps", behavior("for (uint8 x = 0; x < 3; i = x + 1) ;"), "12 LoopWithoutBound operation=main")
 refused("a boundary of a register", PIPE + "OPERATION main { BEHAVIOR { a = PIPELINE_REGISTER(a, A/B).f; } }", "7 Unknown operation=main name=A")
 refused("a call into a stage through a reference",
         "RESOURCE { PIPELINE p = { A; B }; } OPERATION main { DECLARE { INSTANCE x, n = y; } ACTIVATION { x } } OPERATION x { DECLARE { REFERENCE n; } BEHAVIOR { n(); } } OPERATION y IN p.A { }",
@@ -374,12 +385,17 @@ refused("1,025 arrays", "RESOURCE { " + many(1025, "MEMORY uint1 m%d[2]; ") + "}
 refused("five of the deepest memories", "RESOURCE { " + many(5, "MEMORY uint8 m%d[1048576]; ") + "} " + MAIN, "22 TooMany what=cells count=5242880 limit=4194304")
 accepted("32 by 32 forms", pairs(32), 35, 1024, 1, 1)
 refused("33 by 33 forms", pairs(33), "22 TooMany what=forms count=1089 limit=1024")
+accepted("both branches of a choice", "RESOURCE { REGISTER uint4 pc; PIPELINE p = { A; B }; } OPERATION x IN p.A { } OPERATION main { DECLARE { INSTANCE x, y; } ACTIVATION { if (pc) { x, y } else { x, y } } } OPERATION y { }", 3, 0, 5, 1)
+accepted("an activation through a stage between",
+         'RESOURCE { REGISTER uint4 pc; PIPELINE p = { D; X; W }; } OPERATION main { DECLARE { INSTANCE root; } ACTIVATION { root } } OPERATION root IN p.D { DECLARE { GROUP g = { add }; } CODING { pc == g } ACTIVATION { g } } OPERATION add IN p.W { CODING { 0bx[4] } SYNTAX { "ADD" } }',
+         3, 1, 3, 5)
 accepted("an activation of 12 levels", doubling(11), 12, 0, 4095, 0)
 refused("an activation of 13 levels", doubling(12), "22 TooMany what=occurrences count=8191 limit=4096")
 refused("8,193 registers", "RESOURCE { " + many(8193, "REGISTER uint1 r%d; ") + "} " + MAIN, "22 TooMany what=items count=8193 limit=8192")
 accepted("a loop in a loop", behavior("for (uint16 x = 0; x < 256; x = x + 1) for (uint16 y = 0; y < 14; y = y + 1) ;"), 1, 0, 1, 3)
 refused("a longer loop in a loop", behavior("for (uint16 x = 0; x < 256; x = x + 1) for (uint16 y = 0; y < 15; y = y + 1) ;"), "22 TooMany what=statements count=4097 limit=4096")
 refused("six loops in each other", behavior("".join(f"for (uint16 x{k} = 0; x{k} < 256; x{k} = x{k} + 1) " for k in range(6)) + ";"), "22 TooMany what=statements count=282578800148737 limit=4096")
+refused("an activation of 44 levels", doubling(43), "22 TooMany what=occurrences count=17592186044415 limit=4096")
 refused("an activation of 71 levels", doubling(70), "22 TooMany what=occurrences count=18446744073709551615 limit=4096")
 
 # ---------------------------------------------------------------- 23: texts that can't be read
@@ -393,3 +409,215 @@ refused("a first run that begins with a point, behind a sign", TEXT % '"+.A" m=#
 refused("letters behind a number", TEXT % 'm=#U ~ "A" n=#U', "23 BadText form=x")
 refused("two numbers in a run", TEXT % '"A" m=#U ~ n=#U', "23 BadText form=x")
 refused("a child whose text can't be read", CODED % 'DECLARE { INSTANCE y; LABEL l; } CODING { y l=0bx[2] } SYNTAX { l=#U ~ y }' + operation("y", 2, "Y"), "23 BadText form=x(y)")
+
+# ---------------------------------------------------------------- one use or section after the other, in the same surroundings
+
+
+def told(name, text, cases):
+    """Cases of what a text has in its places, with the line of a fault or with the four counts."""
+    for number, (parts, line) in enumerate(cases, 1):
+        whole = text % parts
+        if isinstance(line, str):
+            refused(f"{name} {number}", whole, line)
+        else:
+            accepted(f"{name} {number}", whole, *line)
+
+
+USES = (
+    "RESOURCE { REGISTER uint8 n; REGISTER uint16 w; REGISTER int8 s; CLOCKED REGISTER uint8 c;"
+    " REGISTER uint8 r[4]; MEMORY uint8 m[4]; PIN uint1 p;"
+    " PIPELINE q = { A; B; C }; PIPELINE_REGISTER IN q { uint8 f; }; }"
+    " OPERATION main { BEHAVIOR { %s} }")
+told("uses of resources", USES, [
+    ("n = r[n] + m[0]; c = n; r[1] = c; m[c] = n;", (1, 0, 1, 6)),
+    ("n = r;", "8 WrongKind operation=main name=r"),
+    ("m = n;", "8 WrongKind operation=main name=m"),
+    ("n = n[0];", "8 WrongKind operation=main name=n"),
+    ("uint8 a; a = a[0];", "8 WrongKind operation=main name=a"),
+    ("w[n] = 1;", "8 WrongKind operation=main name=w"),
+    ("p = 1;", "8 WrongKind operation=main name=p"),
+    ("n = q;", "8 WrongKind operation=main name=q"),
+    ("n();", "8 WrongKind operation=main name=n"),
+    ("uint8 a; a();", "8 WrongKind operation=main name=a"),
+    ("n.execute();", "8 WrongKind operation=main name=n"),
+    ("for (uint8 i = 0; i < 3; i = i + 1) i = 2;", "8 WrongKind operation=main name=i"),
+    ("for (uint8 i = 0; i < 3; i = i + 1) n = n + i;", (1, 0, 1, 6)),
+    ("n = IN.f;", "8 WrongKind operation=main name=f"),
+    ("OUT.f = n;", "8 WrongKind operation=main name=f"),
+    ("n = decoded;", "8 WrongKind operation=main name=decoded"),
+    ("n = PIPELINE_REGISTER(q, A/B).f;", (1, 0, 1, 6)),
+    ("n = PIPELINE_REGISTER(q, A/C).f;", "8 WrongKind operation=main name=f"),
+    ("n = PIPELINE_REGISTER(q, B/A).f;", "8 WrongKind operation=main name=f"),
+])
+told("values for places", USES, [
+    ("n = w;", "11 Narrowing operation=main from=16 to=8"),
+    ("n = (uint8) w;", (1, 0, 1, 6)),
+    ("n = 255;", (1, 0, 1, 6)),
+    ("n = 256;", "11 Narrowing operation=main from=9 to=8"),
+    ("s = 127;", (1, 0, 1, 6)),
+    ("s = 128;", "11 Narrowing operation=main from=9 to=8"),
+    ("s = (uint8) 200;", (1, 0, 1, 6)),
+    ("s = s + 127;", (1, 0, 1, 6)),
+    ("s = s + 128;", "11 Narrowing operation=main from=9 to=8"),
+    ("n = n + 256;", "11 Narrowing operation=main from=9 to=8"),
+    ("n = n << 300;", (1, 0, 1, 6)),
+    ("n = w == w;", (1, 0, 1, 6)),
+    ("n = ~w;", "11 Narrowing operation=main from=16 to=8"),
+    ("n = p ? w : n;", "11 Narrowing operation=main from=16 to=8"),
+    ("uint8 a = w;", "11 Narrowing operation=main from=16 to=8"),
+    ("int8 a = 128;", "11 Narrowing operation=main from=9 to=8"),
+    ("r[w] = w;", "11 Narrowing operation=main from=16 to=8"),
+    ("for (uint8 i = 256; i < 300; i = i + 300) ;", "9 BadWidth name=i width=8"),
+    ("int64 a = 9223372036854775808; a = a + 9223372036854775808;", (1, 0, 1, 6)),
+])
+STAGES = (
+    "RESOURCE { REGISTER uint8 n; PIPELINE q = { A; B }; PIPELINE_REGISTER IN q { uint8 f; }; }"
+    " OPERATION main { DECLARE { INSTANCE a, b; } ACTIVATION { a, b } } OPERATION a IN q.A { BEHAVIOR { %s} }")
+told("boundaries of stages", STAGES, [
+    ("OUT.f = n; } } OPERATION b IN q.B { BEHAVIOR { n = IN.f;", "17 BadMain"),
+    ("n = IN.f; } } OPERATION b IN q.B { BEHAVIOR { ", "8 WrongKind operation=a name=f"),
+    ("} } OPERATION b IN q.B { BEHAVIOR { OUT.f = n;", "8 WrongKind operation=b name=f"),
+])
+CHOSEN = (
+    "RESOURCE { REGISTER uint8 n; REGISTER uint16 w; REGISTER uint8 ir; REGISTER uint8 r[4]; PIN uint1 p;"
+    " PIPELINE q = { A; B }; PIPELINE_REGISTER IN q { uint8 f; }; }"
+    " OPERATION main { DECLARE { INSTANCE root; } ACTIVATION { root } }"
+    " OPERATION root { DECLARE { GROUP i = { u }; } CODING { ir == i } ACTIVATION { i } }")
+told("alternatives and their types", CHOSEN + (
+    ' OPERATION u { DECLARE { GROUP g = { x || y }; } CODING { g } SYNTAX { g } BEHAVIOR { %s }'
+    ' OPERATION x { CODING { 0b0 } SYNTAX { "x" } EXPRESSION { n } }'), [
+    ('n = g; g = n; g(); } } OPERATION y { CODING { 0b1 } SYNTAX { "y" } EXPRESSION { r[0] }', "19 GroupWidth operation=root name=i"),
+    ('n = g; } } OPERATION y { CODING { 0b1 } SYNTAX { "y" } EXPRESSION { w }', "8 WrongKind operation=u name=g"),
+    ('n = g; } } OPERATION y { CODING { 0b1 } SYNTAX { "y" }', "8 WrongKind operation=u name=g"),
+    ('n = g; } } OPERATION y { CODING { 0b1 } SYNTAX { "y" } EXPRESSION { (uint8) w }', "19 GroupWidth operation=root name=i"),
+    ('g = n; } } OPERATION y { CODING { 0b1 } SYNTAX { "y" } EXPRESSION { (uint8) w }', "8 WrongKind operation=u name=g"),
+    ('g = w; } } OPERATION y { CODING { 0b1 } SYNTAX { "y" } EXPRESSION { n }', "11 Narrowing operation=u from=16 to=8"),
+    ('n = g + 256; } } OPERATION y { CODING { 0b1 } SYNTAX { "y" } EXPRESSION { n }', "11 Narrowing operation=u from=9 to=8"),
+    ('g[0] = n; } } OPERATION y { CODING { 0b1 } SYNTAX { "y" } EXPRESSION { n }', "8 WrongKind operation=u name=g"),
+    ('n = decoded; } } OPERATION y { CODING { 0b1 } SYNTAX { "y" } EXPRESSION { n }', "8 WrongKind operation=u name=decoded"),
+    ('n = g; } } ALIAS OPERATION y { CODING { 0b1 } SYNTAX { "y" }', "19 GroupWidth operation=root name=i"),
+    ('n = g; } } ALIAS OPERATION y { CODING { 0b1 } SYNTAX { "y" } BEHAVIOR { }', "8 WrongKind operation=y name=y"),
+    ('n = g; } } ALIAS OPERATION y { SYNTAX { "y" }', "8 WrongKind operation=y name=y"),
+    ('n = g; } } OPERATION y { CODING { 0b1 } SYNTAX { "y" } EXPRESSION { IN.f + w }', "8 WrongKind operation=y name=f"),
+    ('n = g; } } OPERATION y { CODING { 0b1 } SYNTAX { "y" } EXPRESSION { (uint16) IN.f }', "8 WrongKind operation=u name=g"),
+    ('g = n; } } OPERATION y { CODING { 0b1 } SYNTAX { "y" } EXPRESSION { decoded }', "8 WrongKind operation=y name=decoded"),
+])
+told("children outside of codings", CHOSEN + (
+    ' OPERATION u { CODING { 0b0 } SYNTAX { "u" } } OPERATION x { } OPERATION y { } OPERATION s IN q.A { } ALIAS'
+    ' OPERATION b { CODING { 0b0 } SYNTAX { "b" } } OPERATION z { %s}'), [
+    ("DECLARE { GROUP g = { x || y }; } BEHAVIOR { g(); }", "8 WrongKind operation=z name=g"),
+    ("DECLARE { GROUP g = { x || y }; } ACTIVATION { g }", "8 WrongKind operation=z name=g"),
+    ("DECLARE { GROUP g = { x }; INSTANCE y; } BEHAVIOR { g(); y(); } ACTIVATION { g, y }", "19 GroupWidth operation=root name=i"),
+    ("DECLARE { INSTANCE u; }", "8 WrongKind operation=z name=u"),
+    ("DECLARE { INSTANCE root; } BEHAVIOR { root(); }", "8 WrongKind operation=z name=root"),
+    ("DECLARE { INSTANCE s; } BEHAVIOR { s(); }", "8 WrongKind operation=z name=s"),
+    ("DECLARE { LABEL l; } ACTIVATION { l }", "8 WrongKind operation=z name=l"),
+    ("DECLARE { INSTANCE b; } CODING { b } SYNTAX { b }", "8 WrongKind operation=z name=b"),
+    ("DECLARE { GROUP g = { b }; } CODING { g } SYNTAX { g }", "8 WrongKind operation=z name=g"),
+])
+told("labels and their fields", CHOSEN + " OPERATION u { DECLARE { LABEL l; } CODING { 0b0 %s}", [
+    ('l=0bx[8] } SYNTAX { "u" l=#U } BEHAVIOR { n = l + 200; }', "19 GroupWidth operation=root name=i"),
+    ('l=0bx[8] } SYNTAX { "u" l=#S } BEHAVIOR { n = l + 200; }', "11 Narrowing operation=u from=9 to=8"),
+    ('l=0bx[8] } SYNTAX { "u" l=#U } BEHAVIOR { l = n; }', "8 WrongKind operation=u name=l"),
+    ('l=0bx[8] } SYNTAX { "u" l }', "8 WrongKind operation=u name=l"),
+    ('} SYNTAX { "u" } BEHAVIOR { n = l; }', "8 WrongKind operation=u name=l"),
+    ('} SYNTAX { "u" l=#U }', "8 WrongKind operation=u name=l"),
+    ('l=0b10 } SYNTAX { "u" l=#U }', "8 WrongKind operation=u name=l"),
+    ('l } SYNTAX { "u" l=#U }', "8 WrongKind operation=u name=l"),
+])
+NARROW = "LABEL v; } CODING { z v=0bx[8] } SYNTAX { z v=#U } }"
+WIDE = "LABEL v; } CODING { z v=0bx[9] } SYNTAX { z v=#U } }"
+CHILD = "INSTANCE v = k; } CODING { z v } SYNTAX { z v } }"
+CAST = "INSTANCE v = h; } CODING { z v } SYNTAX { z v } }"
+CIRCLE = "INSTANCE v = o; } CODING { z } SYNTAX { z } } OPERATION o { DECLARE { INSTANCE v = o; } EXPRESSION { v } }"
+BARE = "INSTANCE v = e; } CODING { z } SYNTAX { z } } OPERATION e { }"
+told("what a reference may mean", CHOSEN + (
+    " OPERATION u { DECLARE { GROUP g = { one || other }; } CODING { g } SYNTAX { g } }"
+    ' OPERATION k { CODING { 0b0 } SYNTAX { "k" } EXPRESSION { n } }'
+    ' OPERATION h { CODING { 0b0 } SYNTAX { "h" } EXPRESSION { (uint8) w } }'
+    " OPERATION one { DECLARE { INSTANCE z; %s OPERATION other { DECLARE { INSTANCE z; %s"
+    ' OPERATION z { DECLARE { REFERENCE v; } CODING { 0b0 } SYNTAX { "z" } %s}'), [
+    ((NARROW, NARROW, "BEHAVIOR { n = v; }"), "19 GroupWidth operation=root name=i"),
+    ((NARROW, WIDE, ""), "8 WrongKind operation=z name=v"),
+    ((WIDE, WIDE, "BEHAVIOR { n = v; }"), "11 Narrowing operation=z from=9 to=8"),
+    ((NARROW, CHILD, ""), "8 WrongKind operation=z name=v"),
+    ((CHILD, CHILD, "BEHAVIOR { n = v; v = n; v(); }"), "19 GroupWidth operation=root name=i"),
+    ((CHILD, CAST, ""), "8 WrongKind operation=z name=v"),
+    ((NARROW, NARROW, "BEHAVIOR { v = n; }"), "8 WrongKind operation=z name=v"),
+    ((NARROW, NARROW, "BEHAVIOR { v(); }"), "8 WrongKind operation=z name=v"),
+    ((CHILD, CHILD, "ACTIVATION { v }"), "8 WrongKind operation=z name=v"),
+    ((CIRCLE, CHILD, "BEHAVIOR { n = v; v = n; }"), "14 Circular operation=o"),
+    ((CIRCLE, BARE, "BEHAVIOR { n = v; }"), "8 WrongKind operation=z name=v"),
+    ((CIRCLE, CAST, "BEHAVIOR { v = n; }"), "8 WrongKind operation=z name=v"),
+])
+told("places of roots", (
+    "RESOURCE { %s"
+    'OPERATION main { DECLARE { INSTANCE root; } ACTIVATION { root } } OPERATION u { CODING { 0b0 } SYNTAX { "u" } }'
+    ' OPERATION root { DECLARE { GROUP i = { u }; }'
+    " %s}"), [
+    (("REGISTER uint8 n; } ", "CODING { n == i } BEHAVIOR { n = decoded; } ACTIVATION { i }"), "19 GroupWidth operation=root name=i"),
+    (("REGISTER uint8 n[4]; } ", "CODING { n == i }"), "8 WrongKind operation=root name=n"),
+    (("REGISTER uint8 n; } ", "CODING { n == i } SYNTAX { i }"), "8 WrongKind operation=root name=i"),
+    (("REGISTER uint8 n; } ", "CODING { n == i } BEHAVIOR { i(); }"), "8 WrongKind operation=root name=i"),
+    (("REGISTER uint8 n; } ", "CODING { n == i } EXPRESSION { decoded }"), "8 WrongKind operation=root name=decoded"),
+    (("PIPELINE q = { A }; PIPELINE_REGISTER IN q { uint8 f; }; } ", "CODING { IN.f == i }"), "8 WrongKind operation=root name=f"),
+    (("REGISTER uint8 n; PIPELINE_REGISTER IN n { uint8 f; }; } ", "CODING { n == i }"), "8 WrongKind operation= name=n"),
+])
+told("what rests on itself", (
+    "RESOURCE { REGISTER uint8 n; } OPERATION main { DECLARE { INSTANCE x; } BEHAVIOR { %s} }"
+    " OPERATION y { DECLARE { INSTANCE x; } EXPRESSION { x } }"), [
+    ("n = x; x = n; n = x + 256; } } OPERATION x { DECLARE { INSTANCE y; } EXPRESSION { y", "14 Circular operation=x"),
+    ("n = x; } } OPERATION x { DECLARE { INSTANCE y; } EXPRESSION { (uint16) y", "11 Narrowing operation=main from=16 to=8"),
+])
+told("alternatives and their widths", 'RESOURCE { } OPERATION main { } OPERATION x { CODING { 0b00 } SYNTAX { "x" } } OPERATION u { DECLARE { %s }', [
+    ('GROUP g = { x || y }; } CODING { g 0bx[3] } SYNTAX { g } } OPERATION y { CODING { 0b11 } SYNTAX { "y" }', (4, 0, 1, 0)),
+    ('GROUP g = { x || y }; } CODING { g } SYNTAX { g } } OPERATION y { CODING { 0b111 } SYNTAX { "y" }', "19 GroupWidth operation=u name=g"),
+    ('GROUP g = { x || y }; } CODING { g } SYNTAX { g } } OPERATION y { SYNTAX { "y" }', "19 GroupWidth operation=u name=g"),
+    ('GROUP g = { x || y }; } } OPERATION y { SYNTAX { "y" }', "8 WrongKind operation=u name=g"),
+    ('GROUP g = { x || y }; } CODING { g } SYNTAX { g } } ALIAS OPERATION y { CODING { 0b111 } SYNTAX { "y" }', "19 GroupWidth operation=u name=g"),
+    ('INSTANCE y; } CODING { y } SYNTAX { y } } OPERATION y { SYNTAX { "y" }', "19 GroupWidth operation=u name=y"),
+    ('INSTANCE y; } CODING { y } SYNTAX { y } } OPERATION y { CODING { 0bx[33] 0bx[32] } SYNTAX { "y" }', "19 GroupWidth operation=u name=y"),
+    ('INSTANCE y; } CODING { y } SYNTAX { y } } OPERATION y { CODING { 0bx[32] 0bx[32] } SYNTAX { "y" }', (4, 0, 1, 0)),
+])
+told("a group below a group", (
+    'RESOURCE { } OPERATION main { } OPERATION u { DECLARE { GROUP h = { v || w }; } CODING { h 0b1 } SYNTAX { h } }'
+    ' OPERATION v { DECLARE { GROUP g = { x || y }; } CODING { g 0bx } SYNTAX { g } }'
+    ' OPERATION w { CODING { 0b10 } SYNTAX { "w" } } OPERATION x { CODING { 0b1 } SYNTAX { "x" } }'
+    ' OPERATION y { CODING { %s } SYNTAX { "y" } }'), [
+    ("0b0", (6, 0, 1, 0)),
+    ("0b00", "19 GroupWidth operation=v name=g"),
+])
+told("roots and their places", (
+    'RESOURCE { REGISTER uint8 n; CLOCKED REGISTER uint7 c;'
+    ' PIPELINE p = { A; B }; PIPELINE_REGISTER IN p { uint6 f; }; } OPERATION main { }'
+    ' OPERATION root IN p.B { DECLARE { GROUP i = { u }; } CODING { %s SYNTAX { "u" } }'), [
+    ("n == i } } OPERATION u { CODING { 0bx[8] }", (3, 1, 1, 3)),
+    ("n == i } } OPERATION u { CODING { 0bx[7] }", "19 GroupWidth operation=root name=i"),
+    ("c == i } } OPERATION u { CODING { 0bx[7] }", (3, 1, 1, 3)),
+    ("c == i } } OPERATION u { CODING { 0bx[8] }", "19 GroupWidth operation=root name=i"),
+    ("IN.f == i } } OPERATION u { CODING { 0bx[6] }", (3, 1, 1, 3)),
+    ("IN.f == i } } OPERATION u { CODING { 0bx[8] }", "19 GroupWidth operation=root name=i"),
+    ("n == i } } OPERATION u { ", "19 GroupWidth operation=root name=i"),
+])
+told("what is declared and written", (
+    'RESOURCE { } OPERATION main { } OPERATION x { CODING { 0b0 } SYNTAX { "x" } }'
+    ' OPERATION u { DECLARE { INSTANCE x; LABEL l; } %s }'), [
+    ("CODING { l=0bx[2] x } SYNTAX { x l=#U }", (3, 0, 1, 0)),
+    ("CODING { l=0bx l=0bx x } SYNTAX { x l=#U }", "20 NotWritten operation=u name=l"),
+    ('CODING { l=0bx x } SYNTAX { x l=#U "," l=#U }', "20 NotWritten operation=u name=l"),
+    ("CODING { x } SYNTAX { x l=#U }", "8 WrongKind operation=u name=l"),
+    ("CODING { l=0bx x } SYNTAX { x }", "20 NotWritten operation=u name=l"),
+    ("CODING { l=0bx x }", "20 NotWritten operation=u name=x"),
+    ("CODING { l=0bx }", "8 WrongKind operation=u name=x"),
+    ("CODING { l=0bx x } SYNTAX { l=#U }", "20 NotWritten operation=u name=x"),
+    ('CODING { l=0bx x } SYNTAX { x l=#U "," x }', "20 NotWritten operation=u name=x"),
+    ("CODING { l=0bx x x } SYNTAX { x l=#U }", "20 NotWritten operation=u name=x"),
+    ("CODING { l=0bx } SYNTAX { x l=#U }", "8 WrongKind operation=u name=x"),
+    ("CODING { l=0bx } SYNTAX { l=#U }", "8 WrongKind operation=u name=x"),
+    ("SYNTAX { x l=#U l=#U }", "8 WrongKind operation=u name=x"),
+])
+told("the first name that is not written", 'RESOURCE { } OPERATION main { } OPERATION x { CODING { 0b0 } SYNTAX { "x" } } ALIAS OPERATION u { %s }', [
+    ("SYNTAX { x } DECLARE { INSTANCE x; LABEL l; } CODING { 0b0 }", "8 WrongKind operation=u name=x"),
+    ("DECLARE { LABEL l; INSTANCE x; } CODING { 0b0 } SYNTAX { x }", "8 WrongKind operation=u name=x"),
+    ('DECLARE { INSTANCE x; LABEL l; } CODING { x } SYNTAX { "u" }', "20 NotWritten operation=u name=x"),
+])

@@ -96,10 +96,95 @@ for name, text, fault in [("a bad byte", "RESOURCE { REGISTER uint8 n; } @", "1 
                           ("a number of 65 bits", "18446744073709551616", "2 NumberTooWide at=0"),
                           ("a name of 65 bytes", "a" * 65, "3 NameTooLong at=0")]:
     row(f"fmt of {name}", {"X": text}, step("fmt X", err=f"lisa: description {fault}\n"))
+
+
+def nested(count, semantics):
+    """Indexes in each other, behind a SEMANTICS section."""
+    value = "m[" * count + "n" + "]" * count
+    return f"RESOURCE {{ MEMORY uint8 m[2]; REGISTER uint8 n; }} OPERATION a {{ SEMANTICS {{ {semantics} }} BEHAVIOR {{ n = {value}; }} }}"
+
+
+def nested_text(count):
+    value = "m[" * count + "n" + "]" * count
+    return lines("RESOURCE {", "  MEMORY uint8 m[2];", "  REGISTER uint8 n;", "}", "OPERATION a {", "  BEHAVIOR {", f"    n = {value};", "  }", "}")
+
+
+for count, semantics in [(62, ") )"), (62, ") ("), (62, "( SEMANTICS { ) }")]:
+    row(f"{count} indexes behind {semantics} are read again", {"X": nested(count, semantics)}, step("fmt X", nested_text(count), save="Y"), step("fmt Y", same="Y"))
+DEEP = nested_text(63)
+row("63 indexes behind brackets that close others are printed and not read again", {"X": nested(63, ") )")},
+    step("fmt X", DEEP, save="Y"), step("fmt Y", err=f"lisa: description 4 TooDeep at={DEEP.index('m[m') + 2 * 63 - 1}\n"))
 row("fmt of 64 brackets", {"X": "(" * 64}, step("fmt X", err=up_to("lisa: description 5 NotADescription at=", 64)))
 for word in ("ALIAS", "CLOCKED"):
     row(f"{word} is no name", {"X": swap(A, ("uint8 n;", f"uint8 {word};"))},
         step("fmt X", err=up_to("lisa: description 5 NotADescription at=", len(A) + 10)))
+for name, text, fault in [("0x alone", "0x", "1 BadByte at=1"), ("0b alone", "0b", "1 BadByte at=1"), ("a letter behind a number", "1a", "1 BadByte at=1"),
+                          ("another format", "#Q", "1 BadByte at=0"), ("half a comment", " /*/", "1 BadByte at=1"),
+                          ("a comment with a bad byte", "/*a\x7f*/", "1 BadByte at=3"), ("a line's comment with a bad byte", "//a\x80", "1 BadByte at=3"),
+                          ("half a string", ' "a', "1 BadByte at=1"), ("a string with a semicolon", '"a;"', "1 BadByte at=2"),
+                          ("a name of 65 bytes in its place", "RESOURCE { REGISTER uint8 " + "a" * 65 + "; }", "3 NameTooLong at=26")]:
+    row(f"fmt of {name}", {"X": text}, step("fmt X", err=f"lisa: description {fault}\n"))
+
+
+def not_read(name, text):
+    row(f"fmt of {name}", {"X": text}, step("fmt X", err=up_to("lisa: description 5 NotADescription at=", len(text))))
+
+
+def formatted(name, section, *inner):
+    """How a section of an operation is printed, and that it is printed as it stands then."""
+    text = lines("RESOURCE {", "}", "OPERATION f {", *("  " + line for line in inner), "}")
+    row(f"fmt of {name}", {"X": "RESOURCE { } OPERATION f { " + section + " }"}, step("fmt X", text, save="Y"), step("fmt Y", text))
+
+
+def behavior(name, statements, *inner):
+    formatted(name, "BEHAVIOR { " + statements + " }", "BEHAVIOR {", *("  " + line for line in inner), "}")
+
+
+not_read("an operation without its end", "RESOURCE { } OPERATION main { ")
+not_read("a sign behind a description", "RESOURCE { } OPERATION main { } ;")
+not_read("a slash", "RESOURCE { / }")
+LONG_NAME = "a" * 64
+row("fmt of a name of 64 bytes", {"X": f"RESOURCE{{REGISTER uint8 {LONG_NAME};}}"},
+    step("fmt X", lines("RESOURCE {", f"  REGISTER uint8 {LONG_NAME};", "}")))
+row("fmt of a name that begins with a reserved word", {"X": "RESOURCE{REGISTER uint8 CLOCKED_;}"},
+    step("fmt X", lines("RESOURCE {", "  REGISTER uint8 CLOCKED_;", "}")))
+row("fmt without SEMANTICS", {"X": "RESOURCE { CLOCKED REGISTER uint8 n; } ALIAS OPERATION m IN p.x { SEMANTICS { { if } ; } BEHAVIOR { n = 1; } SEMANTICS { } }"},
+    step("fmt X", lines("RESOURCE {", "  CLOCKED REGISTER uint8 n;", "}", "ALIAS OPERATION m IN p.x {", "  BEHAVIOR {", "    n = 1;", "  }", "}")))
+for last in ("B", "B;"):
+    row(f"fmt of stages up to {last}", {"X": "RESOURCE { PIPELINE p = { A; " + last + " }; PIPELINE_REGISTER IN p { uint8 x; } }"},
+        step("fmt X", lines("RESOURCE {", "  PIPELINE p = {", "    A;", "    B };", "  PIPELINE_REGISTER IN p {", "    uint8 x;", "  };", "}")))
+row("fmt of an array's depth", {"X": "RESOURCE{REGISTER int12 r[0x10];MEMORY uint1 m[007];}"},
+    step("fmt X", lines("RESOURCE {", "  REGISTER int12 r[16];", "  MEMORY uint1 m[7];", "}")))
+formatted("declarations", "DECLARE { GROUP d, s = { reg }; GROUP i = { add || load }; INSTANCE a, b = c, x = x; LABEL n; REFERENCE r, q; }",
+          "DECLARE {", "  GROUP d, s = {", "    reg };", "  GROUP i = {", "    add || load };", "  INSTANCE a, b = c, x;", "  LABEL n;", "  REFERENCE r, q;", "}")
+formatted("a coding", "CODING { 0b0001 i=0bxx reg 0bx[065535] }", "CODING {", "  0b0001 i = 0bxx reg 0bx[65535] }")
+formatted("a root over a field", "CODING { IN.code==instruction }", "CODING {", "  IN.code == instruction }")
+formatted("a root over a register", "CODING { code==instruction }", "CODING {", "  code == instruction }")
+for coding in ("0bx[0]", "0bx[65536]", "0b00[65535]", "", "IN.code"):
+    not_read(f"the coding '{coding}'", "RESOURCE { } OPERATION f { CODING { " + coding + " } }")
+formatted("a syntax", 'SYNTAX { "ADD" reg~"," n=#S m=#U~k=#X }', "SYNTAX {", '  "ADD" reg ~ "," n = #S m = #U ~ k = #X }')
+not_read("a syntax that begins with a joint", 'RESOURCE { } OPERATION f { SYNTAX { ~ "ADD" } }')
+formatted("an activation", "ACTIVATION { c, if(decoded){a,b}else{} }",
+          "ACTIVATION {", "  c, if (decoded) {", "    a, b }", "  else {", "  }", "}")
+behavior("differences", "n = a - b - c; n = (a - b) - c; n = a - (b - c);", "n = a - b - c;", "n = a - b - c;", "n = a - (b - c);")
+behavior("a complement of a cast", "n = a - (b - ~(uint8)c); n = ~(a - b); n = !(~n);", "n = a - (b - ~ (uint8) c);", "n = ~ (a - b);", "n = ! ~ n;")
+behavior("each operator", "n = a<<b>>c<d<=e>f>=g==h!=i&&j||k&l|m^o+p-q*r;",
+         "n = a << b >> c < d <= e > f >= g == h != i && j || k & l | m ^ o + p - q * r;")
+behavior("choices", "n = (a ? b : (n + 1) * 2) ? 0xBEEF : (d ? 0b0110 : decoded);", "n = (a ? b : (n + 1) * 2) ? 0xbeef : d ? 0b110 : decoded;")
+behavior("numbers and comments", "n = 007/***/+0xFf\t+0b01// n\n; /* ; */", "n = 7 + 0xff + 0b1;")
+behavior("an else of the nearest if", "if (a) if (b) ; else ;", "if (a) if (b);", "else;")
+behavior("an else of the outer if", "if (a) { if (b) ; } else ;", "if (a) {", "  if (b);", "}", "else;")
+behavior("an if with blocks", "if(a);if(a){}else{;}child();", "if (a);", "if (a) {", "}", "else {", "  ;", "}", "child ();")
+behavior("loops", "while(a);for(uint8 i=0;i<3;i=i+1)n=n+i;", "while (a);", "for (uint8 i = 0; i < 3; i = i + 1) n = n + i;")
+behavior("locals and control", "uint8 x;uint4 y=1;OUT.f=r[1];p.A.stall();p.B.flush();p.execute();p.shift();n=PIPELINE_REGISTER(p,A/B).f;",
+         "uint8 x;", "uint4 y = 1;", "OUT.f = r[1];", "p.A.stall ();", "p.B.flush ();", "p.execute ();", "p.shift ();",
+         "n = PIPELINE_REGISTER (p, A / B).f;")
+for depth, is_read in ((126, True), (127, False)):
+    text = "RESOURCE { REGISTER uint8 n; } OPERATION main { BEHAVIOR { n = " + "~" * depth + "n; } }"
+    if is_read:
+        row("fmt of the deepest behaviour", {"X": text}, step("fmt X", None))
+    else:
+        not_read("a deeper behaviour", text)
 row("fmt of a missing file", {}, step("fmt G", err="lisa: read fault\n", status=3))
 row("fmt of two files", {"A": A}, step("fmt A A", err=USAGE, status=2))
 
@@ -148,8 +233,90 @@ for name, text, fault in [
         ("a sum of 65 bits", swap(V, ("a + b", "{s, s, s, s, 1'd1}")), f"9 TooWide at={V.index('a + b')}"),
         ("two drivers", swap(V, ("endmodule", "  always @(posedge clk) s <= a;\nendmodule")), "10 TwoDrivers name=s"),
         ("65 brackets", "(" * 65, "2 TooDeep at=64"),
-        ("a bad byte", "module \x01", "1 BadByte at=7")]:
+        ("a bad byte", "module \x01", "1 BadByte at=7"),
+        ("a question directly behind a binary number", swap(V, ("a + b", "1'b1?a:b")), f"1 BadByte at={V.index('a + b') + 4}"),
+        ("a question directly behind a hexadecimal number", swap(V, ("a + b", "4'hf?a:b")), f"1 BadByte at={V.index('a + b') + 4}")]:
     row(f"clock of {name}", {"V": text}, step("clock V - - 1", err=f"lisa: verilog {fault}\n"))
+
+
+
+def value(name, expression, result):
+    """What the register s of 16 bits takes of an expression over a, which is 200, and b, which is 100, of 8 bits each."""
+    row(f"value of {name}", {"V": swap(V, ("a + b", expression))}, step("clock V - - 1", lines("edge 1", "a 0xc8", "b 0x64", f"s {result}")))
+
+
+value("sums and products", "a+b*8'd3+8'd1", "0x1f5")
+value("differences", "a-b-b-8'd1", "0xffff")
+value("a bracketed sum", "(a+b)*8'd2", "0x258")
+value("a bracketed difference", "a-(b-8'd1)", "0x65")
+value("a shifted sum", "a+b<<2'd1", "0x258")
+value("a comparison of sums", "a+8'd1>b+8'd2", "0x1")
+value("equal comparisons", "a<b==8'd0>b", "0x1")
+value("and, or and exclusive or", "a|b^8'd255&b", "0xc8")
+value("logical and, and or", "1'd1||1'd0&&1'd0", "0x1")
+value("choices to the right", "1'd0?a:1'd1?b:a", "0x64")
+value("a choice in a choice", "1'd1?1'd0?a:b:a", "0x64")
+value("a concatenation", "{a,b[3],b[7:4]}", "0x1906")
+value("a replication", "{3{b[3:1]}}", "0x92")
+value("a negation of a complement", "!(~a)", "0x0")
+value("a question behind a decimal number", "1'd1?a:b", "0xc8")
+value("a question apart from a binary number", "1'b0 ?a:b", "0x64")
+value("numbers of other bases", "8'hC_8+8'B1_0+8'D1", "0xcb")
+
+
+def module(*members, inputs="input c"):
+    return "module t (" + inputs + "); " + " ".join(members) + " endmodule"
+
+
+def clocked(name, text, edges, *told, schedule=None):
+    files = {"W": text} if schedule is None else {"W": text, "H": schedule}
+    row(f"clock of {name}", files, step(f"clock W - {'-' if schedule is None else 'H'} {edges}", lines(f"edge {edges}", *told)))
+
+
+BLOCKS = ("reg [7:0] a;", "reg [7:0] b;", "initial begin a = 8'd1; b = 8'd2; end")
+clocked("blocks in blocks", module(*BLOCKS, "always @(posedge c) begin begin a <= b; end begin end begin if (1'd1) begin b <= a; end end end"), 1, "a 0x2", "b 0x1")
+clocked("an else of the nearest if", module(*BLOCKS, "always @(posedge c) if (1'd1) if (1'd0) a <= 8'd3; else b <= 8'd4;"), 1, "a 0x1", "b 0x4")
+clocked("an else of the outer if", module(*BLOCKS, "always @(posedge c) if (1'd1) begin if (1'd0) a <= 8'd3; end else b <= 8'd4;"), 1, "a 0x1", "b 0x2")
+clocked("each kind of member", module(
+    "reg [7:0] r;", "reg s;", "reg [7:0] m [0:7];", "wire [7:0] w = r + a;", "initial r = 8'd5;", "initial begin s = 1'd0; end",
+    "always @(posedge c) r <= w;", "always @(posedge c) begin s <= b; m[r[2:0]] <= a; end", inputs="input wire c, input [7:0] a, input wire b"), 2,
+    "r 0xb", "s 0x1", "m[0] 0x3", "m[5] 0x3", schedule="1 a=3 b=1\n")
+clocked("escaped names", module("reg [7:0] \\a.b ;", "initial \\a.b = 8'd7;", "always @(posedge c) \\a.b <= \\a.b + 8'd1;"), 1, "a.b 0x8")
+clocked("a word that is reserved elsewhere", module("wire assign = 1'd1;"), 1)
+clocked("a bit of what has no range", module("reg a;", "initial a = 1'd1;", "always @(posedge c) a <= !a[0];"), 1, "a 0x0")
+for depth, is_read in ((126, True), (127, False)):
+    text = swap(V, ("a + b", "a?b:" * depth + "a"))
+    row(f"clock of {depth} choices", {"V": text}, step("clock V - - 1", lines("edge 1", "a 0xc8", "b 0x64", "s 0x64")) if is_read
+        else step("clock V - - 1", err=at_most("lisa: verilog 3 NotInSubset at=", text)))
+for name, text in [("no end", "module m (input c);"), ("two ends", "module m (input c); endmodule endmodule"), ("nothing", ""),
+                   ("a sign behind it", "module t (input c); endmodule ;"), ("64 brackets", "(" * 64),
+                   ("a range that ends at 1", module("reg [7:1] r;")), ("an array from 1 on", module("reg [7:0] r [1:7];")),
+                   ("a block without end", module("always @(posedge c) begin")), ("no semicolon", module("wire w = 1'd1")),
+                   ("a replication of none", swap(V, ("a + b", "{0{a}}"))), ("an index by a plain", swap(V, ("a <= b;", "a[0] <= b;")))]:
+    row(f"clock of {name}", {"W": text}, step("clock W - - 1", err=at_most("lisa: verilog 3 NotInSubset at=", text) if text else "lisa: verilog 3 NotInSubset at=0\n"))
+for name, text, fault in [
+        ("a bad byte behind a module", "module t (input c); #", "1 BadByte at=20"),
+        ("a number that is too great for its size", "a 8'd256", "1 BadByte at=2"),
+        ("a digit of another base", "4'b12", "1 BadByte at=4"),
+        ("an escaped name without its end", "a \\b", "1 BadByte at=2"),
+        ("a plain of 32 bits", "[2147483648]", "1 BadByte at=1"),
+        ("an input named as a register", module("reg i;", inputs="input c, input i"), "4 DuplicateName name=i"),
+        ("a wire of itself", module("wire w = w;"), "5 UsedBeforeDeclared name=w"),
+        ("a wire of a later one", module("wire a = b;", "wire b = 1'd1;"), "5 UsedBeforeDeclared name=b"),
+        ("an assignment to an input", module("always @(posedge c) i <= i;", inputs="input c, input i"), "6 WrongUse name=i"),
+        ("an array without its index", module("reg [7:0] a [0:3];", "wire [7:0] w = a;"), "6 WrongUse name=a"),
+        ("a clock that is read", module("wire a = c;"), "6 WrongUse name=c"),
+        ("an initial value of an input", module("initial i = 1'd1;", inputs="input c, input i"), "7 NoInitial name=i"),
+        ("two initial values", module("reg a;", "initial a = 1'd1;", "initial a = 1'd0;"), "7 NoInitial name=a"),
+        ("an index of 1 bit", module("reg [7:0] m [0:3];", "wire [7:0] w = m[1'd0];"), "8 IndexWidth name=m width=1 needed=2"),
+        ("an index of very many bits", module("reg [7:0] m [0:3];", "wire [7:0] w = m[{1000000{{1000000{1'd0}}}}];"), "8 IndexWidth name=m width=4294967295 needed=2"),
+        ("a range of 65 bits", module("wire [64:0] w = 1'd0;"), "9 TooWide at=25"),
+        ("a replication of 65 bits", module("wire w = 1'd0 == ({65{1'd0}});"), "9 TooWide at=37"),
+        ("a depth of 12", module("reg [7:0] m [0:11];"), "11 TooMany what=depth count=12 limit=1048576"),
+        ("65 pins", module(inputs="input c, " + ", ".join(f"input i{k}" for k in range(65))), "11 TooMany what=pins count=65 limit=64"),
+        ("names before sizes", module("reg [64:0] a;", "reg m [0:2];", "wire a = b;"), "4 DuplicateName name=a"),
+        ("uses before sizes", module("reg [64:0] a;", "reg m [0:2];", "wire b = c;"), "6 WrongUse name=c")]:
+    row(f"clock of {name}", {"W": text}, step("clock W - - 1", err=f"lisa: verilog {fault}\n"))
 
 MEMORY = lines("module t (input clk, input [3:0] step);", "  reg [7:0] n;", "  reg [7:0] m [0:3];", "  initial n = 8'd0;",
                "  always @(posedge clk) begin n <= n + step; m[n[1:0]] <= n; end", "endmodule")
@@ -164,8 +331,23 @@ row("an image of another memory", {"W": MEMORY, "I": swap(IMAGE, ("memory m 8 4"
     step("clock W I - 1", err="lisa: image 3 NoSuchMemory name=k\n"))
 row("an image without its end", {"W": MEMORY, "I": swap(IMAGE, ("end\n", ""))},
     step("clock W I - 1", err=re.compile("lisa: image 1 NotAnImage line=[0-6]\n")))
+IRQ = module(inputs="input c, input irq, input hold")
+for name, text, fault in [("an edge twice", "1 irq=1\n1 irq=0\n", "3 NotRising line=2"), ("edge 0", "0 irq=1\n", "3 NotRising line=1"),
+                          ("two blanks", "1  irq=1\n", "1 BadLine line=1"), ("a pin twice", "\n1 irq=1 irq=0", "1 BadLine line=2"),
+                          ("an unknown pin twice", "1 stop=1 irq=1 stop=1", "1 BadLine line=1"),
+                          ("an unknown pin", "1 stop=1 halt=1 irq=2", "2 UnknownPin line=1 name=stop"), ("a value of 2 bits", "5 irq=2\n", "4 PinRange line=1 name=irq value=2")]:
+    row(f"a schedule with {name}", {"W": IRQ, "H": text}, step("clock W - H 1", err=f"lisa: schedule {fault}\n"))
+HELD = module("reg [3:0] n;", "initial n = 4'd0;", "always @(posedge c) n <= in;", inputs="input c, input [3:0] in")
+row("pins hold their values from an edge on", {"W": HELD, "H": "2 in=0xB\r\n\n4 in=1"},
+    step("clocktrace W - H 5", lines("edge 0", "n 0x0", "edge 1", "edge 2", "n 0xb", "edge 3", "edge 4", "n 0x1", "edge 5")))
+row("an image of another width", {"W": MEMORY, "I": swap(IMAGE, ("memory m 8 4", "memory m 4 4"))},
+    step("clock W I - 1", err="lisa: image 3 NoSuchMemory name=m\n"))
 row("a schedule of another pin", {"W": MEMORY, "H": "1 stop=1\n"},
     step("clock W - H 1", err="lisa: schedule 2 UnknownPin line=1 name=stop\n"))
+row("a pin twice in a schedule's line", {"W": MEMORY, "H": "1 step=1 step=1\n"},
+    step("clock W - H 1", err="lisa: schedule 1 BadLine line=1\n"))
+row("a name that no pin has twice in a schedule's line", {"W": MEMORY, "H": "1 step=1\n2 stop=1 step=2 stop=1\n"},
+    step("clock W - H 1", err="lisa: schedule 1 BadLine line=2\n"))
 row("a schedule's value out of range", {"W": MEMORY, "H": "\n1 step=16\n"},
     step("clock W - H 1", err="lisa: schedule 4 PinRange line=2 name=step value=16\n"))
 BAD = {"W": "(" * 65, "I": "image", "H": "x"}
@@ -205,6 +387,32 @@ row("vdebug of too long an input", {"V": V}, step(
 row("vdebug of the longest input", {"V": V}, step(
     "vdebug V - -", "edge 0\n" + "refused 1 BadCommand\n" * (1048576 - 6), input=LONG[:-1]))
 row("vdebug of a long input behind quit", {"V": V}, step("vdebug V - -", "edge 0\n", input="where\nquit\n" + LONG))
+
+
+# a counter that puts its pin into an array
+COUNTED = module("reg [7:0] count;", "reg [3:0] last;", "reg [7:0] M [0:3];", "initial begin count = 8'd0; last = 4'd0; end",
+                 "always @(posedge c) begin count <= count + 8'd1; last <= in; M[count[1:0]] <= in; end", inputs="input c, input [3:0] in")
+row("trace of what changes", {"W": COUNTED, "H": "1 in=5\n5 in=0\n"}, step(
+    "clocktrace W - H 5", lines("edge 0", "count 0x0", "last 0x0", "edge 1", "count 0x1", "last 0x5", "M[0] 0x5", "edge 2", "count 0x2", "M[1] 0x5",
+                                "edge 3", "count 0x3", "M[2] 0x5", "edge 4", "count 0x4", "M[3] 0x5", "edge 5", "count 0x5", "last 0x0", "M[0] 0x0")))
+for number, (input, told) in enumerate([
+        (lines("step 5", "show count", "back 2", "until count 0x4 10", "until count 0x0 2", "show zz", "back 9", "quit"),
+         lines("edge 5", "count 0x5", "edge 3", "edge 4 met", "edge 6 not met", "refused 2 UnknownName", "refused 4 NoEarlierEdge")),
+        (lines("step 1", "show last"), lines("edge 1", "last 0x7")),
+        ("step 2\nback 1\ncell M 0\ncell M 1", lines("edge 2", "edge 1", "M[0] 0x7", "M[1] 0x0")),
+        (lines("step 3", "back 1", "step 2", "show count"), lines("edge 3", "edge 2", "edge 4", "count 0x4")),
+        (lines("list", "show"), lines("count 8", "last 4", "edge 0", "count 0x0", "last 0x0")),
+        (lines("until count 0x0 0", "until count 1 0"), lines("edge 0 met", "edge 0 not met")),
+        ("step 2\r\nquit\r\nstep 1\n", "edge 2\n"), ("quit", ""),
+        (lines("", "where"), lines("refused 1 BadCommand", "edge 0")),
+        ("step 1\nstep  1\nwhere \nwhere", lines("edge 1", "refused 1 BadCommand", "refused 1 BadCommand", "edge 1")),
+        (lines("step 10001", "where"), lines("refused 3 EdgeLimit", "edge 0")),
+        (lines("step 1", "step 10000", "where"), lines("edge 1", "refused 3 EdgeLimit", "edge 1")),
+        (lines("cell M 4", "cell N 0", "cell M x"), lines("refused 2 UnknownName", "refused 2 UnknownName", "refused 1 BadCommand")),
+        ("Where\nstep\nback 1 1\nstep -1\n\r\n", "refused 1 BadCommand\n" * 5),
+        ("show " + "z" * 251, "refused 2 UnknownName\n"), ("show " + "z" * 251 + "\r", "refused 2 UnknownName\n"),
+        ("show " + "z" * 251 + "\rz\n", "refused 1 BadCommand\n")]):
+    row(f"answers of a session {number + 1}", {"W": COUNTED, "H": "1 in=7\n"}, step("vdebug W - H", told, input=input))
 
 # ---------------------------------------------------------------- checks of descriptions
 
@@ -322,7 +530,7 @@ def main(words):
             print(f"row '{name}': {wrong}")
         failed += bool(wrong)
         passed += not wrong
-    print(f"{passed} rows passed, {failed} failed")
+    print(f"{passed} passed, {failed} failed")
     return 1 if failed else 0
 
 

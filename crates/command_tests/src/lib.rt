@@ -1,11 +1,5 @@
-//! Tests of the commands, over files and streams in memory.
+//! Tests of the program over files and streams in memory, some of whose calls fail.
 #![tactic(auto)]
 
 #[cfg(test)]
-mod descriptions;
-#[cfg(test)]
-mod engines;
-#[cfg(test)]
-mod lines;
-#[cfg(test)]
-mod modules;
+mod failing;

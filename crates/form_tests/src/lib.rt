@@ -1,7 +1,5 @@
-//! Tests of what machines show, and of forms, occurrences and items, of descriptions that are read from text.
+//! Tests of forms, occurrences and items, of descriptions that are read from text.
 #![tactic(auto)]
 
 #[cfg(test)]
 mod forms;
-#[cfg(test)]
-mod machines;

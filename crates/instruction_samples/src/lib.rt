@@ -8,5 +8,5 @@ mod samples;
 pub use instructions::{Instruction, Instructions, machine};
 pub use lines::{read, tokens};
 pub use samples::{
-    COUNTER, FREE, MOVES, NESTED, PINS, SIGNED, SUM, WHOLE, WIDE, pair, processor, with_alias,
+    BRANCHES, COUNTER, FAR, FREE, MOVES, NESTED, PAIR, PINS, PROCESSOR, SIGNED, WHOLE, WIDE,
 };

@@ -2,14 +2,8 @@
 #![tactic(auto)]
 
 #[cfg(test)]
-mod agreement;
-#[cfg(test)]
-mod listing;
-#[cfg(test)]
-mod many;
+mod lines;
 #[cfg(test)]
 mod rows;
-#[cfg(test)]
-mod sets;
 #[cfg(test)]
 mod words;

@@ -1,151 +1,131 @@
-// Instructions as a manual lists them.
-use std::alloc::{AllocError, Global};
+// Instructions with their words and texts, as a manual lists them.
+ghost use Rattle.std.specs.Prelude.{◌≡◌};
+ghost use Rattle.lisa_tree.specs.Descriptions.{description_tree};
+ghost use Rattle.lisa_coding.specs.Parts.{IsCodingOf};
+ghost use Rattle.lisa_syntax.specs.Parts.{IsSyntaxOf};
 
-/// A form as a manual shows it.
-#[derive(Clone, Copy)]
-pub(crate) struct Row<'a> {
-    /// Its bits from the highest on: `0` and `1` are literal, `x` is free, and each other letter stands for a bit of a field. The letters
-    /// of its fields are `a`, `b` and `c`, in preorder.
-    pub bits: &'a [u8],
-    /// Its text, where a letter stands for the number in its field: behind `$` with a sign, behind `#` in hexadecimal.
-    pub text: &'a [u8],
-    pub alias: bool,
-}
+use instruction_samples::{
+    FREE, Instruction, Instructions, MOVES, NESTED, PAIR, PROCESSOR, SIGNED, WHOLE, WIDE, read,
+};
+use std::alloc::Global;
+use std::test::Fail;
 
-// The bit of a word at a place from the lowest on.
-fn bit_at(word: u64, place: usize) -> u64 {
-    if place < 64 { word >> place & 1 } else { 0 }
-}
+// A form, the values of its fields in preorder, its word and its text.
+type Row<'a> = (u32, &'a [u64], u64, &'a [u8]);
 
-// Whether a word has no bit at such a place or above it.
-fn is_below(word: u64, place: usize) -> bool {
-    place >= 64 || word >> place == 0
-}
-
-/// Whether a word has a row's literal bits, and no more bits than the row.
-pub(crate) fn has(bits: &[u8], word: u64) -> bool {
-    for index in 0..bits.len() {
-        let bit = bit_at(word, bits.len() - 1 - index);
-        let fits = match bits[index] {
-            b'0' => bit == 0,
-            b'1' => bit == 1,
-            _ => true,
-        };
-        if !fits {
-            return false;
-        }
-    }
-    is_below(word, bits.len())
-}
-
-// The number that the bits of a letter make in a word.
-fn number(bits: &[u8], letter: u8, word: u64) -> u64 {
-    let mut number: u64 = 0;
-    for index in 0..bits.len() {
-        if bits[index] == letter {
-            number = number << 1 | bit_at(word, bits.len() - 1 - index);
-        }
-    }
-    number
-}
-
-// How many bits a letter has.
-fn width(bits: &[u8], letter: u8) -> usize {
-    bits.iter().filter(|b| **b == letter).count()
-}
-
-/// Whether the free bits are 0 in a word.
-pub(crate) fn is_canonical(bits: &[u8], word: u64) -> bool {
-    number(bits, b'x', word) == 0
-}
-
-/// The values of a row's fields in a word.
-pub(crate) fn values(alloc: Global, bits: &[u8], word: u64) -> Result<Vec<u64>, AllocError> {
-    let mut values = Vec::new(alloc);
-    for letter in b"abc" {
-        if width(bits, *letter) > 0 {
-            values.push(number(bits, *letter, word))?;
-        }
-    }
-    Ok(values)
-}
-
-// Adds a number of so many bits, as it is written with this mark before it.
-fn put_number(
-    alloc: Global,
-    text: &mut String,
-    mark: u8,
-    width: usize,
-    number: u64,
-) -> Result<(), AllocError> {
-    if mark == b'#' {
-        return text.push_str(format!(in alloc; "{number:#x}")?.as_str());
-    }
-    if mark == b'$' && 0 < width && width < 64 && bit_at(number, width - 1) == 1 {
-        let size = (1u64 << width).wrapping_sub(number);
-        return text.push_str(format!(in alloc; "-{size}")?.as_str());
-    }
-    text.push_str(format!(in alloc; "{number}")?.as_str())
-}
-
-/// The text of a row with the values of a word.
-pub(crate) fn text(alloc: Global, row: Row<'_>, word: u64) -> Result<String, AllocError> {
-    let mut text = String::new(alloc);
-    let mut mark = b' ';
-    for &letter in row.text {
-        match letter {
-            b'$' | b'#' => mark = letter,
-            b'a'..=b'c' => {
-                let value = number(row.bits, letter, word);
-                put_number(alloc, &mut text, mark, width(row.bits, letter), value)?;
-                mark = b' ';
-            }
-            other => text.push(other as char)?,
-        }
-    }
-    Ok(text)
-}
-
-// Whether a byte is a letter, a digit, `_` or `.`.
-fn is_word(byte: u8) -> bool {
-    byte.is_ascii_alphanumeric() || byte == b'_' || byte == b'.'
-}
-
-fn ends_in_word(text: &[u8]) -> bool {
-    match text.last() {
-        Some(byte) => is_word(*byte),
+// Whether what was found is the instruction of a row.
+fn is(found: Option<Instruction>, row: Row<'_>) -> bool {
+    match found {
+        Some(found) => found.form == row.0 && found.values.as_slice() == row.1,
         None => false,
     }
 }
 
-/// A text with a single blank where a word character, or the `@` of an operand, stands apart from a word character before it, and no other
-/// blanks.
-pub(crate) fn squeezed(alloc: Global, text: &[u8]) -> Result<Vec<u8>, AllocError> {
-    let mut kept = Vec::new(alloc);
-    let mut apart = false;
-    for &byte in text {
-        if byte == b' ' {
-            apart = true;
-            continue;
-        }
-        if apart && (is_word(byte) || byte == b'@') && ends_in_word(&kept) {
-            kept.push(b' ')?;
-        }
-        kept.push(byte)?;
-        apart = false;
-    }
-    Ok(kept)
+// Whether an instruction is encoded, written and read as a row says.
+fn is_as_listed(alloc: Global, set: &Instructions, row: Row<'_>) -> Result<bool, Fail>
+    requires coding { IsCodingOf (description_tree set.now.machine) set.now.coding }
+    requires syntax { IsSyntaxOf (description_tree set.now.machine) set.now.syntax }
+{
+    let (form, values, word, text) = row;
+    let written = set.text(form, values)?;
+    let read = read(alloc, set, text)?;
+    Ok(set.word(form, values) == Some(word) && written.as_deref() == Some(text) && is(read, row))
 }
 
-/// The text of a row where an operand stands for each number.
-pub(crate) fn operand_text(alloc: Global, row: Row<'_>) -> Result<Vec<u8>, AllocError> {
-    let mut text = Vec::new(alloc);
-    for &letter in row.text {
-        match letter {
-            b'$' | b'#' => {}
-            b'a'..=b'c' => text.extend_from_slice(b"@(1)")?,
-            other => text.push(other)?,
+// The word of the first row that isn't as it is listed. Rows of aliases, which have no word of their own, stand behind the others, of which
+// there are so many.
+fn first_wrong(
+    alloc: Global,
+    text: &[u8],
+    rows: &[Row<'_>],
+    plain: usize,
+) -> Result<Option<u64>, Fail> {
+    let set = Instructions::of(alloc, text)?;
+    for index in 0..rows.len() {
+        let row = rows[index];
+        let is_decoded = is(set.decoded(alloc, row.2)?, row);
+        if is_decoded != (index < plain) || !is_as_listed(alloc, &set, row)? {
+            return Ok(Some(row.2));
         }
     }
-    squeezed(alloc, &text)
+    Ok(None)
+}
+
+const SETS: [(&[u8], &[Row<'static>], usize); 8] = [
+    (
+        FREE,
+        &[
+            (0, &[0, 0], 16, b"PUT 0,0"),
+            (0, &[3, 1], 29, b"PUT 3,1"),
+            (1, &[], 8, b"SKIP"),
+            (2, &[2], 25, b"ONE 2"),
+        ],
+        3,
+    ),
+    (
+        SIGNED,
+        &[
+            (0, &[4, 3], 19, b"B0x3,-4"),
+            (0, &[3, 0], 12, b"B0x0,3"),
+            (1, &[1, 2], 58, b"S-1 2"),
+            (1, &[0, 3], 51, b"S 0 3"),
+        ],
+        4,
+    ),
+    (
+        NESTED,
+        &[
+            (0, &[1, 7], 55, b"LD R1,7"),
+            (1, &[0, 1], 41, b"LD R0,[L+1]"),
+            (2, &[1, 0, 1], 62, b"LD R1,[H0x1+0]"),
+            (3, &[2], 2, b"HALT 2"),
+        ],
+        4,
+    ),
+    (
+        MOVES,
+        &[
+            (0, &[1, 0], 20, b"MV R0,R1"),
+            (1, &[1], 22, b"MV A,R1"),
+            (2, &[1], 25, b"MV R1,A"),
+            (3, &[], 26, b"MV A,A"),
+        ],
+        4,
+    ),
+    (
+        PROCESSOR,
+        &[
+            (0, &[7, 1], 0x67, b"ADDI R1,7"),
+            (0, &[31, 0], 0x5f, b"ADDI R0,31"),
+            (1, &[], 0, b"NOP"),
+            (2, &[2], 0x82, b"BR 2"),
+            (2, &[32], 0xa0, b"BR-32"),
+        ],
+        5,
+    ),
+    (PAIR, &[(0, &[3], 3, b"R3"), (1, &[7], 15, b"R0x7")], 2),
+    (
+        WIDE,
+        &[
+            (0, &[10, 0], 20, b"W 0xa 0"),
+            (0, &[u64::MAX >> 1, 1], u64::MAX, b"W 0x7fffffffffffffff-1"),
+        ],
+        2,
+    ),
+    (
+        WHOLE,
+        &[
+            (0, &[u64::MAX >> 1], u64::MAX >> 1, b"W9223372036854775807"),
+            (0, &[1 << 63], 1 << 63, b"W-9223372036854775808"),
+        ],
+        2,
+    ),
+];
+
+#[test]
+fn instructions_are_as_listed(rt: HostRuntime) -> Result<(), Fail> {
+    for (text, rows, plain) in SETS {
+        assert_eq!(rt; first_wrong(rt.alloc(), text, rows, plain)?, None);
+    }
+    Ok(())
 }

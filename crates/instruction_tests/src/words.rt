@@ -1,231 +1,106 @@
-// Words and texts of single instructions.
-ghost use Rattle.std.specs.Prelude.{◌≡◌, IfOk};
-ghost use Rattle.lisa_tree.specs.Descriptions.{description_tree};
-ghost use Rattle.lisa_coding.specs.Parts.{IsCodingOf};
-ghost use Rattle.lisa_syntax.specs.Parts.{IsSyntaxOf};
+// Words and their forms, and values that are none of a form's.
+ghost use Rattle.std.specs.Prelude.{◌≡◌, ◌<◌};
 
-use asm_source::LineToken;
-use instruction_samples::{
-    COUNTER, Instruction, Instructions, WHOLE, WIDE, pair, processor, read, tokens, with_alias,
-};
-use lisa_syntax::{LineFault, Operand};
+use instruction_samples::{COUNTER, FREE, Instructions, MOVES, NESTED, PROCESSOR, SIGNED, WIDE};
+use lisa_coding::{Coding, Steps};
 use std::alloc::Global;
+use std::marker::Brand;
+use std::sync::ledger::{Blank, Ledger};
 use std::test::Fail;
 
-// The processor's instructions.
-fn instructions(alloc: Global) -> Result<Instructions, Fail>
-    ensures coding { IfOk result (λ i. IsCodingOf (description_tree i.machine) i.coding) }
-    ensures syntax { IfOk result (λ i. IsSyntaxOf (description_tree i.machine) i.syntax) }
-{
-    let text = processor(alloc, "0b00 0bx[6]")?;
-    Ok(Instructions::of(alloc, text.as_bytes())?)
-}
-
-// Those of the processor with an alias.
-fn instructions_with_alias(alloc: Global) -> Result<Instructions, Fail>
-    ensures coding { IfOk result (λ i. IsCodingOf (description_tree i.machine) i.coding) }
-    ensures syntax { IfOk result (λ i. IsSyntaxOf (description_tree i.machine) i.syntax) }
-{
-    let alias = "CODING { 0b01 dst 0b00001 } SYNTAX { \"INC\" dst } }";
-    let text = with_alias(alloc, alias)?;
-    Ok(Instructions::of(alloc, text.as_bytes())?)
-}
-
-// Whether what was found has this form and these values, or nothing was found where nothing is expected.
-fn is(found: Option<Instruction>, expected: Option<(u32, &[u64])>) -> bool {
-    match (found, expected) {
-        (Some(found), Some((form, values))) => {
-            found.form == form && found.values.as_slice() == values
-        }
-        (found, expected) => found.is_none() && expected.is_none(),
+// The digit of a form, or a point.
+fn digit(form: Option<u32>) -> u8 {
+    match form {
+        Some(0) => b'0',
+        Some(1) => b'1',
+        Some(2) => b'2',
+        Some(3) => b'3',
+        Some(_) => b'?',
+        None => b'.',
     }
 }
 
-#[test]
-fn words_have_their_instructions(rt: HostRuntime) -> Result<(), Fail> {
-    let alloc = rt.alloc();
-    let set = instructions(alloc)?;
-    let words = [
-        (0x67, Some((0, [7, 1].as_slice()))),
-        (0x05, Some((1, &[]))),
-        (0x82, Some((2, &[2]))),
-        (0xc0, None),
-    ];
-    for (word, expected) in words {
-        assert!(rt; is(set.decoded(alloc, word)?, expected), "{word:#x}");
+// The digits of the forms of the words below 64.
+fn forms(alloc: Global, text: &[u8]) -> Result<Vec<u8>, Fail> {
+    let set = Instructions::of(alloc, text)?;
+    let mut digits = Vec::new(alloc);
+    for word in 0..64 {
+        digits.push(digit(set.coding.form_of(word)))?;
     }
-    Ok(())
+    Ok(digits)
 }
 
 #[test]
-fn instructions_have_their_words(rt: HostRuntime) -> Result<(), Fail> {
-    let alloc = rt.alloc();
-    let set = instructions(alloc)?;
-    let cases = [
-        (0, [7, 1].as_slice(), Some(0x67)),
-        (0, &[31, 1], Some(0x7f)),
-        (0, &[32, 1], None),
-        (0, &[1, 2], None),
-        (0, &[7], None),
-        (1, &[], Some(0)),
-        (1, &[0], None),
-        (3, &[], None),
-    ];
-    for (form, values, expected) in cases {
-        assert_eq!(rt; set.word(form, values), expected);
-    }
-    assert_eq!(rt; set.coding.field_count(0), 2);
-    assert_eq!(rt; set.coding.field_count(3), 0);
-    Ok(())
-}
-
-#[test]
-fn instructions_have_their_texts(rt: HostRuntime) -> Result<(), Fail> {
-    let alloc = rt.alloc();
-    let set = instructions(alloc)?;
-    let cases = [
-        (0, [7, 1].as_slice(), Some(b"ADDI R1,7".as_slice())),
-        (1, &[], Some(b"NOP")),
-        (2, &[32], Some(b"BR-32")),
-        (2, &[64], None),
-    ];
-    for (form, values, expected) in cases {
-        let written = set.text(form, values)?;
-        assert_eq!(rt; written.as_deref(), expected);
-    }
-    Ok(())
-}
-
-#[test]
-fn lines_have_their_instructions(rt: HostRuntime) -> Result<(), Fail> {
-    let alloc = rt.alloc();
-    let set = instructions(alloc)?;
-    let lines = [
-        (b"ADDI  R1 , 7".as_slice(), Some((0, [7, 1].as_slice()))),
-        (b"BR -32", Some((2, &[32]))),
-        (b"BR -33", None),
-        (b"BR -@5", None),
-        (b"", None),
-    ];
-    for (line, expected) in lines {
-        assert!(rt; is(read(alloc, &set, line)?, expected));
-    }
-    Ok(())
-}
-
-#[test]
-fn an_operand_may_be_a_sum(rt: HostRuntime) -> Result<(), Fail> {
-    let alloc = rt.alloc();
-    let set = instructions(alloc)?;
-    let line = tokens(alloc, b"BR @(far-$-2)")?;
-    let matched = set.syntax.read_line(&line)?;
-    assert_eq!(rt; matched.form, 2);
-    match matched.operands.first() {
-        Some(Operand::Sum(sum)) => assert_eq!(rt; sum.constant, -2),
-        _ => assert!(rt; false),
-    }
-    Ok(())
-}
-
-// Why a line is no instruction.
-fn fault(set: &Instructions, line: &[LineToken]) -> Option<LineFault> {
-    set.syntax.read_line(line).err()
-}
-
-#[test]
-fn lines_of_no_form_are_told(rt: HostRuntime) -> Result<(), Fail> {
-    let alloc = rt.alloc();
-    let set = instructions(alloc)?;
-    let line = tokens(alloc, b"ADDI R1,")?;
-    assert_eq!(rt; fault(&set, &line), Some(LineFault::NoInstruction));
-    Ok(())
-}
-
-#[test]
-fn an_operand_may_fit_two_forms(rt: HostRuntime) -> Result<(), Fail> {
-    let alloc = rt.alloc();
-    let second = "DECLARE { LABEL m; } CODING { 0b1 m=0bx[3] } SYNTAX { \"R\" ~ m=#X }";
-    let text = pair(alloc, second)?;
-    let set = Instructions::of(alloc, text.as_bytes())?;
-    let line = tokens(alloc, b"R@1")?;
-    let both = LineFault::TwoInstructions {
-        first: 0,
-        second: 1,
-    };
-    assert_eq!(rt; fault(&set, &line), Some(both));
-    Ok(())
-}
-
-#[test]
-fn instructions_may_have_64_bits(rt: HostRuntime) -> Result<(), Fail> {
-    let alloc = rt.alloc();
-    let set = Instructions::of(alloc, WIDE)?;
-    let values = [u64::MAX >> 1, 1];
-    assert_eq!(rt; set.word(0, &values), Some(u64::MAX));
-    assert_eq!(rt; set.word(0, &[1 << 63, 0]), None);
-    assert!(rt; is(set.decoded(alloc, u64::MAX)?, Some((0, &values))));
-    let written = set.text(0, &values)?;
-    assert_eq!(rt;
-        written.as_deref(),
-        Some(b"W 0x7fffffffffffffff-1".as_slice())
-    );
-    Ok(())
-}
-
-#[test]
-fn a_field_may_have_64_bits(rt: HostRuntime) -> Result<(), Fail> {
-    let alloc = rt.alloc();
-    let set = Instructions::of(alloc, WHOLE)?;
-    let values = [1 << 63];
-    assert_eq!(rt; set.word(0, &values), Some(1 << 63));
-    assert!(rt; is(set.decoded(alloc, 1 << 63)?, Some((0, &values))));
-    let written = set.text(0, &values)?;
-    assert_eq!(rt;
-        written.as_deref(),
-        Some(b"W-9223372036854775808".as_slice())
-    );
-    Ok(())
-}
-
-#[test]
-fn numbers_of_64_bits_are_read(rt: HostRuntime) -> Result<(), Fail> {
-    let alloc = rt.alloc();
-    let lines = [
+fn words_have_their_forms(rt: HostRuntime) -> Result<(), Fail> {
+    let sets = [
         (
-            WHOLE,
-            b"W9223372036854775807".as_slice(),
-            Some(u64::MAX >> 1),
+            FREE,
+            b"........111111110000000000000000................................".as_slice(),
         ),
-        (WHOLE, b"W-9223372036854775808", Some(1 << 63)),
-        (WHOLE, b"W9223372036854775808", None),
-        (WIDE, b"W 0xa 0", Some(10)),
-        (WIDE, b"W 0xA 0", None),
+        (
+            SIGNED,
+            b"00000000000000000000000000000000................1111111111111111",
+        ),
+        (
+            NESTED,
+            b"3333333333333333................00000000111122220000000011112222",
+        ),
+        (
+            MOVES,
+            b"................0011001122332233................................",
+        ),
+        (
+            COUNTER,
+            b"................................................................",
+        ),
     ];
-    for (text, line, expected) in lines {
-        let set = Instructions::of(alloc, text)?;
-        let found = read(alloc, &set, line)?;
-        let first = found.and_then(|found| found.values.first().copied());
-        assert_eq!(rt; first, expected);
+    for (text, expected) in sets {
+        assert_eq!(rt; forms(rt.alloc(), text)?.as_slice(), expected);
     }
     Ok(())
 }
 
 #[test]
-fn an_alias_is_written_and_never_decoded(rt: HostRuntime) -> Result<(), Fail> {
-    let alloc = rt.alloc();
-    let set = instructions_with_alias(alloc)?;
-    assert!(rt; is(read(alloc, &set, b"INC R1")?, Some((3, &[1]))));
-    assert_eq!(rt; set.word(3, &[1]), Some(0x61));
-    assert!(rt; is(set.decoded(alloc, 0x61)?, Some((0, &[1, 1]))));
+fn other_values_have_no_word(rt: HostRuntime) -> Result<(), Fail> {
+    let cases = [
+        (PROCESSOR, 0, [32, 1].as_slice()),
+        (PROCESSOR, 0, &[1, 2]),
+        (PROCESSOR, 0, &[7]),
+        (PROCESSOR, 1, &[0]),
+        (PROCESSOR, 3, &[]),
+        (WIDE, 0, &[1 << 63, 0]),
+        (COUNTER, 0, &[]),
+    ];
+    for (text, form, values) in cases {
+        let set = Instructions::of(rt.alloc(), text)?;
+        assert!(rt; !set.coding.fits(form, values));
+    }
     Ok(())
 }
 
+// The form that has a word, where steps are counted in a new ledger.
+fn decoded<L: Ledger>(coding: &Coding, word: u64, blank: Blank) -> Option<u32>
+    requires name { blank.name ≡ L.name }
+    requires parts { (blank.parts ≡ L.parts) × (0 < blank.parts) }
+{
+    let mut steps = Steps::<L>::open(blank);
+    coding.decode(word, &mut steps)
+}
+
+fn form(coding: &Coding, word: u64) -> Option<u32> {
+    decoded::<Brand>(coding, word, Blank::new(1))
+}
+
 #[test]
-fn without_a_root_there_are_no_words(rt: HostRuntime) -> Result<(), Fail> {
-    let alloc = rt.alloc();
-    let set = Instructions::of(alloc, COUNTER)?;
-    assert_eq!(rt; set.word(0, &[]), None);
-    assert!(rt; set.decoded(alloc, 0)?.is_none());
-    assert!(rt; read(alloc, &set, b"NOP")?.is_none());
+fn words_are_decoded_step_by_step(rt: HostRuntime) -> Result<(), Fail> {
+    let set = Instructions::of(rt.alloc(), PROCESSOR)?;
+    for (word, expected) in [
+        (0x67, Some(0)),
+        (0x05, Some(1)),
+        (0xc0, None),
+        (0x100, None),
+    ] {
+        assert_eq!(rt; form(&set.coding, word), expected, "{word:#x}");
+    }
     Ok(())
 }

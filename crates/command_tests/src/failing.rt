@@ -1,0 +1,162 @@
+// What the program tells, prints and says where a call of a file, of the input, of the output or of what it says fails.
+use lisa_cli::{Status, lisa};
+use lisa_io::{MemFile, MemFiles, MemSink, MemSource};
+use std::alloc::Global;
+use std::test::Fail;
+
+// A register that starts at 5 and grows by 1, as a description and as a module.
+const COUNTER: &[u8] =
+    b"RESOURCE { REGISTER uint8 n; }\nOPERATION reset { BEHAVIOR { n = 5; } }\nOPERATION main { BEHAVIOR { n = n + 1; } }\n";
+
+const MODULE: &[u8] =
+    b"module t (input clk); reg [7:0] n; initial n = 8'd5; always @(posedge clk) n <= n + 8'd1; endmodule\n";
+
+const LINES: &[u8] = b"step 5\nshow n\n";
+
+// The words that are asked, the numbers of the calls that fail of files, the input, the output and what is said, and what is to come: the
+// word of the status, what is printed and what is said.
+type Case<'a> = (&'a str, [&'a [u64]; 4], &'a str, &'a [u8], &'a [u8]);
+
+fn words(alloc: Global, asked: &str) -> Result<Vec<String>, Fail> {
+    let mut all = Vec::new(alloc);
+    for word in asked.split(' ') {
+        if !word.is_empty() {
+            all.push(String::from_str(alloc, word)?)?;
+        }
+    }
+    Ok(all)
+}
+
+fn file(alloc: Global, name: &str, bytes: &[u8]) -> Result<MemFile, Fail> {
+    Ok(MemFile::new(String::from_str(alloc, name)?, bytes.to_vec(alloc)?))
+}
+
+// The description is the file D, and the module V.
+fn files(alloc: Global, failing: &[u64]) -> Result<MemFiles, Fail> {
+    let all = vec![in alloc; file(alloc, "D", COUNTER)?, file(alloc, "V", MODULE)?]?;
+    Ok(MemFiles::new(all, failing.to_vec(alloc)?))
+}
+
+// A sink that takes at most 8 bytes at once.
+fn sink(alloc: Global, failing: &[u64]) -> Result<MemSink, Fail> {
+    Ok(MemSink::new(vec![in alloc; 0; 400]?, 8, failing.to_vec(alloc)?))
+}
+
+fn word(status: Status) -> &'static str {
+    match status {
+        Status::Done => "done",
+        Status::Refused(_) => "refused",
+        Status::Usage => "usage",
+        Status::ReadFault => "read fault",
+        Status::WriteFault => "write fault",
+        Status::NoMemory => "no memory",
+    }
+}
+
+// Whether what comes is what is to come.
+fn is_so(alloc: Global, case: Case<'_>) -> Result<bool, Fail> {
+    let (asked, failing, status, printed, said) = case;
+    let mut input = MemSource::new(LINES.to_vec(alloc)?, failing[1].to_vec(alloc)?);
+    let mut out = sink(alloc, failing[2])?;
+    let mut err = sink(alloc, failing[3])?;
+    let found = lisa(
+        alloc,
+        &words(alloc, asked)?,
+        &mut files(alloc, failing[0])?,
+        &mut input,
+        &mut out,
+        &mut err,
+    );
+    Ok(word(found) == status && out.bytes() == printed && err.bytes() == said)
+}
+
+const NONE: [&[u64]; 4] = [&[], &[], &[], &[]];
+
+const FAULT: &[u8] = b"lisa: read fault\n";
+
+#[test]
+fn nothing_fails(rt: HostRuntime) -> Result<(), Fail> {
+    let cases = [
+        (
+            "run D - - 3",
+            NONE,
+            "done",
+            b"edge 3\nn 0x8\n".as_slice(),
+            b"".as_slice(),
+        ),
+        ("debug D - -", NONE, "done", b"edge 5\nn 0xa\n", b""),
+        ("vdebug V - -", NONE, "done", b"edge 5\nn 0xa\n", b""),
+        (
+            "fmt V",
+            NONE,
+            "refused",
+            b"",
+            b"lisa: description 1 BadByte at=48\n",
+        ),
+    ];
+    for case in cases {
+        assert!(rt; is_so(rt.alloc(), case)?, "{}", case.0);
+    }
+    Ok(())
+}
+
+#[test]
+fn a_call_fails(rt: HostRuntime) -> Result<(), Fail> {
+    let once = [1].as_slice();
+    let later = [2].as_slice();
+    let none = [].as_slice();
+    let cases = [
+        (
+            "run D - - 3",
+            [once, none, none, none],
+            "read fault",
+            b"".as_slice(),
+            FAULT,
+        ),
+        ("fmt D", [later, none, none, none], "read fault", b"", FAULT),
+        ("run G - - 3", NONE, "read fault", b"", FAULT),
+        ("clock V G - 1", NONE, "read fault", b"", FAULT),
+        (
+            "debug D - -",
+            [none, once, none, none],
+            "read fault",
+            b"",
+            FAULT,
+        ),
+        (
+            "vdebug V - -",
+            [none, later, none, none],
+            "read fault",
+            b"edge 5\nn 0xa\n",
+            FAULT,
+        ),
+        (
+            "run D - - 3",
+            [none, none, once, none],
+            "write fault",
+            b"",
+            b"",
+        ),
+        ("check D", [none, none, once, none], "write fault", b"", b""),
+        (
+            "clocktrace V - - 2",
+            [none, none, later, none],
+            "write fault",
+            b"edge ",
+            b"",
+        ),
+        ("", [none, none, none, once], "write fault", b"", b""),
+        (
+            "run G - - 3",
+            [none, none, none, once],
+            "write fault",
+            b"",
+            b"",
+        ),
+        ("fmt V", [none, none, none, once], "write fault", b"", b""),
+    ];
+    for case in cases {
+        assert!(rt; is_so(rt.alloc(), case)?, "{}", case.0);
+    }
+    Ok(())
+}

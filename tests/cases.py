@@ -1,0 +1,69 @@
+#!/usr/bin/env python3
+"""Random cases with their answers.
+
+    cases.py PROGRAM [KIND ..]
+
+cases/KIND.jsonl has one case a line: its runs one after the other, each with files, words, input, status, out and err, whose bytes stand as
+characters of the same numbers. The answers were worked out apart from the program, which must give each of them. Where a rule leaves the
+place or the text of a refusal open, any is taken. It ends with 1 where a case differs."""
+
+import json
+import os
+import re
+import subprocess
+import sys
+import tempfile
+
+HERE = os.path.join(os.path.dirname(os.path.abspath(__file__)), "cases")
+# what a line of a refusal may have otherwise
+OPEN = [(re.compile(rb"(description 5 NotADescription|verilog 3 NotInSubset) at=\d+"), rb"\1 at="),
+        (re.compile(rb"(description 25 Ambiguous .*) text=.*"), rb"\1 text=")]
+SHOWN = 3
+
+
+def settled(line):
+    for pattern, put in OPEN:
+        line = pattern.sub(put, line)
+    return line
+
+
+def difference(program, run, folder):
+    """None where the run gives its answer, else both."""
+    for name, text in run["files"].items():
+        with open(os.path.join(folder, name), "wb") as file:
+            file.write(text.encode("latin-1"))
+    done = subprocess.run([program, *run["words"]], input=run["input"].encode("latin-1"), cwd=folder, capture_output=True, timeout=120)
+    got = [done.returncode, done.stdout, settled(done.stderr)]
+    wanted = [run["status"], run["out"].encode("latin-1"), settled(run["err"].encode("latin-1"))]
+    return None if got == wanted else f"  got    {got!r:.2000}\n  wanted {wanted!r:.2000}"
+
+
+def first_difference(program, case):
+    with tempfile.TemporaryDirectory() as folder:
+        for run in case["runs"]:
+            found = difference(program, run, folder)
+            if found:
+                return f"{' '.join(run['words'])}\n{found}"
+    return None
+
+
+def main(words):
+    if not words:
+        print(__doc__)
+        return 2
+    program, passed, failed = os.path.abspath(words[0]), 0, 0
+    kinds = words[1:] or sorted(name[:-6] for name in os.listdir(HERE) if name.endswith(".jsonl"))
+    for kind in kinds:
+        with open(os.path.join(HERE, kind + ".jsonl"), encoding="ascii") as file:
+            for number, line in enumerate(file):
+                found = first_difference(program, json.loads(line))
+                passed += found is None
+                failed += found is not None
+                if found and failed <= SHOWN:
+                    print(f"{kind}: case {number}: {found}")
+    print(f"{passed} passed, {failed} failed")
+    return 1 if failed else 0
+
+
+if __name__ == "__main__":
+    sys.exit(main(sys.argv[1:]))
