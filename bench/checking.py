@@ -20,6 +20,7 @@ import time
 from pathlib import Path
 
 TOP = Path(__file__).resolve().parent.parent
+PROGRAM = TOP / "crates/lisa/out/lisa"
 MIB = 1024 * 1024
 SECONDS = 5.0
 MEMORY_MIB = 1024
@@ -212,8 +213,8 @@ def main():
     parser.add_argument("--keep", type=Path)
     parser.add_argument("--size", type=int, default=MIB)
     words = parser.parse_args()
-    subprocess.run([str(TOP / "lisa")], stdout=subprocess.DEVNULL, stderr=subprocess.DEVNULL, check=False)
-    program = str(TOP / "crates/lisa/out/lisa")
+    subprocess.run([str(TOP / "lisa"), "fmt", str(TOP / "examples/a.lisa")], stdout=subprocess.DEVNULL, check=True)
+    program = str(PROGRAM)
     all_well = True
     with tempfile.TemporaryDirectory() as folder:
         folder = words.keep or Path(folder)

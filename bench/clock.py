@@ -19,6 +19,7 @@ import time
 from pathlib import Path
 
 TOP = Path(__file__).resolve().parent.parent
+PROGRAM = TOP / "crates/lisa/out/lisa"
 MIB = 1 << 20
 SECONDS_TO_READ = 10.0
 
@@ -76,7 +77,7 @@ def bench_text(name, registers, arrays, edges):
 
 def compared(folder, title, text, name, registers, arrays, edges, runs):
     (folder / "m.v").write_text(text)
-    ours = seconds([str(TOP / "lisa"), "clock", "m.v", "-", "-", str(edges)], runs, folder)
+    ours = seconds([str(PROGRAM), "clock", "m.v", "-", "-", str(edges)], runs, folder)
     line = f"{title:<14} {edges:>8} edges  lisa {ours:8.3f} s"
     if shutil.which("iverilog") and shutil.which("vvp"):
         (folder / "bench.v").write_text(bench_text(name, registers, arrays, edges))
@@ -90,7 +91,7 @@ def read_large(folder, runs):
     """How long it takes to read a module of about 8 MiB."""
     text = made_module(8 * MIB // 49)
     (folder / "large.v").write_text(text)
-    taken = seconds([str(TOP / "lisa"), "clock", "large.v", "-", "-", "0"], runs, folder)
+    taken = seconds([str(PROGRAM), "clock", "large.v", "-", "-", "0"], runs, folder)
     peak = resource.getrusage(resource.RUSAGE_CHILDREN).ru_maxrss * 1024
     print(f"a module of {len(text) / MIB:.1f} MiB is read and made in {taken:.2f} s, with at most {peak / MIB:.0f} MiB")
     return taken < SECONDS_TO_READ
@@ -103,7 +104,7 @@ def main():
     parser.add_argument("--wires", type=int, default=2_000)
     words = parser.parse_args()
     # the first run builds the program where it is old
-    subprocess.run([str(TOP / "lisa")], stdout=subprocess.DEVNULL, stderr=subprocess.DEVNULL, check=False)
+    subprocess.run([str(TOP / "lisa"), "fmt", str(TOP / "examples/a.lisa")], stdout=subprocess.DEVNULL, check=True)
     with tempfile.TemporaryDirectory() as made:
         folder = Path(made)
         sample = (TOP / "examples" / "v.v").read_text()

@@ -16,6 +16,7 @@ import time
 from pathlib import Path
 
 TOP = Path(__file__).resolve().parent.parent
+PROGRAM = TOP / "crates/lisa/out/lisa"
 MIB = 1 << 20
 SECONDS = 5.0
 
@@ -32,7 +33,7 @@ def module(registers, changing):
 def run(folder, script):
     """One session: its seconds, its peak of memory in bytes, and its answers."""
     begin = time.monotonic()
-    process = subprocess.Popen([str(TOP / "lisa"), "vdebug", "m.v", "-", "-"], cwd=folder, stdin=subprocess.PIPE, stdout=subprocess.PIPE)
+    process = subprocess.Popen([str(PROGRAM), "vdebug", "m.v", "-", "-"], cwd=folder, stdin=subprocess.PIPE, stdout=subprocess.PIPE)
     process.stdin.write(script.encode())
     process.stdin.close()
     answers = process.stdout.read().decode()
@@ -63,7 +64,7 @@ def main():
     parser.add_argument("--registers", type=int, default=500)
     words = parser.parse_args()
     # the first run builds the program where it is old
-    subprocess.run([str(TOP / "lisa")], stdout=subprocess.DEVNULL, stderr=subprocess.DEVNULL, check=False)
+    subprocess.run([str(TOP / "lisa"), "fmt", str(TOP / "examples/a.lisa")], stdout=subprocess.DEVNULL, check=True)
     with tempfile.TemporaryDirectory() as made:
         folder = Path(made)
         count = words.registers

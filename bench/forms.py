@@ -17,6 +17,7 @@ import time
 from pathlib import Path
 
 TOP = Path(__file__).resolve().parent.parent
+PROGRAM = TOP / "crates/lisa/out/lisa"
 SECONDS = 3.0
 
 APART = '"OP{k}" m=#U "," a "," "[" "A" "]" "," "X" "+" "Y"'
@@ -39,7 +40,7 @@ def description(text):
 def measure(file):
     """Seconds, the peak of memory in MiB, and what was printed."""
     begin = time.perf_counter()
-    with subprocess.Popen([str(TOP / "lisa"), "check", file], stdout=subprocess.PIPE, text=True) as run:
+    with subprocess.Popen([str(PROGRAM), "check", file], stdout=subprocess.PIPE, text=True) as run:
         said = run.stdout.read()
         _, _, used = os.wait4(run.pid, 0)
         run.returncode = 0
@@ -50,6 +51,8 @@ def main():
     options = argparse.ArgumentParser(description=__doc__, formatter_class=argparse.RawDescriptionHelpFormatter)
     options.add_argument("--runs", type=int, default=3)
     runs = options.parse_args().runs
+    # the first run builds the program where it is old
+    subprocess.run([str(TOP / "lisa"), "fmt", str(TOP / "examples/a.lisa")], stdout=subprocess.DEVNULL, check=True)
     well = True
     print(f"{'texts':24} {'seconds':>8} {'MiB':>6}  forms")
     for name, text in (("that begin apart", APART), ("that differ at their end", ALIKE)):

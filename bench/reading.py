@@ -21,6 +21,7 @@ import time
 from pathlib import Path
 
 TOP = Path(__file__).resolve().parent.parent
+PROGRAM = TOP / "crates/lisa/out/lisa"
 KIB = 1024
 MIB = 1024 * KIB
 SIZES = (64 * KIB, 256 * KIB, MIB)
@@ -114,7 +115,7 @@ def run(path):
     """One run: its seconds, and its peak of memory in bytes."""
     with open(os.devnull, "wb") as nothing, tempfile.TemporaryFile() as said:
         begin = time.monotonic()
-        process = subprocess.Popen([str(TOP / "lisa"), "fmt", str(path)], stdout=nothing, stderr=said)
+        process = subprocess.Popen([str(PROGRAM), "fmt", str(path)], stdout=nothing, stderr=said)
         _, status, used = os.wait4(process.pid, 0)
         seconds = time.monotonic() - begin
         process.returncode = os.waitstatus_to_exitcode(status)
@@ -157,7 +158,7 @@ def main():
     parser.add_argument("--keep", metavar="FOLDER")
     words = parser.parse_args()
     # the first run builds the program where it is old
-    subprocess.run([str(TOP / "lisa")], stdout=subprocess.DEVNULL, stderr=subprocess.DEVNULL, check=False)
+    subprocess.run([str(TOP / "lisa"), "fmt", str(TOP / "examples/a.lisa")], stdout=subprocess.DEVNULL, check=True)
     if words.keep:
         Path(words.keep).mkdir(parents=True, exist_ok=True)
         good = bench(words.keep, words.runs)
