@@ -4,8 +4,8 @@ use Rattle.std.specs.Prelude.{ℕ, suc, List, [], ◌∷◌, ◌++◌, map, leng
 use Rattle.std.specs.Fmt.{decimal}
 use Rattle.lisa_engine.specs.declared.parts.Item.{Item}
 use Rattle.lisa_engine.specs.declared.parts.ArrayItem.{ArrayItem}
-use Rattle.lisa_tree.specs.declared.expressions.Operator.{Operator}
-use Rattle.lisa_tree.specs.declared.expressions.Operator.TheVariants as operators
+use Rattle.operators.specs.declared.binary.Operator.{Operator}
+use Rattle.operators.specs.declared.binary.Operator.TheVariants as operators
 use Rattle.verilog_text.specs.declared.expressions.VOne.TheVariants as ones
 use Rattle.verilog_text.specs.Trees as trees
 use Rattle.verilog_text.specs.Trees.{VTree, ActionTrees, SettingTree, MemberTree, ModuleTree}

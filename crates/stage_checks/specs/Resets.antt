@@ -39,23 +39,41 @@ is_behavior _ = false
 abbrev pub has_more : OperationTree → Bool
 has_more operation = is_some operation.stage || list_any (λ s. not (is_behavior s)) operation.sections
 
--- what stands there goes beyond assignments of registers that are no arrays, and of locals
+-- What stands there goes beyond assignments of registers that are no arrays, and of locals. The sections are those that the head
+-- tells of, and an `execute` or `shift` stands in `main` alone.
 abbrev pub goes_beyond : DescriptionTree → ℕ → Scope → Place → Bool
+goes_beyond d o scope (places.Resource k resource) = false
 goes_beyond d o scope (places.Head operation) = has_more operation
+goes_beyond d o scope (places.Section all k) = false
+goes_beyond d o scope (places.Declared k n) = false
+goes_beyond d o scope (places.Alternatives all) = false
+goes_beyond d o scope (places.Stands n) = false
+goes_beyond d o scope (places.Root register group) = false
+goes_beyond d o scope (places.Field n pattern) = false
+goes_beyond d o scope (places.Operand n) = false
+goes_beyond d o scope (places.Number n format) = false
+goes_beyond d o scope (places.Shown n) = false
 goes_beyond d o scope (places.Reads n) = not (may_use d o scope n)
-goes_beyond d o scope (places.Writes n) = not (may_use d o scope n)
-goes_beyond d o scope (places.Steps n) = not (may_use d o scope n)
 goes_beyond d o scope (places.ReadsElement n) = true
-goes_beyond d o scope (places.WritesElement n) = true
 goes_beyond d o scope (places.ReadsInput field) = true
 goes_beyond d o scope (places.ReadsOutput field) = true
-goes_beyond d o scope (places.WritesOutput field) = true
 goes_beyond d o scope (places.ReadsBoundary pipe before after field) = true
 goes_beyond d o scope places.ReadsDecoded = true
+goes_beyond d o scope (places.Casts shape) = false
+goes_beyond d o scope (places.Writes n) = not (may_use d o scope n)
+goes_beyond d o scope (places.WritesElement n) = true
+goes_beyond d o scope (places.WritesOutput field) = true
+goes_beyond d o scope (places.Local shape n value) = false
+goes_beyond d o scope (places.Assigns target value) = false
+goes_beyond d o scope places.Loops = false
+goes_beyond d o scope (places.Counts head) = false
+goes_beyond d o scope (places.Steps n) = not (may_use d o scope n)
 goes_beyond d o scope (places.Calls n) = true
 goes_beyond d o scope (places.Stalls pipe stage) = true
 goes_beyond d o scope (places.Flushes pipe stage) = true
-goes_beyond d o scope _ = false
+goes_beyond d o scope (places.Executes pipe) = false
+goes_beyond d o scope (places.Shifts pipe) = false
+goes_beyond d o scope (places.Starts n) = false
 
 abbrev pub refused : Bool → Option DescFault
 refused beyond = cond beyond (Some faults.BadReset) None

@@ -39,7 +39,8 @@ use Rattle.kind_checks.specs.Uses.{by_sort, is_no_operand, is_empty, meant_misre
 use Rattle.kind_checks.specs.WrongKinds.{wrong_kind, owner_name, faulty, register_name, root_name}
 use Rattle.description_promises.specs.Freedom.{IsFree, Stands}
 use Rattle.description_promises.proofs.Among.{free_place}
-use Rattle.description_promises.proofs.Decoding.{off_left, off_right, or_right, none_of, is_found, is_right, is_right_first, no_name, not_faulty}
+use Rattle.description_promises.proofs.Chosen.{plain_listed}
+use Rattle.description_promises.proofs.Decoding.{off_left, off_right, or_right, none_of, is_found, is_right, no_name, not_faulty}
 use Rattle.description_promises.proofs.Named.{what_is}
 use Rattle.description_promises.proofs.Choosing.{rightly_declared}
 use Rattle.use_promises.specs.Meant.{ChoosesFrom}
@@ -90,6 +91,16 @@ module _ (d : DescriptionTree) (known : Known) (kinds : AreKinds d known) (names
 
     in_place : own.staged ≡ false → own.rooted ≡ false → (o : ℕ) → is_in o (plain_at d c) ≡ true → RunsInPlace d o
     in_place staged rooted o h = record { no_stage = no_stage staged o h; no_root = no_root rooted o h }
+
+    -- the same of what a coding has, where aliases count too
+    no_root_listed : own.listed_rooted ≡ false → (o : ℕ) → is_in o (plain_at d c) ≡ true → is_root d o ≡ false
+    no_root_listed off o h = none_in (is_root d) o (alternatives_at d c) (plain_listed d c o h) (sym (ap (λ (t : Traits). t.listed_rooted) its_traits) ∙ off)
+
+    listed_in_place : own.listed_staged ≡ false → own.listed_rooted ≡ false → (o : ℕ) → is_in o (plain_at d c) ≡ true → RunsInPlace d o
+    listed_in_place staged rooted o h = record {
+      no_stage = none_of (own_stage d o) (none_in (λ x. is_some (own_stage d x)) o (alternatives_at d c) (plain_listed d c o h) (sym (ap (λ (t : Traits). t.listed_staged) its_traits) ∙ staged));
+      no_root = no_root_listed rooted o h;
+    }
 
     coded_so : (coding_at d i).coded ≡ true → IsCoded d e
     coded_so f = sym (ap (λ (x : CodedName). x.coded) (coding_is d i e is)) ∙ f
@@ -183,15 +194,15 @@ module _ (d : DescriptionTree) (known : Known) (kinds : AreKinds d known) (names
   starts_child o n s = start_sorted o n (rightly o n (is_misstarted known d) (λ k. refl) (is_found (name_at d o) (is_known d o [] n) n (free_place (unknown d) d stand _ s))
       (is_right (name_at d o) (is_misstarted known d (meaning d o n)) n (free_place (wrong_kind known d) d uses _ s)))
 
-  operand_off : (o : ℕ) (n : List ℕ) (t : Sorted o n (λ i. is_no_operand (known.traits i)) (λ i. is_no_operand (known.traits i))) → ((known.traits t.declares.number).staged || (known.traits t.declares.number).rooted) ≡ false
+  operand_off : (o : ℕ) (n : List ℕ) (t : Sorted o n (λ i. is_no_operand (known.traits i)) (λ i. is_no_operand (known.traits i))) → ((known.traits t.declares.number).listed_staged || (known.traits t.declares.number).listed_rooted) ≡ false
   operand_off o n t = either (λ i. is_no_operand (known.traits i)) t.right
 
   operand_fits : (o : ℕ) (n : List ℕ) → Sorted o n (λ i. is_no_operand (known.traits i)) (λ i. is_no_operand (known.traits i)) → IsOperand d o n
   operand_fits o n t = record {
     child = t.declares;
-    operations = in_place t.declares.number t.declares.choice t.declares.entry t.declares.is t.declares.chooses
-        (child_lacks t.declares traits.Staged (off_left (known.traits t.declares.number).staged (known.traits t.declares.number).rooted (operand_off o n t)))
-        (child_lacks t.declares traits.Rooted (off_right (known.traits t.declares.number).staged (known.traits t.declares.number).rooted (operand_off o n t)));
+    operations = listed_in_place t.declares.number t.declares.choice t.declares.entry t.declares.is t.declares.chooses
+        (child_lacks t.declares traits.ListedStaged (off_left (known.traits t.declares.number).listed_staged (known.traits t.declares.number).listed_rooted (operand_off o n t)))
+        (child_lacks t.declares traits.ListedRooted (off_right (known.traits t.declares.number).listed_staged (known.traits t.declares.number).listed_rooted (operand_off o n t)));
   }
 
   operand_sorted : (o : ℕ) (n : List ℕ) → Rightly o n (is_wrong_operand known d) → IsOperand d o n
@@ -201,15 +212,15 @@ module _ (d : DescriptionTree) (known : Known) (kinds : AreKinds d known) (names
   operand_child o n s = operand_sorted o n (rightly o n (is_wrong_operand known d) (λ k. refl) (is_found (name_at d o) (stands d o n) n (free_place (unknown d) d stand _ s))
       (is_right (name_at d o) (is_wrong_operand known d (meaning d o n)) n (free_place (wrong_kind known d) d uses _ s)))
 
-  root_fits : (o : ℕ) (n : List ℕ) → Sorted o n (λ i. (known.traits i).rooted) (λ i. true) → IsRootGroup d o n
+  root_fits : (o : ℕ) (n : List ℕ) → Sorted o n (λ i. (known.traits i).listed_rooted) (λ i. true) → IsRootGroup d o n
   root_fits o n t = record {
     child = t.declares;
-    operations = no_root t.declares.number t.declares.choice t.declares.entry t.declares.is t.declares.chooses
-        (child_lacks t.declares traits.Rooted (⊎_elim (λ e. e) (λ e. absurd (cc e)) t.right));
+    operations = no_root_listed t.declares.number t.declares.choice t.declares.entry t.declares.is t.declares.chooses
+        (child_lacks t.declares traits.ListedRooted (⊎_elim (λ e. e) (λ e. absurd (cc e)) t.right));
   }
 
   root_sorted : (o : ℕ) (n : List ℕ) → Rightly o n (is_wrong_root_group known d) → IsRootGroup d o n
-  root_sorted o n r = root_fits o n (sorted o n (λ i. (known.traits i).rooted) (λ i. true) r.number r.entry r.declared r.is r.right)
+  root_sorted o n r = root_fits o n (sorted o n (λ i. (known.traits i).listed_rooted) (λ i. true) r.number r.entry r.declared r.is r.right)
 
   pub root_child : (o : ℕ) (word : ExprTree) (n : List ℕ) → Stands d (at o regions.Coding [] (places.Root word n)) → IsRootGroup d o n
   root_child o word n s =
@@ -248,14 +259,14 @@ module _ (d : DescriptionTree) (known : Known) (kinds : AreKinds d known) (names
 
   pub reads_run : (o i : ℕ) (region : Region) (scope : Scope) (n : List ℕ) → Stands d (at o region scope (places.Reads n)) → local_named n scope ≡ None → declared_at d o n ≡ Some i → ChildrenMayRun d i
   reads_run o i region scope n s none at =
-      let w = is_right_first (owner_name d o region) (is_misread known d o n (local_named n scope)) n (free_place (wrong_kind known d) d uses _ s) in
+      let w = is_right (owner_name d o region) (is_misread known d o n (local_named n scope)) n (free_place (wrong_kind known d) d uses _ s) in
       let v : meant_misread known d (meaning d o n) ≡ false = ap (is_misread known d o n) (sym none) ∙ w in
       let u : meant_misread known d (meanings.Declared i) ≡ false = ap (meant_misread known d) (sym (meant_as o i n at)) ∙ v in
       run_apart i (apart (known.traits i) (off_right (known.typeless i) (is_apart (known.traits i)) u))
 
   pub writes_run : (o i : ℕ) (region : Region) (scope : Scope) (n : List ℕ) → Stands d (at o region scope (places.Writes n)) → local_named n scope ≡ None → declared_at d o n ≡ Some i → ChildrenMayRun d i
   writes_run o i region scope n s none at =
-      let w = is_right_first (owner_name d o region) (is_miswritten known d o n (local_named n scope)) n (free_place (wrong_kind known d) d uses _ s) in
+      let w = is_right (owner_name d o region) (is_miswritten known d o n (local_named n scope)) n (free_place (wrong_kind known d) d uses _ s) in
       let v : meant_miswritten known d (meaning d o n) ≡ false = ap (is_miswritten known d o n) (sym none) ∙ w in
       let u : meant_miswritten known d (meanings.Declared i) ≡ false = ap (meant_miswritten known d) (sym (meant_as o i n at)) ∙ v in
       let right = off_right (known.typeless i) (is_apart (known.traits i) || known.unassignable i) u in
@@ -274,7 +285,7 @@ module _ (d : DescriptionTree) (known : Known) (kinds : AreKinds d known) (names
   pub call_fits : (o : ℕ) (region : Region) (scope : Scope) (n : List ℕ) → Stands d (at o region scope (places.Calls n)) → IsCallable d o scope n
   call_fits o region scope n s =
       by (local_named n scope) refl (is_found (name_at d o) (is_known d o scope n) n (free_place (unknown d) d stand _ s))
-      (is_right_first (owner_name d o region) (is_miscalled known d o n (local_named n scope)) n (free_place (wrong_kind known d) d uses _ s))
+      (is_right (owner_name d o region) (is_miscalled known d o n (local_named n scope)) n (free_place (wrong_kind known d) d uses _ s))
     where
       by : (r : Option Local) → local_named n scope ≡ r → (is_some r || stands d o n) ≡ true → is_miscalled known d o n r ≡ false → IsCallable d o scope n
       by (Some l) none there right = absurd (cc right)
