@@ -1,10 +1,11 @@
 -- The hardware after any edges is what the state shows.
-use Rattle.std.proofs.Common.{◌≡◌, ℕ, zero, suc, ◌<◌, ◌≤◌, Bool, true, false, cond, not, ◌&&◌, ◌||◌, List, [], ◌∷◌, Option, None, Some, refl, sym, ap, ap₂, ◌∙◌, subst, ⊎_elim, arith, nat_eq}
+use Rattle.std.proofs.Common.{◌≡◌, ℕ, zero, suc, ◌<◌, ◌≤◌, Bool, true, false, cond, not, ◌&&◌, ◌||◌, List, [], ◌∷◌, ◌++◌, Option, None, Some, refl, sym, ap, ap₂, ◌∙◌, subst, ⊎_elim, arith, nat_eq}
 use Rattle.std.proofs.Math.Path.{fun_ext}
 use Rattle.std.specs.Prelude.{is_some}
 use Rattle.std.specs.Option.{unwrap_or, option_or}
 use Rattle.std.specs.List.{fold, AllByRecursion}
 use Rattle.std.proofs.lemmas.Bool.{cond-true, cond-false, both_ways, ne_eqb, and_parts, eqb-true, eqb-false, not-true, cases_eq}
+use Rattle.std.proofs.lemmas.List.Sums.{fold-append}
 use Rattle.pipeline_time.specs.Cores.{Core, level_of, above_of, is_past, level_of_slots, slot_level}
 use Rattle.pipeline_time.specs.Running.{Activation, Running, word_below}
 use Rattle.pipeline_time.specs.Edges.{Standing, is_held, is_flushed, is_free, edge}
@@ -272,7 +273,7 @@ module _ {R M : Type 0} (core : Core R M) (sound : IsSound core) where
   pub good_past : (first : R) (entries : List (List ℕ)) → IsGoodPast core (after core first entries).past
   good_past first entries = fold_good entries (first_state core first) tt
 
-  same_standing : (state : State R) → IsGoodPast core state.past → bits_stand core (shown core state) ≡ stands core state.past
+  pub same_standing : (state : State R) → IsGoodPast core state.past → bits_stand core (shown core state) ≡ stands core state.past
   same_standing state good = fun_ext (λ level. fun_ext (λ number. of level number (stands core state.past level number) refl))
     where
       of : (level number : ℕ) (o : Option ℕ) → stands core state.past level number ≡ o → cond (is_some (stands core state.past level number)) (Some (word_below (is_past core number) (stage_word core state.past level))) None ≡ stands core state.past level number
@@ -307,3 +308,9 @@ module _ {R M : Type 0} (core : Core R M) (sound : IsSound core) where
 
   pub agree : (first : R) (entries : List (List ℕ)) → hardware_after core first entries ≡ shown core (after core first entries)
   agree first entries = fold_agrees entries (first_hardware core first) (first_state core first) tt refl
+
+  pub edge_agrees : (first : R) (entries : List (List ℕ)) (pins : List ℕ) (hard : Hardware R) → hard ≡ shown core (after core first entries) → next_hardware core hard pins ≡ shown core (after core first (entries ++ pins ∷ []))
+  edge_agrees first entries pins hard same =
+      ap (λ (h : Hardware R). next_hardware core h pins) same
+      ∙ step_agrees (after core first entries) pins (good_past first entries)
+      ∙ ap (λ (s : State R). shown core s) (sym (fold-append (next core) (first_state core first) entries (pins ∷ [])))

@@ -27,11 +27,11 @@ module _ {R M : Type 0} (core : Core R M) (sound : IsSound core) where
       (each_append _ (nodes above other) (nodes above rest) (above_low level above inside _ other low tree.1) (above_low level above inside _ rest low tree.2))
 
   -- how far an edge has come when a turn comes
-  record HasCome (words : ℕ → ℕ) (level : ℕ) (now : Running M) : Type 0 where
-    within : level ≤ core.stages
-    far : Far core words (suc level) now
+  pub record HasCome (words : ℕ → ℕ) (level : ℕ) (now : Running M) : Type 0 where
+    pub within : level ≤ core.stages
+    pub far : Far core words (suc level) now
 
-  come : (words : ℕ → ℕ) (standing : Standing) → IsWorded core words standing → (pins : List ℕ) (memory : R) (level : ℕ) (now : Running M) → TurnComes core standing pins memory level now → HasCome words level now
+  pub come : (words : ℕ → ℕ) (standing : Standing) → IsWorded core words standing → (pins : List ℕ) (memory : R) (level : ℕ) (now : Running M) → TurnComes core standing pins memory level now → HasCome words level now
   come words standing good pins memory level now at_first = record { within = omega arith; far = main_far core sound words standing good pins memory (suc core.stages) }
   come words standing good pins memory level now (further before) =
       let c = come words standing good pins memory _ _ before in

@@ -11,4 +11,5 @@ pub mod Once
 pub mod Counts
 pub mod Held
 pub mod Disjoint
+pub mod Due
 pub mod Sample

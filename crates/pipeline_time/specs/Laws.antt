@@ -1,13 +1,14 @@
 -- What holds of each sound core, after any edges.
-use Rattle.std.specs.Prelude.{ℕ, suc, ◌<◌, ◌≤◌, ◌≡◌, ◌≢◌, Bool, true, false, List, Some, length, is_some, nat_eq, nat_le}
+use Rattle.std.specs.Prelude.{ℕ, suc, ◌<◌, ◌≤◌, ◌≡◌, ◌≢◌, Bool, true, false, List, [], ◌∷◌, ◌++◌, Some, length, is_some, nat_eq, nat_le, ◌==◌, if◌then◌else◌}
+use Rattle.std.specs.Option.{unwrap_or}
 use Rattle.std.specs.List.{filter, Contains, IsDistinct}
 use Rattle.pipeline_time.specs.Acts.{Acts, Act, When, Node, nodes, size}
-use Rattle.pipeline_time.specs.Cores.{Core, main_node, all_nodes, node_of, level_of, above_of, is_past}
+use Rattle.pipeline_time.specs.Cores.{Core, main_node, all_nodes, node_of, level_of, above_of, is_past, slot_level}
 use Rattle.pipeline_time.specs.Running.{Running, word_below, activate, run, run_occurrence}
 use Rattle.pipeline_time.specs.Edges.{Standing, is_held, is_flushed, waiting, is_due, turn, turns, start}
 use Rattle.pipeline_time.specs.Journal.{Log, Entry, place, is_at, journal, slots, stands, stage_word}
 use Rattle.pipeline_time.specs.States.{edge_of, after}
-use Rattle.pipeline_time.specs.Bits.{hardware_after, shown}
+use Rattle.pipeline_time.specs.Bits.{Hardware, bits_stand, next_hardware, hardware_after, shown}
 
 -- The held stages are the first ones, up to some stage, or none.
 abbrev pub HeldAreFirst : List ℕ → Type 0
@@ -117,6 +118,35 @@ module _ {R M : Type 0} (core : Core R M) where
       → is_past core number ≡ true
       → stands core (after core first entries).past level number ≡ Some word
       → (stage_word core (after core first entries).past level ≡ word) × (core.decodes word ≡ true) × (core.chooses number word ≡ true)
+
+  -- the word that moves on from a level, at that level's turn: the one that the root took, where slots are made, and else the stage's
+  abbrev pub turn_word : List Log → Running M → ℕ → ℕ
+  turn_word past now level = if level == slot_level core then unwrap_or now.slot 0 else stage_word core past level
+
+  -- What is due past the root runs with the word that moves on from there; it is an instruction's, which chooses the occurrence. All else
+  -- that is due runs with the word 0.
+  abbrev pub DueIsChosen : Type 0
+  DueIsChosen =
+      (first : R) (entries : List (List ℕ)) (pins : List ℕ) (level : ℕ) (now : Running M) (node : Node)
+      → 0 < level
+      → TurnComes (stands core (after core first entries).past) pins (after core first entries).memory level now
+      → Contains (all_nodes core) node
+      → is_due core (waiting core (stands core (after core first entries).past) level now) level node ≡ true
+      → (word : ℕ)
+      → word ≡ unwrap_or (waiting core (stands core (after core first entries).past) level now node.number) 0
+      → (word ≡ word_below node.past (turn_word (after core first entries).past now level))
+      × (node.past ≡ true → (core.decodes word ≡ true) × (core.chooses node.number word ≡ true))
+
+  -- What stands by the bits and words that the state shows is what stands by the journal.
+  abbrev pub BitsStand : Type 0
+  BitsStand = (first : R) (entries : List (List ℕ)) → bits_stand core (shown core (after core first entries)) ≡ stands core (after core first entries).past
+
+  -- One edge from what the state shows gives what the next state shows.
+  abbrev pub EdgeIsState : Type 0
+  EdgeIsState =
+      (first : R) (entries : List (List ℕ)) (pins : List ℕ) (hard : Hardware R)
+      → hard ≡ shown core (after core first entries)
+      → next_hardware core hard pins ≡ shown core (after core first (entries ++ pins ∷ []))
 
   -- Memory, bits and words of the hardware are those that the state shows.
   abbrev pub HardwareIsState : Type 0

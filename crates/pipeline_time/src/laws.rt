@@ -17,6 +17,9 @@ ghost use Rattle.pipeline_time.specs.Laws.{
   StandsBetween,
   SlotsAreWords,
   PastIsChosen,
+  DueIsChosen,
+  BitsStand,
+  EdgeIsState,
   HardwareIsState,
 };
 
@@ -65,12 +68,17 @@ pub fn slots_are_words<R, M>()
     ensures { (core : Core R M) → IsSound core → SlotsAreWords core }
 {}
 
-/// What stands past the root has its stage's word, and is what the word's instruction chooses.
+/// What stands past the root has its stage's word, which decodes, and is what the word's instruction chooses; and so what is due past the
+/// root when its turn comes.
 pub fn past_is_chosen<R, M>()
-    ensures { (core : Core R M) → IsSound core → PastIsChosen core }
+    ensures standing { (core : Core R M) → IsSound core → PastIsChosen core }
+    ensures due { (core : Core R M) → IsSound core → DueIsChosen core }
 {}
 
-/// The hardware's memory, bits and words are those of the state, after any edges.
+/// The hardware's memory, bits and words are those of the state, after any edges: by one edge from those of the state before it, for what
+/// holds no more than these; and of all edges at once.
 pub fn hardware_is_state<R, M>()
-    ensures { (core : Core R M) → IsSound core → HardwareIsState core }
+    ensures stands { (core : Core R M) → IsSound core → BitsStand core }
+    ensures edge { (core : Core R M) → IsSound core → EdgeIsState core }
+    ensures whole { (core : Core R M) → IsSound core → HardwareIsState core }
 {}
