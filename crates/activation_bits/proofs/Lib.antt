@@ -1,0 +1,2 @@
+pub mod HasBits
+pub mod InRows
