@@ -1,0 +1,4 @@
+pub mod Stages
+pub mod Places
+pub mod Agree
+pub mod Coming

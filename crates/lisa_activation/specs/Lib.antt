@@ -1,0 +1,4 @@
+pub mod Columns
+pub mod Queued
+pub mod Shown
+pub mod Restored
