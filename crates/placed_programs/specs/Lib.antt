@@ -1,0 +1,4 @@
+pub mod Entries
+pub mod Addresses
+pub mod Symbols
+pub mod Placed

@@ -1,0 +1,2 @@
+//! Programs that are placed one behind the other in each memory: addresses, symbols, and what each cell holds at last.
+#![tactic(auto)]
