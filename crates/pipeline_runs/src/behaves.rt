@@ -1,0 +1,60 @@
+//! What operations do in an edge.
+
+ghost use Rattle.std.specs.Prelude.{◌≡◌, ℕ, ◌∷◌, List, Bool, true, false};
+ghost use Rattle.pipeline_time.specs.Cores.{Core, is_past};
+ghost use Rattle.pipeline_runs.specs.Runs.{has_run};
+
+use lisa_activation::Queues;
+
+/// What operations do, read and decide, over a memory that an edge changes.
+pub trait Behaves {
+    /// What lasts from edge to edge, and a moment of an edge.
+    ghost Lasting: { Type 0 };
+
+    ghost Moment: { Type 0 };
+
+    /// The description, as far as time goes.
+    ghost core: { Self → Core Lasting Moment };
+
+    /// How far the edge has come.
+    ghost moment: { Self → Moment };
+
+    /// The occurrences that ran in the edge, newest first.
+    ghost ran: { Self → List ℕ };
+
+    /// Does the BEHAVIOR of an occurrence with a word. It ran no time before in the edge, and past the root the word's instruction chooses
+    /// it.
+    fn behave(&mut self, number: u32, word: u64)
+        requires fresh { has_run number (ran self.old) ≡ false }
+        requires chosen { is_past (core self.old) number ≡ true → (core self.old).chooses number word ≡ true }
+        ensures moment { moment self.new ≡ (core self.old).behave number word (moment self.old) }
+        ensures ran { ran self.new ≡ number ∷ ran self.old }
+        ensures core { core self.new ≡ core self.old };
+
+    /// Whether the condition of an `if` holds: whose, its place among that one's, and the word.
+    fn holds(&self, number: u32, test: u32, word: u64) -> bool
+        ensures { result ≡ (core self.now).holds number test word (moment self.now) };
+
+    /// Whether the instruction of a word chooses an occurrence.
+    fn chooses(&self, number: u32, word: u64) -> bool
+        ensures { result ≡ (core self.now).chooses number word };
+
+    fn is_root(&self, number: u32) -> bool
+        ensures { result ≡ (core self.now).is_root number };
+
+    /// The word that the root takes.
+    fn fetch(&self) -> u64
+        ensures { result ≡ (core self.now).fetch (moment self.now) };
+
+    /// Whether some instruction has the word.
+    fn decodes(&self, word: u64) -> bool
+        ensures { result ≡ (core self.now).decodes word };
+}
+
+/// How far an edge has come.
+pub struct Edge<B> {
+    pub store: B,
+    pub queues: Queues,
+    /// The word that the root took, where it ran and decoded.
+    pub slot: Option<u64>,
+}

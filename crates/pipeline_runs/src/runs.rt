@@ -1,0 +1,110 @@
+//! Runs items.
+
+ghost use Rattle.std.specs.Prelude.{◌≡◌, ℕ, ◌<◌, Bool, true, false, ◌&&◌, if◌then◌else◌};
+ghost use Rattle.pipeline_time.specs.Cores.{is_past, above_of};
+ghost use Rattle.pipeline_time.specs.Running.{Running, word_below, behavior, activate, run, run_occurrence};
+ghost use Rattle.lisa_activation.specs.Queued.{count};
+ghost use Rattle.lisa_activation.specs.Shown.{AreQueuesOf};
+ghost use Rattle.pipeline_runs.specs.Runs.{acts_of, node_at, item_at, has_run, Represents, IsReady, Stays, StaysBut};
+
+use crate::behaves::{Behaves, Edge};
+use crate::tree::Tree;
+
+// The word with which an occurrence runs: the root takes its own.
+fn own_word<B: Behaves>(store: &B, number: u32, past: bool, word: u64) -> u64
+    ensures { result ≡ (if (B.core store.now).is_root number then (B.core store.now).fetch (B.moment store.now) else word_below past word) }
+{
+    if store.is_root(number) {
+        store.fetch()
+    } else if past {
+        word
+    } else {
+        0
+    }
+}
+
+// Whether the root took a word that some instruction has.
+fn takes<B: Behaves>(store: &B, number: u32, word: u64) -> bool
+    ensures { result ≡ ((B.core store.now).is_root number && (B.core store.now).decodes word) }
+{
+    store.is_root(number) && store.decodes(word)
+}
+
+// The BEHAVIOR of an occurrence that has this word.
+fn behave_once<B: Behaves>(number: u32, word: u64, edge: &mut Edge<B>)
+    requires fresh { has_run number (B.ran edge.old.store) ≡ false }
+    requires chosen { is_past (B.core edge.old.store) number ≡ true → (B.core edge.old.store).chooses number word ≡ true }
+    ensures runs { (bits : ℕ → ℕ → Bool) (now : Running B.Moment) → Represents (B.moment edge.old.store) edge.old.queues edge.old.slot bits now → Represents (B.moment edge.new.store) edge.new.queues edge.new.slot bits (behavior (B.core edge.old.store) number word now) }
+    ensures stays { StaysBut (B.core edge.old.store) (B.core edge.new.store) edge.old.queues edge.new.queues (B.ran edge.old.store) (B.ran edge.new.store) number }
+{
+    edge.store.behave(number, word);
+    if takes(&edge.store, number, word) {
+        edge.slot = Some(word);
+    }
+}
+
+// Records an occurrence under an activator of a level.
+fn record<B: Behaves>(here: u8, number: u32, edge: &mut Edge<B>)
+    requires within { number < count edge.old.queues }
+    requires activator { above_of (B.core edge.old.store) number ≡ here }
+    requires tables { AreQueuesOf (B.core edge.old.store) edge.old.queues }
+    ensures runs { (bits : ℕ → ℕ → Bool) (now : Running B.Moment) (own : ℕ) → Represents (B.moment edge.old.store) edge.old.queues edge.old.slot bits now → Represents (B.moment edge.new.store) edge.new.queues edge.new.slot bits (activate (B.core edge.old.store) here number own now) }
+    ensures store { edge.new.store ≡ edge.old.store }
+    ensures tables { AreQueuesOf (B.core edge.old.store) edge.new.queues }
+    ensures count { count edge.new.queues ≡ count edge.old.queues }
+{
+    edge.queues.enter(number);
+}
+
+/// Runs the items under an activator that runs at a level with a word, in listed order: what runs at that level at once, and what runs at
+/// another one is recorded.
+pub fn run<B: Behaves>(here: u8, word: u64, acts: &Tree, edge: &mut Edge<B>)
+    requires { IsReady (B.core edge.old.store) edge.old.queues (B.ran edge.old.store) here (acts_of acts.now) }
+    ensures runs { (bits : ℕ → ℕ → Bool) (now : Running B.Moment) → Represents (B.moment edge.old.store) edge.old.queues edge.old.slot bits now → Represents (B.moment edge.new.store) edge.new.queues edge.new.slot bits (run (B.core edge.old.store) here word (acts_of acts.now) now) }
+    ensures stays { Stays (B.core edge.old.store) (B.core edge.new.store) edge.old.queues edge.new.queues (B.ran edge.old.store) (B.ran edge.new.store) (acts_of acts.now) }
+{
+    match acts {
+        Tree::Nothing => {}
+        Tree::Item(number, level, past, own, rest) => {
+            if !edge.store.chooses(*number, word) {
+                run(here, word, rest, edge);
+            } else if *level == here {
+                let mine = own_word(&edge.store, *number, *past, word);
+                behave_once(*number, mine, edge);
+                run(here, mine, own, edge);
+                run(here, word, rest, edge);
+            } else {
+                record(here, *number, edge);
+                run(here, word, rest, edge);
+            }
+        }
+        Tree::If(number, test, taken, other, rest) => {
+            if edge.store.holds(*number, *test, word) {
+                run(here, word, taken, edge);
+                run(here, word, rest, edge);
+            } else {
+                run(here, word, other, edge);
+                run(here, word, rest, edge);
+            }
+        }
+    }
+}
+
+/// Runs an occurrence that was activated with a word: its BEHAVIOR, and then its items.
+pub fn run_occurrence<B: Behaves>(
+    number: u32,
+    level: u8,
+    past: bool,
+    word: u64,
+    own: &Tree,
+    edge: &mut Edge<B>,
+)
+    requires ready { IsReady (B.core edge.old.store) edge.old.queues (B.ran edge.old.store) (above_of (B.core edge.old.store) number) (item_at number level past own.now) }
+    requires chosen { past ≡ true → (B.core edge.old.store).chooses number word ≡ true }
+    ensures runs { (bits : ℕ → ℕ → Bool) (now : Running B.Moment) → Represents (B.moment edge.old.store) edge.old.queues edge.old.slot bits now → Represents (B.moment edge.new.store) edge.new.queues edge.new.slot bits (run_occurrence (B.core edge.old.store) word (node_at (above_of (B.core edge.old.store) number) number level past own.now) now) }
+    ensures stays { Stays (B.core edge.old.store) (B.core edge.new.store) edge.old.queues edge.new.queues (B.ran edge.old.store) (B.ran edge.new.store) (item_at number level past own.now) }
+{
+    let mine = own_word(&edge.store, number, past, word);
+    behave_once(number, mine, edge);
+    run(level, mine, own, edge);
+}
