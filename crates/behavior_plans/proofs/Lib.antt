@@ -1,0 +1,4 @@
+pub mod Blanks
+pub mod Blocks
+pub mod Cells
+pub mod Loops
