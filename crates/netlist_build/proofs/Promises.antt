@@ -2,7 +2,7 @@
 use Rattle.std.proofs.Common.{◌≡◌, ◌≢◌, ◌≤◌, ◌^◌, ℕ, suc, List, [], ◌∷◌, length, refl, sym, ap, subst, arith}
 use Rattle.std.specs.Prelude.{AllPairs}
 use Rattle.verilog_text.specs.Clocked.{Net, nets}
-use Rattle.verilog_text.specs.Printing.{module_text, module_size}
+use Rattle.verilog_text.specs.Printing.{module_text}
 use Rattle.verilog_text.specs.Faults.{VAccepts}
 use Rattle.step_program.specs.Programs.{Program}
 use Rattle.step_program.specs.WellFormed.{IsWellFormed}
@@ -30,7 +30,7 @@ module _ (find : Find) (is_find : IsFind find) (p : Program) (formed : IsWellFor
   pub is_accepted : HasDistinctNames p → length (ended find p).keys ≤ 2 ^ 64 → VAccepts (module_text (built find p)) (built find p)
   is_accepted distinct few = whole_accepted find is_find p formed few distinct
 
-  pub is_small : length (ended find p).keys ≤ 2 ^ 64 → module_size (built find p) ≤ module_most p
+  pub is_small : length (ended find p).keys ≤ 2 ^ 64 → length (module_text (built find p)) ≤ module_most p
   is_small few = whole_size find is_find p formed few
 
   net_count : (n : ℕ) (keys : List Key) → length (wire_nets p n keys) ≡ length keys

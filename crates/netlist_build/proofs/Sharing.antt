@@ -14,6 +14,8 @@ use Rattle.verilog_text.specs.Trees as trees
 use Rattle.verilog_text.specs.Trees.{VTree}
 use Rattle.verilog_text.specs.Clocked.{Net}
 use Rattle.verilog_rules.proofs.Apart.{Has}
+use Rattle.step_program.specs.declared.expressions.OneOp.{OneOp}
+use Rattle.step_program.specs.declared.expressions.OneOp.TheVariants as ones
 use Rattle.step_program.specs.declared.expressions.TwoOp.{TwoOp}
 use Rattle.step_program.specs.declared.expressions.TwoOp.TheVariants as ops
 use Rattle.step_program.specs.Programs.{Expr, Const, Now, Before, Pin, Temp, Cell, One, Two, Choose, Aim, ToItem, ToTemp, ToCell, Move, Program}
@@ -26,7 +28,7 @@ use Rattle.netlist_wires.specs.declared.keys.Body.TheVariants.{Copied, Inverse, 
 use Rattle.netlist_wires.specs.declared.keys.Key.{Key}
 use Rattle.netlist_wires.specs.declared.keys.Write.{Write}
 use Rattle.netlist_wires.specs.Tables.{HasDistinctNames}
-use Rattle.netlist_wires.specs.Wiring.{item_name, pin_name, array_name, wire_name, operator_of, named, body_tree, Made, Find, shared, share, behind, load, Sym, nothing, one_body, lower, Going, aimed, gone, gone_all, begun_going, ended}
+use Rattle.netlist_wires.specs.Wiring.{item_name, pin_name, array_name, wire_name, operator_of, named, body_tree, Made, Find, shared, share, behind, load, Sym, nothing, refit, changed, lower, settled, given_once, given, Going, aimed, gone, gone_all, begun_going, ended}
 use Rattle.netlist_wires.proofs.Members.{wire_nets}
 use Rattle.netlist_wires.proofs.Named.{item_names, item_at, array_at, wire_same, free_no_wire, items_apart, arrays_apart, pins_apart, items_no_pins, items_free, pins_free}
 use Rattle.netlist_wires.proofs.Growing.{IsBelow, IsBodyBelow, IsOrdered}
@@ -129,6 +131,18 @@ module _ (find : Find) (finds : Finds find) where
   load_once p a (write ∷ ws) x keys once =
       behind_once (array_width p a) (nat_eq write.array a) write x (load find p a ws x keys) (load_once p a ws x keys once)
 
+  refit_once : (same : Bool) (to : ℕ) (f : Flat) (keys : List Key) → IsOnce keys → IsOnce (refit find same to f keys).keys
+  refit_once true to f keys once = once
+  refit_once false to (Fixed w v) keys once = once
+  refit_once false to (OfItem i) keys once = share_once to (Copied (OfItem i)) keys once
+  refit_once false to (OfPin i) keys once = share_once to (Copied (OfPin i)) keys once
+  refit_once false to (OfWire k) keys once = share_once to (Copied (OfWire k)) keys once
+
+  changed_once : (one : OneOp) (w : ℕ) (f : Flat) (keys : List Key) → IsOnce keys → IsOnce (changed find one w f keys).keys
+  changed_once ones.Not w f keys once = share_once w (Inverse f) keys once
+  changed_once (ones.Cut narrow) w f keys once = refit_once (nat_eq narrow w) narrow f keys once
+  changed_once (ones.Widen wide) w f keys once = refit_once (nat_eq wide w) wide f keys once
+
   lower_once : (p : Program) (s : Sym) (e : Expr) (keys : List Key) → IsOnce keys → IsOnce (lower find p s e keys).keys
   lower_once p s (Const w v) keys once = once
   lower_once p s (Now i) keys once = once
@@ -138,7 +152,7 @@ module _ (find : Find) (finds : Finds find) where
   lower_once p s (Cell a index) keys once =
       let x = lower find p s index keys in load_once p a s.writes x.flat x.keys (lower_once p s index keys once)
   lower_once p s (One one a) keys once =
-      let x = lower find p s a keys in share_once (width p (One one a)) (one_body one x.flat) x.keys (lower_once p s a keys once)
+      let x = lower find p s a keys in changed_once one (width p a) x.flat x.keys (lower_once p s a keys once)
   lower_once p s (Two op a b) keys once =
       let x = lower find p s a keys in
       let y = lower find p s b x.keys in
@@ -149,9 +163,25 @@ module _ (find : Find) (finds : Finds find) where
       let y = lower find p s b x.keys in
       share_once (width p a) (Select c.flat x.flat y.flat) y.keys (lower_once p s b x.keys (lower_once p s a c.keys (lower_once p s t keys once)))
 
+  settled_once : (w : ℕ) (f : Flat) (keys : List Key) → IsOnce keys → IsOnce (settled find w f keys).keys
+  settled_once w (Fixed v b) keys once = once
+  settled_once w (OfItem i) keys once = share_once w (Copied (OfItem i)) keys once
+  settled_once w (OfPin i) keys once = share_once w (Copied (OfPin i)) keys once
+  settled_once w (OfWire k) keys once = once
+
+  given_once_once : (w : ℕ) (zero : Bool) (v old : Flat) (keys : List Key) → IsOnce keys → IsOnce (given_once find w zero v old keys).keys
+  given_once_once w true v old keys once = once
+  given_once_once w false v old keys once = settled_once w v keys once
+
+  all_given_once : (w : ℕ) (g v old : Flat) (keys : List Key) → IsOnce keys → IsOnce (given find w g v old keys).keys
+  all_given_once w (Fixed u n) v old keys once = given_once_once w (nat_eq n 0) v old keys once
+  all_given_once w (OfItem i) v old keys once = share_once w (Select (OfItem i) v old) keys once
+  all_given_once w (OfPin i) v old keys once = share_once w (Select (OfPin i) v old) keys once
+  all_given_once w (OfWire k) v old keys once = share_once w (Select (OfWire k) v old) keys once
+
   aimed_once : (p : Program) (s : Sym) (aim : Aim) (w : ℕ) (g v : Flat) (keys : List Key) → IsOnce keys → IsOnce (aimed find p s aim w g v keys).keys
-  aimed_once p s (ToItem i) w g v keys once = share_once w (Select g v (slice_index_or s.items i nothing)) keys once
-  aimed_once p s (ToTemp i) w g v keys once = share_once w (Select g v (slice_index_or s.temps i nothing)) keys once
+  aimed_once p s (ToItem i) w g v keys once = all_given_once w g v (slice_index_or s.items i nothing) keys once
+  aimed_once p s (ToTemp i) w g v keys once = all_given_once w g v (slice_index_or s.temps i nothing) keys once
   aimed_once p s (ToCell a index) w g v keys once = lower_once p s index keys once
 
   gone_once : (p : Program) (go : Going) (move : Move) → IsOnce go.keys → IsOnce (gone find p go move).keys

@@ -2,7 +2,7 @@
 ghost use Rattle.std.specs.Prelude.{◌≡◌, ◌≤◌, ◌^◌, [], IfOk, OnOk, All, length, map};
 ghost use Rattle.verilog_text.specs.Trees.{action_trees, member_tree, module_tree};
 ghost use Rattle.verilog_text.specs.Clocked.{nets};
-ghost use Rattle.verilog_text.specs.Printing.{module_text, module_size};
+ghost use Rattle.verilog_text.specs.Printing.{module_text};
 ghost use Rattle.verilog_text.specs.Faults.{VAccepts};
 ghost use Rattle.step_program.specs.Programs.{program_tree};
 ghost use Rattle.step_program.specs.WellFormed.{IsWellFormed};
@@ -102,13 +102,14 @@ fn assemble(alloc: Global, program: &StepProgram) -> Result<Module, NoMemory>
 }
 
 /// The module of a program: its items, arrays and pins are the program's, and so is its state after each edge. Nothing is broken in it,
-/// and what is computed twice from the same values is one wire.
+/// what is computed twice from the same values is one wire, and its text has at most so many bytes as stated. It recurses as deep as
+/// the program's deepest expression.
 pub fn build(alloc: Global, program: &StepProgram) -> Result<Module, NoMemory>
     requires formed { IsWellFormed (program_tree program.now) }
     requires distinct { HasDistinctNames (program_tree program.now) }
     ensures is_module { IfOk result (λ m. IsModuleOf (program_tree program.now) (module_tree m)) }
     ensures accepted { IfOk result (λ m. VAccepts (module_text (module_tree m)) (module_tree m)) }
-    ensures size { IfOk result (λ m. module_size (module_tree m) ≤ module_most (program_tree program.now)) }
+    ensures size { IfOk result (λ m. length (module_text (module_tree m)) ≤ module_most (program_tree program.now)) }
     ensures wires { IfOk result (λ m. length (nets (module_tree m).members) ≤ wires_most (program_tree program.now)) }
     ensures shared { IfOk result (λ m. WiresDiffer (module_tree m)) }
 {

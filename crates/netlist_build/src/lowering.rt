@@ -1,8 +1,8 @@
 // From expressions and steps to wires.
-ghost use Rattle.std.specs.Prelude.{◌≡◌, ◌≤◌, IfOk, OnOk, length, reverse, slice_index_or};
+ghost use Rattle.std.specs.Prelude.{◌≡◌, ◌≤◌, ◌%◌, ◌^◌, IfOk, OnOk, length, reverse, slice_index_or};
 ghost use Rattle.step_program.specs.Programs.{expr_tree, move_of, program_tree};
 ghost use Rattle.step_program.specs.Effects.{width};
-ghost use Rattle.netlist_wires.specs.Wiring.{share, behind, load, nothing, one_body, lower, gone, gone_all, begun_going};
+ghost use Rattle.netlist_wires.specs.Wiring.{share, behind, load, nothing, refit, changed, lower, settled, given_once, given, gone, gone_all, begun_going};
 ghost use Rattle.netlist_build.specs.Symbolic.{sym_of, first, made, going};
 
 use crate::symbols::{Operand, Symbols};
@@ -60,12 +60,39 @@ fn load(
     Ok(found)
 }
 
-fn one_body(one: OneOp, flat: Flat) -> Body
-    ensures { result ≡ one_body one flat }
+// A number cut or extended to a width.
+fn refit_number(bits: u64, to: u32) -> u64
+    ensures { result ≡ bits % 2 ^ to }
+{
+    if to >= 64 {
+        return bits;
+    }
+    bits % (1 << to)
+}
+
+// An operand at another width, or at the same.
+fn refit(keys: &mut IndexSet<Key>, same: bool, to: u32, flat: Flat) -> Result<Flat, AllocError>
+    ensures flat { IfOk result (λ out. out ≡ (refit (first ⟦<Key as PartialEq>⟧.eq) same to flat keys.old.keys).flat) }
+    ensures keys { OnOk result (keys.new.keys ≡ (refit (first ⟦<Key as PartialEq>⟧.eq) same to flat keys.old.keys).keys) }
+{
+    if same {
+        return Ok(flat);
+    }
+    match flat {
+        Flat::Fixed(_, bits) => Ok(Flat::Fixed(to, refit_number(bits, to))),
+        Flat::OfItem(_) | Flat::OfPin(_) | Flat::OfWire(_) => share(keys, to, Body::Copied(flat)),
+    }
+}
+
+// What an operator makes of an operand.
+fn change(keys: &mut IndexSet<Key>, one: OneOp, a: Operand) -> Result<Flat, AllocError>
+    ensures flat { IfOk result (λ flat. flat ≡ (changed (first ⟦<Key as PartialEq>⟧.eq) one a.width a.flat keys.old.keys).flat) }
+    ensures keys { OnOk result (keys.new.keys ≡ (changed (first ⟦<Key as PartialEq>⟧.eq) one a.width a.flat keys.old.keys).keys) }
 {
     match one {
-        OneOp::Not => Body::Inverse(flat),
-        OneOp::Cut(_) | OneOp::Widen(_) => Body::Copied(flat),
+        OneOp::Not => share(keys, a.width, Body::Inverse(a.flat)),
+        OneOp::Cut(narrow) => refit(keys, narrow == a.width, narrow, a.flat),
+        OneOp::Widen(wide) => refit(keys, wide == a.width, wide, a.flat),
     }
 }
 
@@ -119,7 +146,7 @@ fn lower(
         StepExpr::One(one, a) => {
             let a = lower(program, symbols, keys, a)?;
             let width = one_width(*one, a.width);
-            let flat = share(keys, width, one_body(*one, a.flat))?;
+            let flat = change(keys, *one, a)?;
             Ok(Operand { flat, width })
         }
         StepExpr::Two(two, a, b) => {
@@ -140,17 +167,49 @@ fn lower(
     }
 }
 
-// What a target is once it has taken a value where the guard isn't 0.
-fn taken(
+// A number or a wire, where the operand may be a name that stands for something else.
+fn settle(keys: &mut IndexSet<Key>, width: u32, flat: Flat) -> Result<Flat, AllocError>
+    ensures flat { IfOk result (λ settled_flat. settled_flat ≡ (settled (first ⟦<Key as PartialEq>⟧.eq) width flat keys.old.keys).flat) }
+    ensures keys { OnOk result (keys.new.keys ≡ (settled (first ⟦<Key as PartialEq>⟧.eq) width flat keys.old.keys).keys) }
+{
+    match flat {
+        Flat::Fixed(_, _) | Flat::OfWire(_) => Ok(flat),
+        Flat::OfItem(_) | Flat::OfPin(_) => share(keys, width, Body::Copied(flat)),
+    }
+}
+
+// What a target holds under a guard that is a number.
+fn give_once(
+    keys: &mut IndexSet<Key>,
+    zero: bool,
+    value: Operand,
+    old: Flat,
+) -> Result<Flat, AllocError>
+    ensures flat { IfOk result (λ flat. flat ≡ (given_once (first ⟦<Key as PartialEq>⟧.eq) value.width zero value.flat old keys.old.keys).flat) }
+    ensures keys { OnOk result (keys.new.keys ≡ (given_once (first ⟦<Key as PartialEq>⟧.eq) value.width zero value.flat old keys.old.keys).keys) }
+{
+    if zero {
+        return Ok(old);
+    }
+    settle(keys, value.width, value.flat)
+}
+
+// What a target holds once it is given a value where the guard isn't 0.
+fn give(
     keys: &mut IndexSet<Key>,
     guard: Flat,
     value: Operand,
     old: Flat,
 ) -> Result<Flat, AllocError>
-    ensures flat { IfOk result (λ flat. flat ≡ (share (first ⟦<Key as PartialEq>⟧.eq) value.width (Body.Select guard value.flat old) keys.old.keys).flat) }
-    ensures keys { OnOk result (keys.new.keys ≡ (share (first ⟦<Key as PartialEq>⟧.eq) value.width (Body.Select guard value.flat old) keys.old.keys).keys) }
+    ensures flat { IfOk result (λ flat. flat ≡ (given (first ⟦<Key as PartialEq>⟧.eq) value.width guard value.flat old keys.old.keys).flat) }
+    ensures keys { OnOk result (keys.new.keys ≡ (given (first ⟦<Key as PartialEq>⟧.eq) value.width guard value.flat old keys.old.keys).keys) }
 {
-    share(keys, value.width, Body::Select(guard, value.flat, old))
+    match guard {
+        Flat::Fixed(_, bits) => give_once(keys, bits == 0, value, old),
+        Flat::OfItem(_) | Flat::OfPin(_) | Flat::OfWire(_) => {
+            share(keys, value.width, Body::Select(guard, value.flat, old))
+        }
+    }
 }
 
 // Takes one step.
@@ -168,7 +227,7 @@ fn take(
     match &step.target {
         Target::Item(item) => {
             let old = now(&symbols.items, *item);
-            let new = taken(keys, guard, value, old)?;
+            let new = give(keys, guard, value, old)?;
             if let Some(flat) = symbols.items.get_mut(*item as usize) {
                 *flat = new;
             }
@@ -176,7 +235,7 @@ fn take(
         }
         Target::Temp(temp) => {
             let old = now(&symbols.temps, *temp);
-            let new = taken(keys, guard, value, old)?;
+            let new = give(keys, guard, value, old)?;
             if let Some(flat) = symbols.temps.get_mut(*temp as usize) {
                 *flat = new;
             }

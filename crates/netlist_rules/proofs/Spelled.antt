@@ -399,7 +399,7 @@ module _ (p : Program) (formed : IsWellFormed p) where
     pub tokens_spell : SpellsModule (module_tokens m) m
     tokens_spell = module_spells own_spells
 
-    written : AreWritten (module_tokens m)
+    pub written : AreWritten (module_tokens m)
     written = module_written own_spells own_piece.have
 
     pub text_spells : VSpells (module_text m) m

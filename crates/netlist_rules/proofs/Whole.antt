@@ -2,7 +2,7 @@
 use Rattle.std.proofs.Common.{◌≡◌, ℕ, ◌^◌, ◌<◌, ◌≤◌, List, [], ◌∷◌, length, arith, None}
 use Rattle.std.specs.Prelude.{slice_index_or}
 use Rattle.verilog_text.specs.Trees.{members_depth}
-use Rattle.verilog_text.specs.Printing.{module_text, module_size}
+use Rattle.verilog_text.specs.Printing.{module_tokens, module_text}
 use Rattle.verilog_text.specs.Faults.{VAccepts}
 use Rattle.verilog_rules.proofs.Narrow.{Each}
 use Rattle.step_program.specs.Programs.{Program}
@@ -14,9 +14,10 @@ use Rattle.netlist_wires.specs.Costs.{moves_cost}
 use Rattle.netlist_wires.specs.Wiring.{Find, nothing, Going, begun_going, ended, built}
 use Rattle.netlist_wires.proofs.Growing.{IsBelow, IsOrdered, flat_width, AreSound, IsSymSound, Went, all_grown, begun_sound}
 use Rattle.netlist_rules.specs.Sizes.{longest, moves_most, module_most}
-use Rattle.netlist_rules.proofs.Spelled.{ArePuts, members_part}
+use Rattle.netlist_rules.proofs.Spelled.{ArePuts, members_part, written}
 use Rattle.netlist_rules.proofs.Accepted.{accepted}
-use Rattle.netlist_rules.proofs.Bounds.{going_most, all_short, longest_least, module_short}
+use Rattle.netlist_rules.proofs.Bounds.{zeros_settled, going_most, all_short, longest_least, module_short}
+use Rattle.netlist_rules.proofs.Lengths.{texts_short}
 
 module _ (find : Find) (is_find : IsFind find) (p : Program) (formed : IsWellFormed p) (few : length (ended find p).keys ≤ 2 ^ 64) where
   abbrev end : Going
@@ -49,8 +50,9 @@ module _ (find : Find) (is_find : IsFind find) (p : Program) (formed : IsWellFor
   pub whole_depth : members_depth (built find p).members ≤ 3
   whole_depth = (members_part p formed end few ordered sound.items_many below (are_puts end.sym.writes sound.writes)).depth
 
-  pub whole_size : module_size (built find p) ≤ module_most p
+  pub whole_size : length (module_text (built find p)) ≤ module_most p
   whole_size =
       let most = longest (program_names p) in
-      let h : going_most (λ keys key. None) most (longest_least (program_names p)) end ≤ moves_most most [] p.moves = omega (arith, all_short find most (longest_least (program_names p)) p (begun_going p) p.moves) in
-      module_short p formed end few ordered sound.items_many below (are_puts end.sym.writes sound.writes) h
+      let h : going_most (λ keys key. None) most (longest_least (program_names p)) end ≤ moves_most p most [] p.moves = omega (arith, all_short find most (longest_least (program_names p)) p (begun_going p) p.moves (zeros_settled p.temps)) in
+      let puts = are_puts end.sym.writes sound.writes in
+      omega (arith, texts_short (module_tokens (built find p)) (written p formed end few ordered sound.items_many below puts), module_short p formed end few ordered sound.items_many below puts h)

@@ -1,7 +1,7 @@
 //! Laws of the module of a program. Each is the contract of a function that does nothing.
 ghost use Rattle.std.specs.Prelude.{◌≤◌, ◌^◌, length};
 ghost use Rattle.verilog_text.specs.Trees.{members_depth};
-ghost use Rattle.verilog_text.specs.Printing.{module_text, module_size};
+ghost use Rattle.verilog_text.specs.Printing.{module_text};
 ghost use Rattle.verilog_text.specs.Faults.{VAccepts};
 ghost use Rattle.step_program.specs.Programs.{Program};
 ghost use Rattle.step_program.specs.WellFormed.{IsWellFormed};
@@ -10,9 +10,9 @@ ghost use Rattle.netlist_wires.specs.Tables.{IsFind, HasDistinctNames};
 ghost use Rattle.netlist_rules.specs.Sizes.{module_most};
 
 /// The text of a well-formed program's module spells the module, and nothing is broken in it. Its expressions and actions are at most 3
-/// deep, and its size is bounded by the program's.
+/// deep, and it has at most so many bytes as stated.
 pub fn modules_are_accepted()
     ensures accepted { (find : Find) (p : Program) → IsFind find → IsWellFormed p → HasDistinctNames p → length (ended find p).keys ≤ 2 ^ 64 → VAccepts (module_text (built find p)) (built find p) }
     ensures depth { (find : Find) (p : Program) → IsFind find → IsWellFormed p → length (ended find p).keys ≤ 2 ^ 64 → members_depth (built find p).members ≤ 3 }
-    ensures size { (find : Find) (p : Program) → IsFind find → IsWellFormed p → length (ended find p).keys ≤ 2 ^ 64 → module_size (built find p) ≤ module_most p }
+    ensures size { (find : Find) (p : Program) → IsFind find → IsWellFormed p → length (ended find p).keys ≤ 2 ^ 64 → length (module_text (built find p)) ≤ module_most p }
 {}

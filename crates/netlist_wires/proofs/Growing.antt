@@ -4,7 +4,7 @@ use Rattle.std.specs.Prelude.{All, slice_index, slice_index_or, slice_set}
 use Rattle.std.specs.List.{slice_get}
 use Rattle.std.specs.Option.{option_map}
 use Rattle.std.proofs.lemmas.Nat.{pow_pos}
-use Rattle.std.proofs.lemmas.Bool.{cases_eq}
+use Rattle.std.proofs.lemmas.Bool.{cases_eq, eqb-true}
 use Rattle.std.proofs.lemmas.List.{get_or_append_left, get_or-set_same, get_or-set_other, length-set, length-map, map-append}
 use Rattle.std.proofs.lemmas.List.Elements.{All-map, All-head, All-tail}
 use Rattle.std.proofs.lemmas.Option.{slice_get_within, slice_get-map, get_or_from_slice_get}
@@ -17,6 +17,7 @@ use Rattle.step_program.specs.declared.expressions.TwoOp.TheVariants as ops
 use Rattle.step_program.specs.Programs.{Expr, Const, Now, Before, Pin, Temp, Cell, One, Two, Choose, Aim, ToItem, ToTemp, ToCell, Move, Program}
 use Rattle.step_program.specs.Effects.{item_width, pin_width, array_width, array_depth, one_width, two_width, width}
 use Rattle.step_program.specs.WellFormed.{IsWidth, FitsOne, IsFit, IsAimed, IsMove, IsWellFormed}
+use Rattle.step_program.proofs.Fits.{one_below}
 use Rattle.netlist_wires.specs.declared.keys.Flat.{Flat}
 use Rattle.netlist_wires.specs.declared.keys.Flat.TheVariants.{Fixed, OfItem, OfPin, OfWire}
 use Rattle.netlist_wires.specs.declared.keys.Body.{Body}
@@ -25,7 +26,7 @@ use Rattle.netlist_wires.specs.declared.keys.Key.{Key}
 use Rattle.netlist_wires.specs.declared.keys.Write.{Write}
 use Rattle.netlist_wires.specs.Tables.{IsFind}
 use Rattle.netlist_wires.specs.Costs.{writes_to, expr_cost, aim_cost, arrays_after, move_cost, moves_cost}
-use Rattle.netlist_wires.specs.Wiring.{Made, Find, shared, share, behind, load, Sym, nothing, one_body, lower, Going, aimed, gone, gone_all, own_items, begun_going}
+use Rattle.netlist_wires.specs.Wiring.{Made, Find, shared, share, behind, load, Sym, nothing, refit, changed, lower, settled, given_once, given, Going, aimed, gone, gone_all, own_items, begun_going}
 use Rattle.netlist_wires.proofs.Longer.{IsLonger, same_longer, then_longer, longer_length}
 use Rattle.netlist_wires.proofs.Meanings.{at_end}
 
@@ -281,15 +282,18 @@ module _ (p : Program) (formed : IsWellFormed p) where
         subst (λ (n : ℕ). Grown p keys out n (array_width p a)) (more_writes a w ws)
         (then_grown p keys r out gr (behind_grown a (nat_eq w.array a) w x r (array_small a less) (on w.guard bs.0.guard) (on w.index bs.0.index) (on w.value bs.0.value) (on x bx) gr.sound))
 
-    one_below : (one : OneOp) (n : ℕ) (f : Flat) → IsBelow p n f → IsBodyBelow p n (one_body one f)
-    one_below ones.Not n f b = b
-    one_below (ones.Cut narrow) n f b = b
-    one_below (ones.Widen wide) n f b = b
+    refit_grown : (same : Bool) (to w : ℕ) (f : Flat) (keys : List Key) → nat_eq to w ≡ same → IsWidth to → IsSound p keys f w → Grown p keys (refit find same to f keys) 1 to
+    refit_grown true to w f keys e small sound = record { longer = same_longer keys; few = omega arith; ordered = λ h. h; sound = subst (IsSound p keys f) (sym (eqb-true to w e)) sound }
+    refit_grown false to w (Fixed v b) keys e small sound =
+        record { longer = same_longer keys; few = omega arith; ordered = λ h. h; sound = record { below = (small, one_below (ones.Cut to) w b); wide = refl } }
+    refit_grown false to w (OfItem i) keys e small sound = share_grown to (Copied (OfItem i)) keys small sound.below tt
+    refit_grown false to w (OfPin i) keys e small sound = share_grown to (Copied (OfPin i)) keys small sound.below tt
+    refit_grown false to w (OfWire k) keys e small sound = share_grown to (Copied (OfWire k)) keys small sound.below tt
 
-    one_indexed : (one : OneOp) (keys : List Key) (f : Flat) → IsIndexed p keys (one_body one f)
-    one_indexed ones.Not keys f = tt
-    one_indexed (ones.Cut narrow) keys f = tt
-    one_indexed (ones.Widen wide) keys f = tt
+    changed_grown : (one : OneOp) (w : ℕ) (f : Flat) (keys : List Key) → IsWidth (one_width one w) → IsSound p keys f w → Grown p keys (changed find one w f keys) 1 (one_width one w)
+    changed_grown ones.Not w f keys small sound = share_grown w (Inverse f) keys small sound.below tt
+    changed_grown (ones.Cut narrow) w f keys small sound = refit_grown (nat_eq narrow w) narrow w f keys refl small sound
+    changed_grown (ones.Widen wide) w f keys small sound = refit_grown (nat_eq wide w) wide w f keys refl small sound
 
     pub lower_grown : (s : Sym) (e : Expr) (keys : List Key) → IsSymSound keys s → IsFit p e → Grown p keys (lower find p s e keys) (expr_cost (arrays_of s.writes) e) (width p e)
     lower_grown s (Const w v) keys b fit = record { longer = same_longer keys; few = omega arith; ordered = λ h. h; sound = record { below = fit; wide = refl } }
@@ -306,8 +310,7 @@ module _ (p : Program) (formed : IsWellFormed p) where
     lower_grown s (One one a) keys b fit =
         let x = lower find p s a keys in
         let gx : Grown p keys x (expr_cost (arrays_of s.writes) a) (width p a) = lower_grown s a keys b fit.0 in
-        then_grown p keys x (share find (width p (One one a)) (one_body one x.flat) x.keys) gx
-        (share_grown (width p (One one a)) (one_body one x.flat) x.keys (fit_small (One one a) fit) (one_below one (length x.keys) x.flat gx.sound.below) (one_indexed one x.keys x.flat))
+        then_grown p keys x (changed find one (width p a) x.flat x.keys) gx (changed_grown one (width p a) x.flat x.keys (fit_small (One one a) fit) gx.sound)
     lower_grown s (Two op a b) keys bs fit =
         let arrays = arrays_of s.writes in
         let x = lower find p s a keys in
@@ -350,12 +353,28 @@ module _ (p : Program) (formed : IsWellFormed p) where
       | inr other ↦ subst (λ (g : Flat). IsSound p keys g (slice_index ws j)) (sym (get_or-set_other fs i j f nothing other)) (all j h)
     ]
 
+    settled_grown : (w : ℕ) (f : Flat) (keys : List Key) → IsWidth w → IsSound p keys f w → Grown p keys (settled find w f keys) 1 w
+    settled_grown w (Fixed v b) keys small sound = record { longer = same_longer keys; few = omega arith; ordered = λ h. h; sound = sound }
+    settled_grown w (OfItem i) keys small sound = share_grown w (Copied (OfItem i)) keys small sound.below tt
+    settled_grown w (OfPin i) keys small sound = share_grown w (Copied (OfPin i)) keys small sound.below tt
+    settled_grown w (OfWire k) keys small sound = record { longer = same_longer keys; few = omega arith; ordered = λ h. h; sound = sound }
+
+    given_once_grown : (w : ℕ) (zero : Bool) (v old : Flat) (keys : List Key) → IsWidth w → IsSound p keys v w → IsSound p keys old w → Grown p keys (given_once find w zero v old keys) 1 w
+    given_once_grown w true v old keys small bv bold = record { longer = same_longer keys; few = omega arith; ordered = λ h. h; sound = bold }
+    given_once_grown w false v old keys small bv bold = settled_grown w v keys small bv
+
+    given_grown : (w : ℕ) (g v old : Flat) (keys : List Key) → IsWidth w → IsBelow p (length keys) g → IsSound p keys v w → IsSound p keys old w → Grown p keys (given find w g v old keys) 1 w
+    given_grown w (Fixed u n) v old keys small bg bv bold = given_once_grown w (nat_eq n 0) v old keys small bv bold
+    given_grown w (OfItem i) v old keys small bg bv bold = share_grown w (Select (OfItem i) v old) keys small (bg, bv.below, bold.below) tt
+    given_grown w (OfPin i) v old keys small bg bv bold = share_grown w (Select (OfPin i) v old) keys small (bg, bv.below, bold.below) tt
+    given_grown w (OfWire k) v old keys small bg bv bold = share_grown w (Select (OfWire k) v old) keys small (bg, bv.below, bold.below) tt
+
     aimed_grown : (s : Sym) (aim : Aim) (w : ℕ) (g v : Flat) (keys : List Key) → IsSymSound keys s → IsWidth w → IsBelow p (length keys) g → IsSound p keys v w → IsAimed p aim w
         → Went keys (aimed find p s aim w g v keys) (aim_cost (arrays_of s.writes) aim)
     aimed_grown s (ToItem i) w g v keys b small bg bv aim =
         let f = slice_index_or s.items i nothing in
-        let c = share find w (Select g v f) keys in
-        let gc : Grown p keys c 1 w = share_grown w (Select g v f) keys small (bg, bv.below, (b.items i aim.0).below) tt in
+        let c = given find w g v f keys in
+        let gc : Grown p keys c 1 w = given_grown w g v f keys small bg bv (subst (IsSound p keys f) aim.1 (b.items i aim.0)) in
         let on = sym_on s gc.longer b in
         record {
           longer = gc.longer;
@@ -371,8 +390,8 @@ module _ (p : Program) (formed : IsWellFormed p) where
         }
     aimed_grown s (ToTemp i) w g v keys b small bg bv aim =
         let f = slice_index_or s.temps i nothing in
-        let c = share find w (Select g v f) keys in
-        let gc : Grown p keys c 1 w = share_grown w (Select g v f) keys small (bg, bv.below, (b.temps i aim.0).below) tt in
+        let c = given find w g v f keys in
+        let gc : Grown p keys c 1 w = given_grown w g v f keys small bg bv (subst (IsSound p keys f) aim.1 (b.temps i aim.0)) in
         let on = sym_on s gc.longer b in
         record {
           longer = gc.longer;

@@ -4,15 +4,18 @@ use Rattle.std.specs.List.{slice_get}
 use Rattle.std.specs.Prelude.{slice_index_or}
 use Rattle.std.proofs.lemmas.List.{append-nil, get_or_append_left}
 use Rattle.std.proofs.lemmas.Option.{slice_get_within, slice_get-get_or, get_or_from_slice_get}
+use Rattle.step_program.specs.declared.expressions.OneOp.{OneOp}
+use Rattle.step_program.specs.declared.expressions.OneOp.TheVariants as ones
 use Rattle.step_program.specs.declared.expressions.TwoOp.TheVariants as ops
 use Rattle.step_program.specs.Programs.{Expr, Const, Now, Before, Pin, Temp, Cell, One, Two, Choose, Aim, ToItem, ToTemp, ToCell, Move, Program}
 use Rattle.step_program.specs.Effects.{array_width, width}
 use Rattle.netlist_wires.specs.declared.keys.Flat.{Flat}
+use Rattle.netlist_wires.specs.declared.keys.Flat.TheVariants.{Fixed, OfItem, OfPin, OfWire}
 use Rattle.netlist_wires.specs.declared.keys.Body.{Body}
-use Rattle.netlist_wires.specs.declared.keys.Body.TheVariants.{Load, Operate, Select}
+use Rattle.netlist_wires.specs.declared.keys.Body.TheVariants.{Copied, Inverse, Load, Operate, Select}
 use Rattle.netlist_wires.specs.declared.keys.Key.{Key}
 use Rattle.netlist_wires.specs.declared.keys.Write.{Write}
-use Rattle.netlist_wires.specs.Wiring.{Made, Find, shared, share, behind, load, Sym, nothing, one_body, lower, Going, aimed, gone, gone_all}
+use Rattle.netlist_wires.specs.Wiring.{Made, Find, shared, share, behind, load, Sym, nothing, refit, changed, lower, settled, given_once, given, Going, aimed, gone, gone_all}
 
 pub record IsLonger (keys now : List Key) : Type 0 where
   pub more : List Key
@@ -57,6 +60,18 @@ module _ (find : Find) where
   load_longer p a (write ∷ ws) x keys =
       then_longer (load_longer p a ws x keys) (behind_longer (array_width p a) (nat_eq write.array a) write x (load find p a ws x keys))
 
+  refit_longer : (same : Bool) (to : ℕ) (f : Flat) (keys : List Key) → IsLonger keys (refit find same to f keys).keys
+  refit_longer true to f keys = same_longer keys
+  refit_longer false to (Fixed w v) keys = same_longer keys
+  refit_longer false to (OfItem i) keys = share_longer to (Copied (OfItem i)) keys
+  refit_longer false to (OfPin i) keys = share_longer to (Copied (OfPin i)) keys
+  refit_longer false to (OfWire k) keys = share_longer to (Copied (OfWire k)) keys
+
+  pub changed_longer : (one : OneOp) (w : ℕ) (f : Flat) (keys : List Key) → IsLonger keys (changed find one w f keys).keys
+  changed_longer ones.Not w f keys = share_longer w (Inverse f) keys
+  changed_longer (ones.Cut narrow) w f keys = refit_longer (nat_eq narrow w) narrow f keys
+  changed_longer (ones.Widen wide) w f keys = refit_longer (nat_eq wide w) wide f keys
+
   pub lower_longer : (p : Program) (s : Sym) (e : Expr) (keys : List Key) → IsLonger keys (lower find p s e keys).keys
   lower_longer p s (Const w v) keys = same_longer keys
   lower_longer p s (Now i) keys = same_longer keys
@@ -66,7 +81,7 @@ module _ (find : Find) where
   lower_longer p s (Cell a index) keys =
       let x = lower find p s index keys in then_longer (lower_longer p s index keys) (load_longer p a s.writes x.flat x.keys)
   lower_longer p s (One one a) keys =
-      let x = lower find p s a keys in then_longer (lower_longer p s a keys) (share_longer (width p (One one a)) (one_body one x.flat) x.keys)
+      let x = lower find p s a keys in then_longer (lower_longer p s a keys) (changed_longer one (width p a) x.flat x.keys)
   lower_longer p s (Two op a b) keys =
       let x = lower find p s a keys in
       let y = lower find p s b x.keys in
@@ -78,9 +93,25 @@ module _ (find : Find) where
       then_longer (lower_longer p s t keys)
       (then_longer (lower_longer p s a c.keys) (then_longer (lower_longer p s b x.keys) (share_longer (width p a) (Select c.flat x.flat y.flat) y.keys)))
 
+  pub settled_longer : (w : ℕ) (f : Flat) (keys : List Key) → IsLonger keys (settled find w f keys).keys
+  settled_longer w (Fixed v b) keys = same_longer keys
+  settled_longer w (OfItem i) keys = share_longer w (Copied (OfItem i)) keys
+  settled_longer w (OfPin i) keys = share_longer w (Copied (OfPin i)) keys
+  settled_longer w (OfWire k) keys = same_longer keys
+
+  given_once_longer : (w : ℕ) (zero : Bool) (v old : Flat) (keys : List Key) → IsLonger keys (given_once find w zero v old keys).keys
+  given_once_longer w true v old keys = same_longer keys
+  given_once_longer w false v old keys = settled_longer w v keys
+
+  pub given_longer : (w : ℕ) (g v old : Flat) (keys : List Key) → IsLonger keys (given find w g v old keys).keys
+  given_longer w (Fixed u n) v old keys = given_once_longer w (nat_eq n 0) v old keys
+  given_longer w (OfItem i) v old keys = share_longer w (Select (OfItem i) v old) keys
+  given_longer w (OfPin i) v old keys = share_longer w (Select (OfPin i) v old) keys
+  given_longer w (OfWire k) v old keys = share_longer w (Select (OfWire k) v old) keys
+
   pub aimed_longer : (p : Program) (s : Sym) (aim : Aim) (w : ℕ) (g v : Flat) (keys : List Key) → IsLonger keys (aimed find p s aim w g v keys).keys
-  aimed_longer p s (ToItem i) w g v keys = share_longer w (Select g v (slice_index_or s.items i nothing)) keys
-  aimed_longer p s (ToTemp i) w g v keys = share_longer w (Select g v (slice_index_or s.temps i nothing)) keys
+  aimed_longer p s (ToItem i) w g v keys = given_longer w g v (slice_index_or s.items i nothing) keys
+  aimed_longer p s (ToTemp i) w g v keys = given_longer w g v (slice_index_or s.temps i nothing) keys
   aimed_longer p s (ToCell a index) w g v keys = lower_longer p s index keys
 
   pub gone_longer : (p : Program) (go : Going) (move : Move) → IsLonger go.keys (gone find p go move).keys

@@ -8,26 +8,29 @@ use Rattle.std.proofs.lemmas.List.Elements.{All-head, All-tail}
 use Rattle.std.proofs.Math.ListN.{get_or-map}
 use Rattle.std.proofs.Math.Seq.{get_or-append_seam}
 use Rattle.std.proofs.Math.Nat.{mod-eq_of_lt}
+use Rattle.lisa_words.specs.Words.{word_not}
 use Rattle.lisa_engine.specs.State.{State}
 use Rattle.lisa_engine.specs.Touches.{set_cell}
 use Rattle.lisa_engine.specs.declared.parts.Item.{Item}
 use Rattle.lisa_engine.specs.declared.parts.ArrayItem.{ArrayItem}
 use Rattle.verilog_text.specs.Values.{Env, truth, assigned}
+use Rattle.step_program.specs.declared.expressions.OneOp.{OneOp}
+use Rattle.step_program.specs.declared.expressions.OneOp.TheVariants as ones
 use Rattle.step_program.specs.declared.expressions.TwoOp.TheVariants as ops
 use Rattle.step_program.specs.Programs.{Expr, Const, Now, Before, Pin, Temp, Cell, One, Two, Choose, Aim, ToItem, ToTemp, ToCell, Move, Program}
-use Rattle.step_program.specs.Effects.{item_width, pin_width, array_width, array_depth, width, Moment, one_value, two_value, chosen, value, taken, effect, begun}
+use Rattle.step_program.specs.Effects.{item_width, pin_width, array_width, array_depth, one_width, width, Moment, one_value, two_value, chosen, value, taken, effect, begun}
 use Rattle.step_program.specs.WellFormed.{FitsTwo, IsFit, IsAimed, IsMove}
 use Rattle.step_program.proofs.Fits.{IsWithin, AreWithin, widths, array_widths, array_depths, cells_set, IsNow, value_below, effect_now, chosen_both, read_map}
 use Rattle.netlist_wires.specs.declared.keys.Flat.{Flat}
-use Rattle.netlist_wires.specs.declared.keys.Flat.TheVariants.{Fixed, OfWire}
+use Rattle.netlist_wires.specs.declared.keys.Flat.TheVariants.{Fixed, OfItem, OfPin, OfWire}
 use Rattle.netlist_wires.specs.declared.keys.Body.{Body}
-use Rattle.netlist_wires.specs.declared.keys.Body.TheVariants.{Load, Operate, Select}
+use Rattle.netlist_wires.specs.declared.keys.Body.TheVariants.{Copied, Inverse, Load, Operate, Select}
 use Rattle.netlist_wires.specs.declared.keys.Key.{Key}
 use Rattle.netlist_wires.specs.declared.keys.Write.{Write}
 use Rattle.netlist_wires.specs.Tables.{IsFind}
-use Rattle.netlist_wires.specs.Wiring.{item_name, pin_name, array_name, wire_name, body_tree, Made, Find, shared, share, behind, load, Sym, nothing, one_body, lower, Going, aimed, gone, gone_all, own_items, begun_going}
-use Rattle.netlist_wires.proofs.Longer.{IsLonger, longer_get, share_longer, load_longer, lower_longer, aimed_longer, all_longer}
-use Rattle.netlist_wires.proofs.Operands.{means, wide, one_done, two_done, equal_done, load_done, select_done, picked}
+use Rattle.netlist_wires.specs.Wiring.{item_name, pin_name, array_name, wire_name, body_tree, Made, Find, shared, share, behind, load, Sym, nothing, refit, changed, lower, settled, given_once, given, Going, aimed, gone, gone_all, own_items, begun_going}
+use Rattle.netlist_wires.proofs.Longer.{IsLonger, longer_get, share_longer, load_longer, changed_longer, lower_longer, aimed_longer, all_longer}
+use Rattle.netlist_wires.proofs.Operands.{means, wide, copied, inverted, two_done, equal_done, load_done, select_done, picked}
 
 -- what an edge's meaning of names tells of the program's items, pins and arrays
 pub record Knows (p : Program) (old : State) (pins : List ℕ) (env : Env) : Type 0 where
@@ -182,6 +185,27 @@ module _ (p : Program) (old : State) (pins : List ℕ) (items_fit : IsWithin (wi
   at_wide : (fs : List Flat) (i : ℕ) → slice_index (map (wide p env) fs) i ≡ wide p env (slice_index_or fs i nothing)
   at_wide fs i = get_or-map (wide p env) fs i nothing
 
+  cut_good : (to : ℕ) (f : Flat) (x : ℕ) (keys : List Key) → means p env f ≡ x → Solves p env (share find to (Copied f) keys).keys → Good (share find to (Copied f) keys) (x % 2 ^ to) to
+  cut_good to f x keys is solves =
+      let r = shared_is to (Copied f) keys solves in
+      (r.0 ∙ copied p env to f ∙ ap (λ (v : ℕ). v % 2 ^ to) is, r.1)
+
+  refit_good : (same : Bool) (to w : ℕ) (f : Flat) (x : ℕ) (keys : List Key) → nat_eq to w ≡ same → means p env f ≡ x → wide p env f ≡ w → x < 2 ^ w → Solves p env (refit find same to f keys).keys
+      → Good (refit find same to f keys) (x % 2 ^ to) to
+  refit_good true to w f x keys e is at low solves =
+      let kept : to ≡ w = eqb-true to w e in
+      (is ∙ sym (mod-eq_of_lt (subst (λ (n : ℕ). x < 2 ^ n) (sym kept) low)), at ∙ sym kept)
+  refit_good false to w (Fixed v b) x keys e is at low solves = (ap (λ (n : ℕ). n % 2 ^ to) is, refl)
+  refit_good false to w (OfItem i) x keys e is at low solves = cut_good to (OfItem i) x keys is solves
+  refit_good false to w (OfPin i) x keys e is at low solves = cut_good to (OfPin i) x keys is solves
+  refit_good false to w (OfWire k) x keys e is at low solves = cut_good to (OfWire k) x keys is solves
+
+  changed_good : (one : OneOp) (w : ℕ) (f : Flat) (x : ℕ) (keys : List Key) → means p env f ≡ x → wide p env f ≡ w → x < 2 ^ w → Solves p env (changed find one w f keys).keys
+      → Good (changed find one w f keys) (one_value one w x) (one_width one w)
+  changed_good ones.Not w f x keys is at low solves = let r = shared_is w (Inverse f) keys solves in (r.0 ∙ inverted p env w f at ∙ ap (word_not w) is, r.1)
+  changed_good (ones.Cut narrow) w f x keys is at low solves = refit_good (nat_eq narrow w) narrow w f x keys refl is at low solves
+  changed_good (ones.Widen wide) w f x keys is at low solves = refit_good (nat_eq wide w) wide w f x keys refl is at low solves
+
   lower_good : (s : Sym) (now : Moment) (e : Expr) (keys : List Key) → Stands s now → IsNow p now → IsFit p e → Solves p env (lower find p s e keys).keys
       → Good (lower find p s e keys) (value p old.items pins now e) (width p e)
   lower_good s now (Const w v) keys st is fit solves = (refl, refl)
@@ -202,9 +226,8 @@ module _ (p : Program) (old : State) (pins : List ℕ) (items_fit : IsWithin (wi
       (r.0 ∙ ap₂ (λ (cells : List (List ℕ)) (j : ℕ). slice_index (slice_index_or cells a []) j) st.cells gx.0, r.1)
   lower_good s now (One one a) keys st is fit solves =
       let x = lower find p s a keys in
-      let gx : Good x (value p old.items pins now a) (width p a) = lower_good s now a keys st is fit.0 (down (share_longer find (width p (One one a)) (one_body one x.flat) x.keys) solves) in
-      let r = shared_is (width p (One one a)) (one_body one x.flat) x.keys solves in
-      (r.0 ∙ one_done p env one (width p a) x.flat gx.1 ∙ ap (one_value one (width p a)) gx.0, r.1)
+      let gx : Good x (value p old.items pins now a) (width p a) = lower_good s now a keys st is fit.0 (down (changed_longer find one (width p a) x.flat x.keys) solves) in
+      changed_good one (width p a) x.flat (value p old.items pins now a) x.keys gx.0 gx.1 (value_below p old.items pins items_fit pins_fit now a is fit.0) solves
   lower_good s now (Two op a b) keys st is fit solves =
       let x = lower find p s a keys in
       let y = lower find p s b x.keys in
@@ -241,21 +264,51 @@ module _ (p : Program) (old : State) (pins : List ℕ) (items_fit : IsWithin (wi
   same_set : (f : Flat → ℕ) (fs : List Flat) (i : ℕ) (new : Flat) (xs : List ℕ) (x : ℕ) → map f fs ≡ xs → f new ≡ x → map f (slice_set fs i new) ≡ slice_set xs i x
   same_set f fs i new xs x e h = map-set f fs i new ∙ ap₂ (λ (ys : List ℕ) (y : ℕ). slice_set ys i y) e h
 
+  copied_good : (w : ℕ) (f : Flat) (x : ℕ) (keys : List Key) → means p env f ≡ x → x < 2 ^ w → Solves p env (share find w (Copied f) keys).keys → Good (share find w (Copied f) keys) x w
+  copied_good w f x keys is low solves =
+      let r = shared_is w (Copied f) keys solves in
+      (r.0 ∙ copied p env w f ∙ ap (λ (v : ℕ). v % 2 ^ w) is ∙ mod-eq_of_lt low, r.1)
+
+  settled_good : (w : ℕ) (f : Flat) (x : ℕ) (keys : List Key) → means p env f ≡ x → wide p env f ≡ w → x < 2 ^ w → Solves p env (settled find w f keys).keys → Good (settled find w f keys) x w
+  settled_good w (Fixed v b) x keys is at low solves = (is, at)
+  settled_good w (OfItem i) x keys is at low solves = copied_good w (OfItem i) x keys is low solves
+  settled_good w (OfPin i) x keys is at low solves = copied_good w (OfPin i) x keys is low solves
+  settled_good w (OfWire k) x keys is at low solves = (is, at)
+
+  given_once_good : (w : ℕ) (zero : Bool) (v old : Flat) (x y : ℕ) (keys : List Key) → means p env v ≡ x → wide p env v ≡ w → means p env old ≡ y → wide p env old ≡ w → x < 2 ^ w
+      → Solves p env (given_once find w zero v old keys).keys → Good (given_once find w zero v old keys) (cond zero y x) w
+  given_once_good w true v old x y keys is at was had low solves = (was, had)
+  given_once_good w false v old x y keys is at was had low solves = settled_good w v x keys is at low solves
+
+  chosen_good : (w : ℕ) (g v old : Flat) (x y : ℕ) (keys : List Key) → means p env v ≡ x → means p env old ≡ y → x < 2 ^ w → y < 2 ^ w
+      → Solves p env (share find w (Select g v old) keys).keys → Good (share find w (Select g v old) keys) (chosen (means p env g) x y) w
+  chosen_good w g v old x y keys is was low less solves =
+      let r = shared_is w (Select g v old) keys solves in
+      let low_v : means p env v < 2 ^ w = subst (λ (n : ℕ). n < 2 ^ w) (sym is) low in
+      let low_old : means p env old < 2 ^ w = subst (λ (n : ℕ). n < 2 ^ w) (sym was) less in
+      (r.0 ∙ select_done p env w g v old low_v low_old ∙ ap₂ (λ (x y : ℕ). chosen (means p env g) x y) is was, r.1)
+
+  given_good : (w : ℕ) (g v old : Flat) (x y : ℕ) (keys : List Key) → means p env v ≡ x → wide p env v ≡ w → means p env old ≡ y → wide p env old ≡ w → x < 2 ^ w → y < 2 ^ w
+      → Solves p env (given find w g v old keys).keys → Good (given find w g v old keys) (chosen (means p env g) x y) w
+  given_good w (Fixed u n) v old x y keys is at was had low less solves = given_once_good w (nat_eq n 0) v old x y keys is at was had low solves
+  given_good w (OfItem i) v old x y keys is at was had low less solves = chosen_good w (OfItem i) v old x y keys is was low less solves
+  given_good w (OfPin i) v old x y keys is at was had low less solves = chosen_good w (OfPin i) v old x y keys is was low less solves
+  given_good w (OfWire k) v old x y keys is at was had low less solves = chosen_good w (OfWire k) v old x y keys is was low less solves
+
   aimed_good : (b : Bool) (s : Sym) (now : Moment) (aim : Aim) (w : ℕ) (g v : Flat) (x : ℕ) (keys : List Key) → Stands s now → IsNow p now → IsAimed p aim w → nat_eq (means p env g) 0 ≡ b
-      → means p env v ≡ x → x < 2 ^ w → Solves p env (aimed find p s aim w g v keys).keys → Stands (aimed find p s aim w g v keys).sym (cond b now (taken p old.items pins now aim x))
-  aimed_good b s now (ToItem i) w g v x keys st is fit test gv low solves =
+      → means p env v ≡ x → wide p env v ≡ w → x < 2 ^ w → Solves p env (aimed find p s aim w g v keys).keys → Stands (aimed find p s aim w g v keys).sym (cond b now (taken p old.items pins now aim x))
+  aimed_good b s now (ToItem i) w g v x keys st is fit test gv at low solves =
       let f = slice_index_or s.items i nothing in
-      let c = share find w (Select g v f) keys in
-      let r = shared_is w (Select g v f) keys solves in
+      let c = given find w g v f keys in
       let is_f : means p env f ≡ slice_index now.items i = sym (at_flat s.items i) ∙ ap (λ (xs : List ℕ). slice_index xs i) st.items in
-      let low_v : means p env v < 2 ^ w = subst (λ (x : ℕ). x < 2 ^ w) (sym gv) low in
-      let low_f : means p env f < 2 ^ w = subst (λ (x : ℕ). x < 2 ^ w) (sym is_f) (subst (λ (w : ℕ). slice_index now.items i < 2 ^ w) fit.1 (is.items.each i)) in
-      let is_c = r.0 ∙ select_done p env w g v f low_v low_f in
+      let at_f : wide p env f ≡ w = sym (at_wide s.items i) ∙ ap (λ (xs : List ℕ). slice_index xs i) st.wide_items ∙ fit.1 in
+      let low_f : slice_index now.items i < 2 ^ w = subst (λ (w : ℕ). slice_index now.items i < 2 ^ w) fit.1 (is.items.each i) in
+      let r : Good c (chosen (means p env g) x (slice_index now.items i)) w = given_good w g v f x (slice_index now.items i) keys gv at is_f at_f low low_f solves in
       let wides : map (wide p env) (slice_set s.items i c.flat) ≡ widths p.items =
       same_set (wide p env) s.items i c.flat (widths p.items) (item_width p i) st.wide_items (r.1 ∙ sym fit.1) ∙ set-get_or (widths p.items) i 0 in
       elim b as (λ (b : Bool). nat_eq (means p env g) 0 ≡ b → Stands (record { items = slice_set s.items i c.flat; temps = s.temps; writes = s.writes }) (cond b now (taken p old.items pins now (ToItem i) x))) [
         | true ↦ λ test. record {
-          items = same_set (means p env) s.items i c.flat now.items (slice_index now.items i) st.items (is_c ∙ ap (λ (b : Bool). cond b (means p env f) (means p env v)) test ∙ is_f) ∙ set-get_or now.items i 0;
+          items = same_set (means p env) s.items i c.flat now.items (slice_index now.items i) st.items (r.0 ∙ ap (λ (b : Bool). cond b (slice_index now.items i) x) test) ∙ set-get_or now.items i 0;
           temps = st.temps;
           wide_items = wides;
           wide_temps = st.wide_temps;
@@ -263,7 +316,7 @@ module _ (p : Program) (old : State) (pins : List ℕ) (items_fit : IsWithin (wi
           writes = st.writes;
         }
         | false ↦ λ test. record {
-          items = same_set (means p env) s.items i c.flat now.items x st.items (is_c ∙ ap (λ (b : Bool). cond b (means p env f) (means p env v)) test ∙ gv);
+          items = same_set (means p env) s.items i c.flat now.items x st.items (r.0 ∙ ap (λ (b : Bool). cond b (slice_index now.items i) x) test);
           temps = st.temps;
           wide_items = wides;
           wide_temps = st.wide_temps;
@@ -271,20 +324,19 @@ module _ (p : Program) (old : State) (pins : List ℕ) (items_fit : IsWithin (wi
           writes = st.writes;
         }
       ] test
-  aimed_good b s now (ToTemp i) w g v x keys st is fit test gv low solves =
+  aimed_good b s now (ToTemp i) w g v x keys st is fit test gv at low solves =
       let f = slice_index_or s.temps i nothing in
-      let c = share find w (Select g v f) keys in
-      let r = shared_is w (Select g v f) keys solves in
+      let c = given find w g v f keys in
       let is_f : means p env f ≡ slice_index now.temps i = sym (at_flat s.temps i) ∙ ap (λ (xs : List ℕ). slice_index xs i) st.temps in
-      let low_v : means p env v < 2 ^ w = subst (λ (x : ℕ). x < 2 ^ w) (sym gv) low in
-      let low_f : means p env f < 2 ^ w = subst (λ (x : ℕ). x < 2 ^ w) (sym is_f) (subst (λ (w : ℕ). slice_index now.temps i < 2 ^ w) fit.1 (is.temps.each i)) in
-      let is_c = r.0 ∙ select_done p env w g v f low_v low_f in
+      let at_f : wide p env f ≡ w = sym (at_wide s.temps i) ∙ ap (λ (xs : List ℕ). slice_index xs i) st.wide_temps ∙ fit.1 in
+      let low_f : slice_index now.temps i < 2 ^ w = subst (λ (w : ℕ). slice_index now.temps i < 2 ^ w) fit.1 (is.temps.each i) in
+      let r : Good c (chosen (means p env g) x (slice_index now.temps i)) w = given_good w g v f x (slice_index now.temps i) keys gv at is_f at_f low low_f solves in
       let wides : map (wide p env) (slice_set s.temps i c.flat) ≡ p.temps =
       same_set (wide p env) s.temps i c.flat p.temps (slice_index p.temps i) st.wide_temps (r.1 ∙ sym fit.1) ∙ set-get_or p.temps i 0 in
       elim b as (λ (b : Bool). nat_eq (means p env g) 0 ≡ b → Stands (record { items = s.items; temps = slice_set s.temps i c.flat; writes = s.writes }) (cond b now (taken p old.items pins now (ToTemp i) x))) [
         | true ↦ λ test. record {
           items = st.items;
-          temps = same_set (means p env) s.temps i c.flat now.temps (slice_index now.temps i) st.temps (is_c ∙ ap (λ (b : Bool). cond b (means p env f) (means p env v)) test ∙ is_f) ∙ set-get_or now.temps i 0;
+          temps = same_set (means p env) s.temps i c.flat now.temps (slice_index now.temps i) st.temps (r.0 ∙ ap (λ (b : Bool). cond b (slice_index now.temps i) x) test) ∙ set-get_or now.temps i 0;
           wide_items = st.wide_items;
           wide_temps = wides;
           cells = st.cells;
@@ -292,14 +344,14 @@ module _ (p : Program) (old : State) (pins : List ℕ) (items_fit : IsWithin (wi
         }
         | false ↦ λ test. record {
           items = st.items;
-          temps = same_set (means p env) s.temps i c.flat now.temps x st.temps (is_c ∙ ap (λ (b : Bool). cond b (means p env f) (means p env v)) test ∙ gv);
+          temps = same_set (means p env) s.temps i c.flat now.temps x st.temps (r.0 ∙ ap (λ (b : Bool). cond b (slice_index now.temps i) x) test);
           wide_items = st.wide_items;
           wide_temps = wides;
           cells = st.cells;
           writes = st.writes;
         }
       ] test
-  aimed_good b s now (ToCell a index) w g v x keys st is fit test gv low solves =
+  aimed_good b s now (ToCell a index) w g v x keys st is fit test gv at low solves =
       let y = lower find p s index keys in
       let gy = lower_good s now index keys st is fit.0.1 solves in
       let at = value p old.items pins now index in
@@ -326,7 +378,7 @@ module _ (p : Program) (old : State) (pins : List ℕ) (items_fit : IsWithin (wi
       let gv = lower_good go.sym now move.value g.keys st is fit.value at_v in
       let gg = lower_good go.sym now move.guard go.keys st is fit.guard (down (lower_longer find p go.sym move.value g.keys) at_v) in
       aimed_good (nat_eq (value p old.items pins now move.guard) 0) go.sym now move.aim (width p move.value) g.flat v.flat (value p old.items pins now move.value) v.keys st is fit.aim
-      (ap (λ (x : ℕ). nat_eq x 0) gg.0) gv.0 (value_below p old.items pins items_fit pins_fit now move.value is fit.value) solves
+      (ap (λ (x : ℕ). nat_eq x 0) gg.0) gv.0 gv.1 (value_below p old.items pins items_fit pins_fit now move.value is fit.value) solves
 
   pub record Ends (s : Sym) (now : Moment) : Type 0 where
     pub stands : Stands s now

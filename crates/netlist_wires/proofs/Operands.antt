@@ -8,18 +8,17 @@ use Rattle.lisa_words.specs.Words.{word_not}
 use Rattle.operators.specs.declared.binary.Operator.TheVariants as operators
 use Rattle.verilog_text.specs.Values.{Widths, Env, truth, is_true, operate, left_length, right_length, v_width, v_value, assigned, self_value}
 use Rattle.verilog_text.specs.Values as values
-use Rattle.step_program.specs.declared.expressions.OneOp.{OneOp}
-use Rattle.step_program.specs.declared.expressions.OneOp.TheVariants.{Not, Cut, Widen}
+use Rattle.step_program.specs.declared.expressions.OneOp.TheVariants.{Not}
 use Rattle.step_program.specs.declared.expressions.TwoOp.{TwoOp}
 use Rattle.step_program.specs.declared.expressions.TwoOp.TheVariants as ops
 use Rattle.step_program.specs.Programs.{Program}
-use Rattle.step_program.specs.Effects.{one_width, two_width, one_value, two_value, chosen}
+use Rattle.step_program.specs.Effects.{two_width, two_value, chosen}
 use Rattle.step_program.specs.WellFormed.{FitsTwo}
 use Rattle.step_program.proofs.Fits.{one_below, two_below, chosen_both}
 use Rattle.netlist_wires.specs.declared.keys.Flat.{Flat}
 use Rattle.netlist_wires.specs.declared.keys.Flat.TheVariants.{Fixed, OfItem, OfPin, OfWire}
 use Rattle.netlist_wires.specs.declared.keys.Body.TheVariants.{Inverse, Load, Operate, Select}
-use Rattle.netlist_wires.specs.Wiring.{operator_of, named, body_tree, array_name, one_body}
+use Rattle.netlist_wires.specs.Wiring.{operator_of, named, body_tree, array_name}
 
 pub max_self : (w : ℕ) → max w w ≡ w
 max_self w = max-eq_left (omega arith)
@@ -62,11 +61,6 @@ module _ (p : Program) (env : Env) where
   inverted w f e =
       ap₂ (λ (l x : ℕ). word_not l x % 2 ^ w) (ap (max w) e ∙ max_self w) (at_any f (max w (wide f)))
       ∙ mod-eq_of_lt (one_below Not w (means f))
-
-  pub one_done : (one : OneOp) (w : ℕ) (f : Flat) → wide f ≡ w → assigned env (one_width one w) (body_tree p (one_body one f)) ≡ one_value one w (means f)
-  one_done Not w f e = inverted w f e
-  one_done (Cut narrow) w f e = copied narrow f
-  one_done (Widen wider) w f e = copied wider f
 
   pub two_done : (op : TwoOp) (w : ℕ) (f g : Flat) → wide f ≡ w → FitsTwo op w (wide g) → means f < 2 ^ w → means g < 2 ^ wide g
       → assigned env (two_width op w) (body_tree p (Operate op f g)) ≡ two_value op w (means f) (means g)

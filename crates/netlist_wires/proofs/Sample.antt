@@ -30,9 +30,7 @@ wires = record { width = 8; body = Operate ops.Add (OfItem 0) (Fixed 8 1) }
     ∷ record { width = 1; body = Operate ops.Equal (Fixed 1 0) (Fixed 1 0) }
     ∷ record { width = 8; body = Select (Fixed 1 1) (OfWire 0) (OfWire 1) }
     ∷ record { width = 8; body = Select (OfWire 2) (OfWire 3) (OfWire 1) }
-    ∷ record { width = 8; body = Select (Fixed 1 1) (OfWire 4) (Fixed 8 0) }
-    ∷ record { width = 8; body = Operate ops.Add (OfWire 5) (OfWire 5) }
-    ∷ record { width = 8; body = Select (Fixed 1 1) (OfWire 6) (OfItem 0) } ∷ []
+    ∷ record { width = 8; body = Operate ops.Add (OfWire 4) (OfWire 4) } ∷ []
 
 sample_wires : (ended nowhere sample).keys ≡ wires
 unfolding share

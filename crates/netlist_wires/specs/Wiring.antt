@@ -1,6 +1,6 @@
 -- From a step program to a module: each step is taken on flat operands, and what is computed goes into wires of one operator each.
 -- Two equal keys are one wire, where the table finds the first.
-use Rattle.std.specs.Prelude.{ℕ, suc, List, [], ◌∷◌, ◌++◌, map, length, codes, nat_eq, slice_index_or, slice_set, Bool, true, false, Option, Some, None}
+use Rattle.std.specs.Prelude.{ℕ, suc, ◌%◌, ◌^◌, List, [], ◌∷◌, ◌++◌, map, length, codes, nat_eq, slice_index_or, slice_set, Bool, true, false, Option, Some, None}
 use Rattle.std.specs.Fmt.{decimal}
 use Rattle.lisa_engine.specs.declared.parts.Item.{Item}
 use Rattle.lisa_engine.specs.declared.parts.ArrayItem.{ArrayItem}
@@ -105,10 +105,19 @@ pub record Sym : Type 0 where
 abbrev pub nothing : Flat
 nothing = Fixed 0 0
 
-abbrev pub one_body : OneOp → Flat → Body
-one_body Not f = Inverse f
-one_body (Cut narrow) f = Copied f
-one_body (Widen wide) f = Copied f
+-- an operand at another width, or at the same: one that keeps its width is itself, and a number is cut or extended at once
+abbrev pub refit : Find → (same : Bool) → (to : ℕ) → Flat → List Key → Made
+refit find true to f keys = record { flat = f; keys = keys }
+refit find false to (Fixed w v) keys = record { flat = Fixed to (v % 2 ^ to); keys = keys }
+refit find false to (OfItem item) keys = share find to (Copied (OfItem item)) keys
+refit find false to (OfPin pin) keys = share find to (Copied (OfPin pin)) keys
+refit find false to (OfWire wire) keys = share find to (Copied (OfWire wire)) keys
+
+-- what an operator makes of an operand of a width
+abbrev pub changed : Find → OneOp → (w : ℕ) → Flat → List Key → Made
+changed find Not w f keys = share find w (Inverse f) keys
+changed find (Cut narrow) w f keys = refit find (nat_eq narrow w) narrow f keys
+changed find (Widen wide) w f keys = refit find (nat_eq wide w) wide f keys
 
 -- the operand that an expression is
 abbrev pub lower : Find → Program → Sym → Expr → List Key → Made
@@ -120,7 +129,7 @@ lower find p s (Temp temp) keys = record { flat = slice_index_or s.temps temp no
 lower find p s (Cell array index) keys =
     let x = lower find p s index keys in load find p array s.writes x.flat x.keys
 lower find p s (One one a) keys =
-    let x = lower find p s a keys in share find (width p (One one a)) (one_body one x.flat) x.keys
+    let x = lower find p s a keys in changed find one (width p a) x.flat x.keys
 lower find p s (Two op a b) keys =
     let x = lower find p s a keys in
     let y = lower find p s b x.keys in
@@ -133,6 +142,25 @@ lower find p s (Choose test this other) keys =
 
 -- ---- steps
 
+-- an item or a temp holds a number or a wire, and no name that stands for something else
+abbrev pub settled : Find → ℕ → Flat → List Key → Made
+settled find w (Fixed v b) keys = record { flat = Fixed v b; keys = keys }
+settled find w (OfItem item) keys = share find w (Copied (OfItem item)) keys
+settled find w (OfPin pin) keys = share find w (Copied (OfPin pin)) keys
+settled find w (OfWire wire) keys = record { flat = OfWire wire; keys = keys }
+
+-- what a target holds under a guard that is a number, which is 0 or isn't
+abbrev pub given_once : Find → ℕ → (zero : Bool) → (value old : Flat) → List Key → Made
+given_once find w true value old keys = record { flat = old; keys = keys }
+given_once find w false value old keys = settled find w value keys
+
+-- what a target of a width holds once it is given a value where the guard isn't 0
+abbrev pub given : Find → ℕ → (guard value old : Flat) → List Key → Made
+given find w (Fixed v g) value old keys = given_once find w (nat_eq g 0) value old keys
+given find w (OfItem item) value old keys = share find w (Select (OfItem item) value old) keys
+given find w (OfPin pin) value old keys = share find w (Select (OfPin pin) value old) keys
+given find w (OfWire wire) value old keys = share find w (Select (OfWire wire) value old) keys
+
 pub record Going : Type 0 where
   pub sym : Sym
   pub keys : List Key
@@ -140,10 +168,10 @@ pub record Going : Type 0 where
 -- a target takes a value of a width where the guard isn't 0
 abbrev pub aimed : Find → Program → Sym → Aim → (w : ℕ) → (guard value : Flat) → List Key → Going
 aimed find p s (ToItem item) w g v keys =
-    let c = share find w (Select g v (slice_index_or s.items item nothing)) keys in
+    let c = given find w g v (slice_index_or s.items item nothing) keys in
     record { sym = record { items = slice_set s.items item c.flat; temps = s.temps; writes = s.writes }; keys = c.keys }
 aimed find p s (ToTemp temp) w g v keys =
-    let c = share find w (Select g v (slice_index_or s.temps temp nothing)) keys in
+    let c = given find w g v (slice_index_or s.temps temp nothing) keys in
     record { sym = record { items = s.items; temps = slice_set s.temps temp c.flat; writes = s.writes }; keys = c.keys }
 aimed find p s (ToCell array index) w g v keys =
     let x = lower find p s index keys in

@@ -10,7 +10,7 @@ use Rattle.netlist_build.specs.Symbolic.{first}
 use Rattle.netlist_build.proofs.Finds.{is_find}
 use Rattle.netlist_build.proofs.EqualKeys.{key_same}
 use Rattle.verilog_text.specs.Clocked.{nets}
-use Rattle.verilog_text.specs.Printing.{module_text, module_size}
+use Rattle.verilog_text.specs.Printing.{module_text}
 use Rattle.verilog_text.specs.Faults.{VAccepts}
 use Rattle.netlist_wires.specs.Costs.{wires_most}
 use Rattle.netlist_rules.specs.Sizes.{module_most}
@@ -40,7 +40,7 @@ pub returns-clause-size : goal.returns-clause-size
 returns-clause-size c =
     let p = program_tree c.args.program.now in
     let find = first impl.eq-value.it in
-    along (λ m. module_size m ≤ module_most p) _ (built find p) c.assemble.result c.assemble.ensures.built c.assemble.ensures.few (λ few. is_small find (is_find impl.eq-value.it key_same) p c.requires.formed few)
+    along (λ m. length (module_text m) ≤ module_most p) _ (built find p) c.assemble.result c.assemble.ensures.built c.assemble.ensures.few (λ few. is_small find (is_find impl.eq-value.it key_same) p c.requires.formed few)
 
 pub returns-clause-wires : goal.returns-clause-wires
 returns-clause-wires c =

@@ -1,0 +1,43 @@
+-- How long the text of some tokens is, each with the white space behind it.
+use Rattle.std.proofs.Common.{◌≡◌, ℕ, suc, ◌+◌, ◌≤◌, ◌^◌, ◌<◌, List, [], ◌∷◌, ◌++◌, length, arith}
+use Rattle.std.specs.Fmt.{decimal}
+use Rattle.std.proofs.lemmas.Fmt.{length-decimal-le}
+use Rattle.std.proofs.lemmas.List.{length-append}
+use Rattle.verilog_text.specs.Tokens.{VTok, VToks, Named, Reserved, Sized, Plain, Mark}
+use Rattle.verilog_text.specs.Lexing.{vword_text}
+use Rattle.verilog_text.specs.Printing.{vsign_text, token_text, space_behind, piece_text, tokens_text}
+use Rattle.verilog_text.proofs.TokenContents.{IsWritten, AreWritten}
+use Rattle.verilog_text.proofs.WrittenTexts.{small_power}
+
+-- a number with its size has at most 64 bits, and each other token is exactly as long
+abbrev pub tok_size : VTok → ℕ
+tok_size (Named name) = 2 + length name
+tok_size (Reserved keyword) = suc (length (vword_text keyword))
+tok_size (Sized width value) = 25
+tok_size (Plain value digits) = suc digits
+tok_size (Mark sign) = suc (length (vsign_text sign))
+
+abbrev pub toks_size : VToks → ℕ
+toks_size [] = 0
+toks_size (t ∷ ts) = tok_size t + toks_size ts
+
+pub toks_size-append : (xs ys : VToks) → toks_size (xs ++ ys) ≡ toks_size xs + toks_size ys
+toks_size-append [] ys = omega arith
+toks_size-append (t ∷ xs) ys = omega (arith, toks_size-append xs ys)
+
+text_short : (t : VTok) → IsWritten t → suc (length (token_text t)) ≤ tok_size t
+text_short (Named name) h = omega arith
+text_short (Reserved keyword) h = omega arith
+text_short (Sized width value) h =
+    omega (
+      arith,
+      length-append (decimal width) (39 ∷ 100 ∷ decimal value),
+      length-decimal-le 2 width (omega arith) (omega (arith, h.1)) (omega (arith, h.1)),
+      length-decimal-le 20 value (omega arith) (omega (arith, small_power width value h.1 h.2)) (small_power width value h.1 h.2),
+    )
+text_short (Plain value digits) h = omega (arith, h.1)
+text_short (Mark sign) h = omega arith
+
+pub texts_short : (ts : VToks) → AreWritten ts → length (tokens_text ts) ≤ toks_size ts
+texts_short [] h = omega arith
+texts_short (t ∷ ts) h = omega (arith, text_short t h.0, texts_short ts h.1, length-append (piece_text t) (tokens_text ts), length-append (token_text t) (space_behind t ∷ []))
