@@ -1,3 +1,4 @@
 pub mod Lines
 pub mod Mapped
 pub mod Spelled
+pub mod Counted
