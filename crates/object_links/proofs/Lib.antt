@@ -1,0 +1,4 @@
+pub mod Steps
+pub mod ByLines
+pub mod Exports
+pub mod NamesUsed

@@ -1,0 +1,13 @@
+//! What is wrong with a list of objects.
+#![tactic(auto)]
+
+mod globals;
+mod names;
+mod sections;
+mod undefined;
+mod uses;
+mod widths;
+
+pub use globals::{all_exported, double_export};
+pub use sections::first_unknown;
+pub use uses::first_undefined;
