@@ -1,0 +1,7 @@
+pub mod Words
+pub mod Nodes
+pub mod Running
+pub mod Slots
+pub mod Stored
+pub mod Listing
+pub mod Shaped

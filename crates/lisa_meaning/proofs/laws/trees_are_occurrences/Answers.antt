@@ -1,0 +1,7 @@
+use Rattle.description_promises.proofs.Sound.{sound}
+use Rattle.description_promises.proofs.Forward.{main_is}
+use Rattle.lisa_meaning.proofs.Nodes.{listed, no_stage}
+use Rattle.lisa_meaning.proofs.laws.trees_are_occurrences.Goals as goal
+
+pub returns : goal.returns
+returns c d accepted = let m = main_is d (sound d accepted).main in listed d m.number m.named (no_stage d m.number m.operation m.is m.no_stage)

@@ -1,0 +1,9 @@
+pub mod Standings
+pub mod Scenes
+pub mod Moments
+pub mod Values
+pub mod Effects
+pub mod Trees
+pub mod Cores
+pub mod States
+pub mod Laws

@@ -1,0 +1,50 @@
+//! Laws on the meaning of descriptions. Each is the contract of a function that does nothing.
+
+ghost use Rattle.std.specs.Prelude.{◌≡◌, ◌≢◌, ℕ, List, AllPairs, Option, None};
+ghost use Rattle.lisa_tree.specs.Descriptions.{DescriptionTree};
+ghost use Rattle.lisa_engine.specs.Memory.{Memory};
+ghost use Rattle.lisa_engine.specs.Images.{IsImage, missing_memory};
+ghost use Rattle.lisa_engine.specs.Shape.{IsShaped};
+ghost use Rattle.lisa_machine.specs.Verdicts.{IsAccepted};
+ghost use Rattle.machine_parts.specs.Parts.{arrays_of, registers_of};
+ghost use Rattle.machine_parts.specs.Laws.{HaveWidths};
+ghost use Rattle.instruction_forms.specs.Widths.{HasWidth};
+ghost use Rattle.description_sizes.specs.Sizes.{items};
+ghost use Rattle.lisa_coding.specs.declared.coding.Coding.{Coding};
+ghost use Rattle.lisa_coding.specs.Parts.{IsCodingOf, IsDecodedAs};
+ghost use Rattle.pipeline_time.specs.Laws.{
+  UnchosenDoNothing,
+  SameLevelRunsAtOnce,
+  OtherLevelIsRecorded,
+  OneBranchRuns,
+};
+ghost use Rattle.lisa_meaning.specs.Scenes.{form_with};
+ghost use Rattle.lisa_meaning.specs.Cores.{core_of};
+ghost use Rattle.lisa_meaning.specs.States.{state_of};
+ghost use Rattle.lisa_meaning.specs.Laws.{TreesAreOccurrences};
+
+/// Items run in listed order: one that the word's instruction doesn't choose does nothing, one of its activator's stage or of none runs at
+/// once, one of a later stage is recorded, and of an `if` the items of one branch run.
+pub fn items_run_in_order()
+    ensures unchosen { (d : DescriptionTree) → UnchosenDoNothing (core_of d) }
+    ensures same { (d : DescriptionTree) → SameLevelRunsAtOnce (core_of d) }
+    ensures other { (d : DescriptionTree) → OtherLevelIsRecorded (core_of d) }
+    ensures branch { (d : DescriptionTree) → OneBranchRuns (core_of d) }
+{}
+
+/// The nodes of the tree on which an accepted description's time runs are its occurrences: in their order, with their numbers, stages and
+/// activators' stages.
+pub fn trees_are_occurrences()
+    ensures { (d : DescriptionTree) → IsAccepted d → TreesAreOccurrences d }
+{}
+
+/// A word is decoded as the first plain form that has it, so no other plain form has it.
+pub fn words_are_decoded_once()
+    ensures { (d : DescriptionTree) (c : Coding) (word : ℕ) (found : Option ℕ) → IsCodingOf d c → IsDecodedAs d word found → found ≡ form_with d word }
+{}
+
+/// After any edges, whatever the values of their pins, the state has one value for each item and for each cell of each array, within its
+/// width. Asked are widths that words have, and distinct names of arrays, as each accepted description has them.
+pub fn states_are_shaped()
+    ensures { (d : DescriptionTree) (width : Option ℕ) (image : List Memory) (entries : List (List ℕ)) → HaveWidths (registers_of d) → AllPairs (λ a b. a.name ≢ b.name) (arrays_of d) → HasWidth d width → IsImage image → missing_memory (arrays_of d) image ≡ None → IsShaped (items d width) (arrays_of d) (state_of d image entries) }
+{}
