@@ -16,3 +16,8 @@ filled new old len n v w is none empty word =
     let count : n - len ≡ n = omega (arith, empty) in
     ap (map typed_word) (is ∙ ap₂ (λ (xs : List Value) k. take n xs ++ replicate k v) none count ∙ ap (λ (xs : List Value). xs ++ replicate n v) (take_none n))
     ∙ map_filled n v ∙ ap (replicate n) word
+
+pub copies : {X : Type 0} (new old : List X) (len n : ℕ) (v : X) → new ≡ take n old ++ replicate (n - len) v → old ≡ [] → len ≡ 0 → new ≡ replicate n v
+copies new old len n v is none empty =
+    let count : n - len ≡ n = omega (arith, empty) in
+    is ∙ ap₂ (λ xs k. take n xs ++ replicate k v) none count ∙ ap (λ xs. xs ++ replicate n v) (take_none n)

@@ -25,11 +25,12 @@ back_undone touch cells bits low is =
 pub cell_left : (old new : Store) (array index bits : ℕ) (at row row1 row2 : Vec ℕ) (touch : Touch)
     → array < length old.cells.items → index < length at.items
     → new.registers.items ≡ old.registers.items → new.kept.items ≡ old.kept.items → new.pins.items ≡ old.pins.items → new.slots.items ≡ old.slots.items → new.decoded ≡ old.decoded
+    → new.fields.items ≡ old.fields.items → new.outs.items ≡ old.outs.items → new.stalled.items ≡ old.stalled.items → new.flushed.items ≡ old.flushed.items
     → at ≡ get_or old.cells.items array at → row ≡ get_or old.cells.items array row → row1 ≡ get_or old.cells.items array row1 → row2.items ≡ set row.items index bits → new.cells.items ≡ set old.cells.items array row2
     → touch.array ≡ array → touch.index ≡ index → touch.before ≡ get_or row1.items index touch.before
     → (old.count + 1 ≤ length old.touched.items → touches_of new ≡ touches_of old ++ touch ∷ []) → new.count ≤ old.count + 1 → length new.touched.items ≡ length old.touched.items
     → Leaves old new (with_cell array index bits (holdings_of old)) 1
-cell_left old new array index bits at row row1 row2 touch there within r k p l d is_at is_row is_row1 is_row2 c ta ti to noted count room =
+cell_left old new array index bits at row row1 row2 touch there within r k p l d f o s u is_at is_row is_row1 is_row2 c ta ti to noted count room =
     let view = λ (x : Vec ℕ). x.items in
     let before = cells_of old in
     let same_at : get_or before array [] ≡ at.items = get_or-map view old.cells.items array at [] there ∙ ap view (sym is_at) in
@@ -53,6 +54,10 @@ cell_left old new array index bits at row row1 row2 touch there within r k p l d
         slots = map typed_word (l i);
         cells = cells i;
         decoded = d i;
+        fields = f i;
+        outs = o i;
+        stalled = s i;
+        flushed = u i;
       };
       untouched_same = λ fits. ap (λ (ts : List Touch). put_back ts (cells_of new)) (noted fits) ∙ put_back_more (touches_of old) touch (cells_of new) ∙ ap (put_back (touches_of old)) undone;
       touches = count;

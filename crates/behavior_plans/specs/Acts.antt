@@ -25,6 +25,9 @@ mutual
     If : TermTree → ActTree → ActTree
     IfElse : TermTree → ActTree → ActTree → ActTree
     For : LoopTree → ActTree → ActTree
+    -- by the stage's level
+    Stall : ℕ → ActTree
+    Flush : ℕ → ActTree
 
   -- a list of acts
   pub data ActTrees : Type 0 where
@@ -44,6 +47,8 @@ abbrev mutual
   act_tree (acts.If' test p chosen) = If (term_tree test) (act_tree chosen)
   act_tree (acts.IfElse' test p chosen q other) = IfElse (term_tree test) (act_tree chosen) (act_tree other)
   act_tree (acts.For' loop p body) = For (loop_tree loop) (act_tree body)
+  act_tree (acts.Stall level) = Stall level
+  act_tree (acts.Flush level) = Flush level
 
   pub row_trees : {m : _} → Row_of-Act m → ActTrees
   row_trees end_of-Act = End

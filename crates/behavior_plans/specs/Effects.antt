@@ -5,11 +5,11 @@ use Rattle.lisa_tree.specs.declared.tokens.Shape.{Shape}
 use Rattle.shape_checks.specs.Bounds.{turns}
 use Rattle.typed_values.specs.Words.{TypedWord, as_shape, zero_of, is_zero}
 use Rattle.typed_values.specs.Effects.{turned, counter_value}
-use Rattle.behavior_plans.specs.Holdings.{Holdings, put_word, with_registers, with_slots, with_slot, with_cell}
+use Rattle.behavior_plans.specs.Holdings.{Holdings, put_word, with_registers, with_slots, with_slot, with_cell, with_out, with_stall, with_flush}
 use Rattle.behavior_plans.specs.Terms.{TermTree}
 use Rattle.behavior_plans.specs.Spots as spots
 use Rattle.behavior_plans.specs.Spots.{SpotTree}
-use Rattle.behavior_plans.specs.Acts.{LoopTree, ActTree, Empty, Block, Local, Assign, If, IfElse, For, ActTrees, End, Then}
+use Rattle.behavior_plans.specs.Acts.{LoopTree, ActTree, Empty, Block, Local, Assign, If, IfElse, For, Stall, Flush, ActTrees, End, Then}
 use Rattle.behavior_plans.specs.Values.{wrapped, term_value, term_whole}
 
 -- a place gets a value, in its own type
@@ -17,6 +17,7 @@ abbrev pub spot_put : SpotTree → (Kind → TypedWord) → Holdings → Holding
 spot_put (spots.Register place) given h = with_registers (put_word h.registers place given) h
 spot_put (spots.Local slot) given h = with_slots (put_word h.slots slot given) h
 spot_put (spots.Element shape array last index) given h = with_cell array (wrapped last (term_value h index).bits) (as_shape shape (given shape.kind)).bits h
+spot_put (spots.Output shape place) given h = with_out place (as_shape shape (given shape.kind)).bits h
 
 -- what a local holds first: 0, or what its declaration assigns
 abbrev pub first_word : Holdings → Shape → Option TermTree → TypedWord
@@ -36,6 +37,8 @@ abbrev mutual
   act_effect (If test chosen) h = if is_zero (term_value h test) then h else act_effect chosen h
   act_effect (IfElse test chosen other) h = if is_zero (term_value h test) then act_effect other h else act_effect chosen h
   act_effect (For loop body) h = turned (loop_turn loop (act_effect body)) loop.bounds 0 (turns loop.bounds) h
+  act_effect (Stall level) h = with_stall level h
+  act_effect (Flush level) h = with_flush level h
 
   -- one after the other
   pub acts_effect : ActTrees → Holdings → Holdings
@@ -47,6 +50,7 @@ abbrev pub spot_writes : SpotTree → ℕ
 spot_writes (spots.Register place) = 0
 spot_writes (spots.Local slot) = 0
 spot_writes (spots.Element shape array last index) = 1
+spot_writes (spots.Output shape place) = 0
 
 abbrev mutual
   pub act_writes : ActTree → ℕ
@@ -57,6 +61,8 @@ abbrev mutual
   act_writes (If test chosen) = act_writes chosen
   act_writes (IfElse test chosen other) = act_writes chosen + act_writes other
   act_writes (For loop body) = turns loop.bounds * act_writes body
+  act_writes (Stall level) = 0
+  act_writes (Flush level) = 0
 
   pub acts_writes : ActTrees → ℕ
   acts_writes End = 0

@@ -11,9 +11,12 @@ pub data SpotTree : Type 0 where
   Local : ℕ → SpotTree
   -- of this type: the array, its last index, and the index
   Element : Shape → ℕ → ℕ → TermTree → SpotTree
+  -- of this type: a field of a boundary, by its place among those of all boundaries
+  Output : Shape → ℕ → SpotTree
 
 -- the plain tree that a spot stands for
 abbrev pub spot_tree : Spot → SpotTree
 spot_tree (spots.Register place) = Register place
 spot_tree (spots.Local slot) = Local slot
 spot_tree (spots.Element shape array last index) = Element shape array last (term_tree index)
+spot_tree (spots.Output shape place) = Output shape place

@@ -17,6 +17,10 @@ holdings_of store = record {
   slots = map typed_word store.slots.items;
   cells = cells_of store;
   decoded = store.decoded;
+  fields = store.fields.items;
+  outs = store.outs.items;
+  stalled = store.stalled.items;
+  flushed = store.flushed.items;
 }
 
 -- the touches noted so far

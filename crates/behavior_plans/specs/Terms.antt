@@ -16,6 +16,8 @@ pub data TermTree : Type 0 where
   Local : ℕ → TermTree
   -- of this type: the array, its last index, and the index
   Element : Shape → ℕ → ℕ → TermTree → TermTree
+  -- of this type: a field of a boundary as the edge began, by its place among those of all boundaries
+  Input : Shape → ℕ → TermTree
   Cast : Shape → TermTree → TermTree
   Complement : TermTree → TermTree
   Negate : TermTree → TermTree
@@ -31,6 +33,7 @@ term_tree (terms.Pin place) = Pin place
 term_tree terms.Decoded = Decoded
 term_tree (terms.Local slot) = Local slot
 term_tree (terms.Element' shape array last p index) = Element shape array last (term_tree index)
+term_tree (terms.Input shape place) = Input shape place
 term_tree (terms.Cast' shape p a) = Cast shape (term_tree a)
 term_tree (terms.Complement' p a) = Complement (term_tree a)
 term_tree (terms.Negate' p a) = Negate (term_tree a)

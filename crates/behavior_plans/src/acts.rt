@@ -27,4 +27,8 @@ pub enum Act {
     If(Term, Box<Act>),
     IfElse(Term, Box<Act>, Box<Act>),
     For(Loop, Box<Act>),
+    /// Holds a stage, by its level, which is one more than its place.
+    Stall(u32),
+    /// Drops what stands in a stage, by its level.
+    Flush(u32),
 }

@@ -1,5 +1,5 @@
-//! Behaviours whose names are resolved to places, and what they do to a store of registers, pins, arrays and locals. Nothing here knows
-//! descriptions, and once a store is made nothing takes memory.
+//! Behaviours whose names are resolved to places, and what they do to a store of registers, pins, arrays, locals and
+//! fields of boundaries. Nothing here knows descriptions, and once a store is made nothing takes memory.
 #![tactic(auto)]
 
 mod acts;

@@ -10,7 +10,7 @@ ghost use Rattle.behavior_plans.specs.Stores.{holdings_of, Leaves};
 use crate::acts::{Act, Loop};
 use crate::store::Store;
 use crate::values::{evaluate, whole};
-use crate::writing::{counter_value, first_word, put, set_slot};
+use crate::writing::{counter_value, first_word, flush, put, set_slot, stall};
 
 /// Runs a statement. A write of a cell that there is no room to note isn't noted.
 #[cycle(running)]
@@ -42,6 +42,8 @@ pub fn run(act: &Act, store: &mut Store)
             }
         }
         Act::For(head, body) => run_turns(*head, body, store),
+        Act::Stall(level) => stall(store, *level),
+        Act::Flush(level) => flush(store, *level),
     }
 }
 

@@ -11,4 +11,6 @@ pub enum Spot {
     Local(u32),
     /// The type of the elements, the array, its last index, which is one less than a power of two, and the index.
     Element(Shape, u32, u32, Term),
+    /// The type of a boundary's field, and its place among those of all boundaries.
+    Output(Shape, u32),
 }

@@ -17,6 +17,8 @@ pub enum Term {
     Local(u32),
     /// The type of the elements, the array, its last index, which is one less than a power of two, and the index.
     Element(Shape, u32, u32, Box<Term>),
+    /// The type of a boundary's field, and its place among those of all boundaries. It is read as the edge began.
+    Input(Shape, u32),
     Cast(Shape, Box<Term>),
     Complement(Box<Term>),
     Negate(Box<Term>),

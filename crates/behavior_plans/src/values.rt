@@ -5,7 +5,7 @@ ghost use Rattle.typed_values.specs.Words.{typed_word};
 ghost use Rattle.typed_values.specs.Effects.{in_kind};
 ghost use Rattle.behavior_plans.specs.Terms.{term_tree};
 ghost use Rattle.behavior_plans.specs.Holdings.{word_at};
-ghost use Rattle.behavior_plans.specs.Values.{literal, element_word, wrapped, term_value, term_whole};
+ghost use Rattle.behavior_plans.specs.Values.{literal, shaped_word, element_word, wrapped, term_value, term_whole};
 ghost use Rattle.behavior_plans.specs.Stores.{holdings_of, cells_of};
 
 use crate::operands::{Operand, chosen_of, complement, made_of};
@@ -35,6 +35,17 @@ fn cell_at(cells: &[u64], index: u32) -> u64
     }
 }
 
+// Bits in a type.
+fn shaped(shape: Shape, bits: u64) -> Value
+    ensures { typed_word result ≡ shaped_word shape bits }
+{
+    let value = Value {
+        kind: Kind::Unsigned,
+        word: Word { bits, width: 64 },
+    };
+    value.as_shape(shape)
+}
+
 fn element_at(store: &Store, shape: Shape, array: u32, index: u32) -> Value
     ensures { typed_word result ≡ element_word (cells_of store.now) shape array index }
 {
@@ -42,11 +53,7 @@ fn element_at(store: &Store, shape: Shape, array: u32, index: u32) -> Value
         Some(row) => cell_at(row, index),
         None => 0,
     };
-    let value = Value {
-        kind: Kind::Unsigned,
-        word: Word { bits, width: 64 },
-    };
-    value.as_shape(shape)
+    shaped(shape, bits)
 }
 
 /// An index from 0 to the last one.
@@ -82,6 +89,7 @@ pub fn evaluate(term: &Term, store: &Store) -> Value
             let at = wrapped(*last, evaluate(index, store).word.bits);
             element_at(store, *shape, *array, at)
         }
+        Term::Input(shape, place) => shaped(*shape, cell_at(&store.fields, *place)),
         Term::Cast(shape, value) => evaluate(value, store).as_shape(*shape),
         Term::Complement(value) => complement(evaluate(value, store)),
         Term::Negate(value) => Value::truth(evaluate(value, store).is_zero()),

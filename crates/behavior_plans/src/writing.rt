@@ -1,11 +1,11 @@
 //! What is written to a store.
 
-ghost use Rattle.std.specs.Prelude.{◌≡◌, ◌+◌, ◌≤◌, ◌++◌, ◌∷◌, [], length, take, map, slice_set, option_map};
+ghost use Rattle.std.specs.Prelude.{◌≡◌, ◌+◌, ◌≤◌, ◌++◌, ◌∷◌, [], Some, true, length, take, map, slice_set, option_map};
 ghost use Rattle.typed_values.specs.Words.{typed_word};
 ghost use Rattle.typed_values.specs.Effects.{in_kind, counter_value};
 ghost use Rattle.behavior_plans.specs.Terms.{term_tree};
 ghost use Rattle.behavior_plans.specs.Spots.{spot_tree};
-ghost use Rattle.behavior_plans.specs.Holdings.{put_word, with_registers, with_slots, with_slot, with_cell};
+ghost use Rattle.behavior_plans.specs.Holdings.{put_word, with_registers, with_slots, with_slot, with_cell, with_out, with_stall, with_flush};
 ghost use Rattle.behavior_plans.specs.Effects.{spot_put, spot_writes, first_word};
 ghost use Rattle.behavior_plans.specs.Stores.{holdings_of, Leaves};
 
@@ -86,6 +86,44 @@ fn set_cell(store: &mut Store, array: u32, index: u32, bits: u64)
     note(&mut store.touched, &mut store.count, touch);
 }
 
+// The bits of a field; where there is no such field nothing changes.
+fn set_out(outs: &mut Vec<Option<u64>>, place: u32, bits: u64)
+    ensures { outs.new.items ≡ slice_set outs.old.items place (Some bits) }
+{
+    if (place as usize) < outs.len() {
+        outs[place as usize] = Some(bits);
+    }
+}
+
+fn put_out(store: &mut Store, place: u32, bits: u64)
+    ensures { Leaves store.old store.new (with_out place bits (holdings_of store.old)) 0 }
+{
+    set_out(&mut store.outs, place, bits);
+}
+
+// A mark at a place; where there is no such place nothing changes.
+fn mark(marks: &mut Vec<bool>, place: u32)
+    ensures { marks.new.items ≡ slice_set marks.old.items place true }
+{
+    if (place as usize) < marks.len() {
+        marks[place as usize] = true;
+    }
+}
+
+/// Holds the stage of a level.
+pub(crate) fn stall(store: &mut Store, level: u32)
+    ensures { Leaves store.old store.new (with_stall level (holdings_of store.old)) 0 }
+{
+    mark(&mut store.stalled, level);
+}
+
+/// Drops what stands in the stage of a level.
+pub(crate) fn flush(store: &mut Store, level: u32)
+    ensures { Leaves store.old store.new (with_flush level (holdings_of store.old)) 0 }
+{
+    mark(&mut store.flushed, level);
+}
+
 /// Gives a place a value, in its own type.
 pub(crate) fn put(spot: &Spot, given: Whole, store: &mut Store)
     ensures { Leaves store.old store.new (spot_put (spot_tree spot.now) (in_kind given) (holdings_of store.old)) (spot_writes (spot_tree spot.now)) }
@@ -97,6 +135,10 @@ pub(crate) fn put(spot: &Spot, given: Whole, store: &mut Store)
             let at = wrapped(*last, evaluate(index, store).word.bits);
             let value = given.in_kind(shape.kind).as_shape(*shape);
             set_cell(store, *array, at, value.word.bits);
+        }
+        Spot::Output(shape, place) => {
+            let value = given.in_kind(shape.kind).as_shape(*shape);
+            put_out(store, *place, value.word.bits);
         }
     }
 }
