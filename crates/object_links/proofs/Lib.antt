@@ -2,3 +2,4 @@ pub mod Steps
 pub mod ByLines
 pub mod Exports
 pub mod NamesUsed
+pub mod Capped

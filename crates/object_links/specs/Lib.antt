@@ -1,3 +1,4 @@
 pub mod Firsts
 pub mod LinkFaults
 pub mod LineNames
+pub mod LineSizes

@@ -3,11 +3,13 @@
 
 mod globals;
 mod names;
+mod rooms;
 mod sections;
 mod undefined;
 mod uses;
 mod widths;
 
 pub use globals::{all_exported, double_export};
+pub use rooms::first_overfull;
 pub use sections::first_unknown;
 pub use uses::first_undefined;
