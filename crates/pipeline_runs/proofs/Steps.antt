@@ -1,14 +1,22 @@
 -- One item after another.
-use Rattle.std.proofs.Common.{◌≡◌, ◌≢◌, ℕ, zero, suc, ◌<◌, Bool, true, cond, ◌&&◌, Option, Some, sym, ap, ◌∙◌, subst}
+use Rattle.std.proofs.Common.{◌≡◌, ◌≢◌, ℕ, zero, suc, ◌<◌, Bool, true, false, cond, ◌&&◌, ◌||◌, Option, Some, sym, ap, ap₂, ◌∙◌, subst, arith, nat_eq}
 use Rattle.pipeline_time.specs.Acts.{Acts, Act}
 use Rattle.pipeline_time.specs.Cores.{Core, above_of}
 use Rattle.pipeline_time.specs.Running.{Running, word_below, behavior, activate, run}
 use Rattle.lisa_activation.specs.declared.kept.Queues.{Queues}
-use Rattle.lisa_activation.specs.Queued.{count, IsEntered}
+use Rattle.lisa_activation.specs.Queued.{above, count, first, is_due, IsEntered}
 use Rattle.lisa_activation.specs.Shown.{Hold, AreQueuesOf}
 use Rattle.lisa_activation.proofs.Agree.{enter_agrees}
 use Rattle.pipeline_time.proofs.Steps.{other_level}
 use Rattle.pipeline_runs.specs.Runs.{Represents}
+
+pub due_entered : (before after : Queues) (occurrence : ℕ) → IsEntered before after occurrence → nat_eq (above before occurrence) 0 ≡ false → (stage number : ℕ) → is_due after stage number ≡ is_due before stage number
+due_entered before after occurrence is staged stage number =
+    ap₂ (λ a b. a && b) (is.tables.run stage number)
+    (ap₂ (λ a b. a || (nat_eq stage 0 && b)) (is.stand stage number) (is.more_first number ∙ unset (first before number) (nat_eq (above before occurrence) 0) (nat_eq number occurrence) staged))
+  where
+    unset : (a b c : Bool) → b ≡ false → (a || (b && c)) ≡ a
+    unset a b c e = grind arith
 
 module _ {R M : Type 0} (core : Core R M) where
   activated : (after : Queues) (moment : M) (slot : Option ℕ) (bits : ℕ → ℕ → Bool) (now : Running M) (here number own : ℕ) → moment ≡ now.moment → slot ≡ now.slot → Hold after bits (activate core here number own now).made (activate core here number own now).first → Represents moment after slot bits (activate core here number own now)

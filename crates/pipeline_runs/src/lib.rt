@@ -4,7 +4,9 @@
 mod behaves;
 mod runs;
 mod tree;
+mod turns;
 
 pub use behaves::{Behaves, Edge};
 pub use runs::{run, run_occurrence};
-pub use tree::Tree;
+pub use tree::{Occurrence, Tree};
+pub use turns::turn_from;

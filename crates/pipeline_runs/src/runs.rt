@@ -3,7 +3,7 @@
 ghost use Rattle.std.specs.Prelude.{◌≡◌, ℕ, ◌<◌, Bool, true, false, ◌&&◌, if◌then◌else◌};
 ghost use Rattle.pipeline_time.specs.Cores.{is_past, above_of};
 ghost use Rattle.pipeline_time.specs.Running.{Running, word_below, behavior, activate, run, run_occurrence};
-ghost use Rattle.lisa_activation.specs.Queued.{count};
+ghost use Rattle.lisa_activation.specs.Queued.{count, is_due};
 ghost use Rattle.lisa_activation.specs.Shown.{AreQueuesOf};
 ghost use Rattle.pipeline_runs.specs.Runs.{acts_of, node_at, item_at, has_run, Represents, IsReady, Stays, StaysBut};
 
@@ -52,6 +52,7 @@ fn record<B: Behaves>(here: u8, number: u32, edge: &mut Edge<B>)
     ensures store { edge.new.store ≡ edge.old.store }
     ensures tables { AreQueuesOf (B.core edge.old.store) edge.new.queues }
     ensures count { count edge.new.queues ≡ count edge.old.queues }
+    ensures due { 0 < here → (stage other : ℕ) → is_due edge.new.queues stage other ≡ is_due edge.old.queues stage other }
 {
     edge.queues.enter(number);
 }
@@ -62,6 +63,7 @@ pub fn run<B: Behaves>(here: u8, word: u64, acts: &Tree, edge: &mut Edge<B>)
     requires { IsReady (B.core edge.old.store) edge.old.queues (B.ran edge.old.store) here (acts_of acts.now) }
     ensures runs { (bits : ℕ → ℕ → Bool) (now : Running B.Moment) → Represents (B.moment edge.old.store) edge.old.queues edge.old.slot bits now → Represents (B.moment edge.new.store) edge.new.queues edge.new.slot bits (run (B.core edge.old.store) here word (acts_of acts.now) now) }
     ensures stays { Stays (B.core edge.old.store) (B.core edge.new.store) edge.old.queues edge.new.queues (B.ran edge.old.store) (B.ran edge.new.store) (acts_of acts.now) }
+    ensures due { 0 < here → (stage other : ℕ) → is_due edge.new.queues stage other ≡ is_due edge.old.queues stage other }
 {
     match acts {
         Tree::Nothing => {}
@@ -103,6 +105,7 @@ pub fn run_occurrence<B: Behaves>(
     requires chosen { past ≡ true → (B.core edge.old.store).chooses number word ≡ true }
     ensures runs { (bits : ℕ → ℕ → Bool) (now : Running B.Moment) → Represents (B.moment edge.old.store) edge.old.queues edge.old.slot bits now → Represents (B.moment edge.new.store) edge.new.queues edge.new.slot bits (run_occurrence (B.core edge.old.store) word (node_at (above_of (B.core edge.old.store) number) number level past own.now) now) }
     ensures stays { Stays (B.core edge.old.store) (B.core edge.new.store) edge.old.queues edge.new.queues (B.ran edge.old.store) (B.ran edge.new.store) (item_at number level past own.now) }
+    ensures due { 0 < level → (stage other : ℕ) → is_due edge.new.queues stage other ≡ is_due edge.old.queues stage other }
 {
     let mine = own_word(&edge.store, number, past, word);
     behave_once(number, mine, edge);

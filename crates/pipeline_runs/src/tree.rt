@@ -9,3 +9,12 @@ pub enum Tree {
     /// An `if`: whose it is, its place among that one's, its two branches, and the items that follow.
     If(u32, u32, Box<Tree>, Box<Tree>, Box<Tree>),
 }
+
+/// An occurrence with all that it leads to.
+#[derive(Drop)]
+pub struct Occurrence {
+    pub number: u32,
+    pub level: u8,
+    pub past: bool,
+    pub own: Tree,
+}

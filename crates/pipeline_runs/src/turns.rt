@@ -1,0 +1,59 @@
+//! The turn of a stage.
+
+ghost use Rattle.std.specs.List.{fold};
+ghost use Rattle.std.specs.Prelude.{◌≡◌, ℕ, suc, ◌<◌, Bool, true, Option, Some, slice_get};
+ghost use Rattle.pipeline_time.specs.Edges.{run_due};
+ghost use Rattle.pipeline_time.specs.Running.{Running, run_occurrence, word_below};
+ghost use Rattle.lisa_activation.specs.Queued.{first_above, is_due};
+ghost use Rattle.pipeline_runs.specs.Runs.{Represents};
+ghost use Rattle.pipeline_runs.specs.Turns.{AreDue, WaitAs, due_from, node_of};
+ghost use Rattle.pipeline_runs.specs.declared.tree.Occurrence.{Occurrence};
+
+use crate::behaves::{Behaves, Edge};
+use crate::runs::run_occurrence;
+use crate::tree::Occurrence;
+
+fn word_below(past: bool, word: u64) -> u64
+    ensures { result ≡ word_below past word }
+{
+    if past { word } else { 0 }
+}
+
+// Runs one occurrence that is due.
+fn run_one<B: Behaves>(
+    stage: u32,
+    word: u64,
+    number: u32,
+    occurrences: &[Occurrence],
+    edge: &mut Edge<B>,
+)
+    requires stage { stage < 8 }
+    requires due { AreDue (B.core edge.old.store) edge.old.queues (B.ran edge.old.store) stage word number occurrences.now }
+    requires is { is_due edge.old.queues stage number ≡ true }
+    ensures runs { (bits : ℕ → ℕ → Bool) (now : Running B.Moment) → Represents (B.moment edge.old.store) edge.old.queues edge.old.slot bits now → (o : Occurrence) → slice_get occurrences.now number ≡ Some o → Represents (B.moment edge.new.store) edge.new.queues edge.new.slot bits (run_occurrence (B.core edge.old.store) (word_below o.past word) (node_of o) now) }
+    ensures due { AreDue (B.core edge.new.store) edge.new.queues (B.ran edge.new.store) stage word (suc number) occurrences.now }
+    ensures same { (other : ℕ) → is_due edge.new.queues stage other ≡ is_due edge.old.queues stage other }
+    ensures core { B.core edge.new.store ≡ B.core edge.old.store }
+{
+    let it = &occurrences[number as usize];
+    let own_word = word_below(it.past, word);
+    run_occurrence(number, it.level, it.past, own_word, &it.own, edge);
+}
+
+/// Runs what is due in a stage above an occurrence, in order of numbers. What is past the root runs with the word, and all else with 0.
+pub fn turn_from<B: Behaves>(
+    stage: u32,
+    word: u64,
+    after: Option<u32>,
+    occurrences: &[Occurrence],
+    edge: &mut Edge<B>,
+)
+    requires stage { stage < 8 }
+    requires due { AreDue (B.core edge.old.store) edge.old.queues (B.ran edge.old.store) stage word (first_above after) occurrences.now }
+    ensures { (bits : ℕ → ℕ → Bool) (now : Running B.Moment) (words : ℕ → Option ℕ) → Represents (B.moment edge.old.store) edge.old.queues edge.old.slot bits now → WaitAs (B.core edge.old.store) edge.old.queues stage word words occurrences.now → Represents (B.moment edge.new.store) edge.new.queues edge.new.slot bits (fold (run_due (B.core edge.old.store) words) now (due_from (B.core edge.old.store) words stage (first_above after) occurrences.now)) }
+{
+    if let Some(number) = edge.queues.due(stage, after) {
+        run_one(stage, word, number, occurrences, edge);
+        turn_from(stage, word, Some(number), occurrences, edge);
+    }
+}
