@@ -1,4 +1,5 @@
 pub mod Blanks
 pub mod Blocks
 pub mod Cells
+pub mod Keeping
 pub mod Loops

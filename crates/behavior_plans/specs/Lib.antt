@@ -5,3 +5,4 @@ pub mod Holdings
 pub mod Values
 pub mod Effects
 pub mod Stores
+pub mod Laws

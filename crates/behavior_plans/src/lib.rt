@@ -3,6 +3,7 @@
 #![tactic(auto)]
 
 mod acts;
+mod laws;
 mod making;
 mod operands;
 mod running;
@@ -13,6 +14,7 @@ mod values;
 mod writing;
 
 pub use acts::{Act, Loop};
+pub use laws::runs_keep_types;
 pub use running::{run, run_all};
 pub use spots::Spot;
 pub use store::Store;
