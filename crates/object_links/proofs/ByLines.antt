@@ -1,16 +1,16 @@
 -- What is said of an object's entries, by its lines.
-use Rattle.std.proofs.Common.{◌≡◌, ℕ, List, [], ◌∷◌, ◌++◌, map, filter, Option, None, Some, refl, ap, sym, ◌∙◌, append_assoc}
+use Rattle.std.proofs.Common.{◌≡◌, ℕ, List, [], ◌∷◌, ◌++◌, map, filter, Option, refl, ap, ◌∙◌, append_assoc}
 use Rattle.std.specs.Prelude.{flat_map}
 use Rattle.std.specs.List.{list_any}
 use Rattle.std.specs.Option.{option_or}
 use Rattle.std.specs.Str.{bytes_eq}
 use Rattle.lisa_object.specs.declared.parts.Object.{Object}
-use Rattle.lisa_object.specs.Objects.{PlainObjectLine, Section, Space, Label, Equ, Global, Cell, Fix, PlainObject, object_tree}
+use Rattle.lisa_object.specs.Objects.{PlainObjectLine, Section, Space, Label, Equ, Global, Cell, Fix, object_tree}
 use Rattle.lisa_object.specs.ObjectRules.{defined}
 use Rattle.placed_programs.specs.Entries.{Entry, Enter, Room, Put, Mark, Equal, Share, PlainFix, PlainCell, fix_line, lines_of, entries_of}
 use Rattle.placed_programs.specs.Symbols.{shared_by, is_shared}
 use Rattle.object_links.specs.Firsts.{first_of}
-use Rattle.object_links.specs.LinkFaults.{if_unknown, unknown, named_by, own_names, exported_names, fix_names, used_by}
+use Rattle.object_links.specs.LinkFaults.{if_unknown, unknown, own_names, exported_names, fix_names, used_by}
 use Rattle.object_links.specs.LineNames.{parts_of, line_unknown, line_shares, line_uses, line_exports}
 
 pub unknown_lines : (widths : List ℕ → Option ℕ) (ls : List PlainObjectLine) → first_of (line_unknown widths) ls ≡ first_of (unknown widths) (entries_of ls)

@@ -1,8 +1,8 @@
 -- Counts of cells that stop at 2 ^ 64 - 1.
-use Rattle.std.proofs.Common.{◌≡◌, ◌≤◌, ◌<◌, ℕ, ◌+◌, ◌-◌, ◌^◌, Bool, true, false, cond, List, [], ◌∷◌, map, Option, None, Some, refl, sym, ap, ◌∙◌, arith}
+use Rattle.std.proofs.Common.{◌≡◌, ℕ, ◌+◌, Bool, true, false, cond, List, [], ◌∷◌, Option, None, Some, refl, sym, ap, ◌∙◌, arith}
 use Rattle.std.specs.Str.{bytes_eq}
 use Rattle.lisa_object.specs.Objects.{PlainObjectLine, Section, Space, Label, Equ, Global, Cell, Fix}
-use Rattle.placed_programs.specs.Entries.{Entry, Enter, Room, Put, Mark, Equal, Share, PlainCell, entries_of}
+use Rattle.placed_programs.specs.Entries.{Entry, PlainCell, entries_of}
 use Rattle.placed_programs.specs.Addresses.{Counts, adding, entry_size, entered, counts_after}
 use Rattle.object_links.specs.LinkFaults.{capped, all_counts}
 use Rattle.object_links.specs.LineSizes.{line_size, line_enters}

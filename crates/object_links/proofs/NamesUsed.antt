@@ -6,7 +6,7 @@ use Rattle.std.specs.Str.{bytes_eq}
 use Rattle.lisa_object.specs.Objects.{PlainObjectLine}
 use Rattle.lisa_object.specs.ObjectRules.{defined}
 use Rattle.placed_programs.specs.Entries.{lines_of, entries_of}
-use Rattle.object_links.specs.LinkFaults.{own_names, used_by, is_defined, undefined_in}
+use Rattle.object_links.specs.LinkFaults.{own_names, is_defined, undefined_in}
 use Rattle.object_links.specs.LineNames.{line_uses}
 use Rattle.object_links.proofs.ByLines.{defined_lines, uses_lines}
 

@@ -1,5 +1,5 @@
 -- Names in the lines of objects, line by line.
-use Rattle.std.specs.Prelude.{ℕ, List, [], ◌∷◌, filter, filter_map, flat_map, map, Option, Some, None}
+use Rattle.std.specs.Prelude.{ℕ, List, [], ◌∷◌, filter, filter_map, flat_map, map, Option, None}
 use Rattle.std.specs.List.{list_any}
 use Rattle.std.specs.Str.{bytes_eq}
 use Rattle.asm_source.specs.declared.parts.Term.{Term}

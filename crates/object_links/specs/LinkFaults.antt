@@ -1,5 +1,5 @@
 -- Why objects aren't linked. There are five conditions; the first of them that is met is told, where it is met first.
-use Rattle.std.specs.Prelude.{ℕ, ◌+◌, ◌-◌, ◌^◌, ◌==◌, ℤ, pos, ◌-ℤ◌, int_le, int_lt, nat_lt, min, Bool, true, false, ◌||◌, ◌&&◌, not, List, [], ◌∷◌, ◌++◌, map, filter, find, flat_map, filter_map, Option, Some, None, option_map, if◌then◌else◌}
+use Rattle.std.specs.Prelude.{ℕ, ◌+◌, ◌-◌, ◌^◌, ◌==◌, ℤ, pos, ◌-ℤ◌, int_le, int_lt, nat_lt, min, Bool, false, ◌||◌, ◌&&◌, not, List, [], ◌∷◌, filter, find, flat_map, filter_map, Option, Some, None, option_map, if◌then◌else◌}
 use Rattle.std.specs.List.{list_any}
 use Rattle.std.specs.Option.{option_or}
 use Rattle.std.specs.Str.{bytes_eq}
@@ -148,10 +148,13 @@ out_of_range parts = let all = with_counts no_cells parts in range_from 1 (all_e
 
 -- ---- the fault of objects, by the memories of a description
 
-abbrev pub link_fault : List ArrayItem → List Entries → Option LinkFault
-link_fault memories parts =
+-- the first of the conditions that need no value
+abbrev pub fault_before_values : List ArrayItem → List Entries → Option LinkFault
+fault_before_values memories parts =
     option_or (option_map faults.NoSuchMemory (first_unknown memories parts))
     (option_or (option_map faults.DuplicateGlobal (double_export parts))
     (option_or (overfull memories parts)
-    (option_or (undefined_from 1 (all_exported parts) parts)
-    (out_of_range parts))))
+    (undefined_from 1 (all_exported parts) parts)))
+
+abbrev pub link_fault : List ArrayItem → List Entries → Option LinkFault
+link_fault memories parts = option_or (fault_before_values memories parts) (out_of_range parts)

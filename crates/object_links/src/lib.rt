@@ -1,6 +1,7 @@
 //! What is wrong with a list of objects.
 #![tactic(auto)]
 
+mod faults;
 mod globals;
 mod names;
 mod rooms;
@@ -9,6 +10,7 @@ mod undefined;
 mod uses;
 mod widths;
 
+pub use faults::fault_before_values;
 pub use globals::{all_exported, double_export};
 pub use rooms::first_overfull;
 pub use sections::first_unknown;

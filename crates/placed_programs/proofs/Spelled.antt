@@ -1,11 +1,11 @@
 -- In each object a fix stands behind its cell, so that its lines are those of its entries.
-use Rattle.std.proofs.Common.{◌≡◌, ℕ, ◌+◌, ◌≤◌, true, List, [], ◌∷◌, ◌++◌, map, refl, ap, ◌∙◌, arith}
+use Rattle.std.proofs.Common.{◌≡◌, ◌+◌, ◌≤◌, true, List, [], ◌∷◌, ◌++◌, map, refl, ap, ◌∙◌, arith}
 use Rattle.std.specs.Prelude.{◌&&◌, nat_le}
 use Rattle.std.proofs.lemmas.Bool.{and_parts, leb-true}
 use Rattle.lisa_object.specs.declared.rules.Standing.{Standing}
 use Rattle.lisa_object.specs.Objects.{PlainObjectLine, Section, Space, Label, Equ, Global, Cell, Fix}
 use Rattle.lisa_object.specs.ObjectRules.{has_names, start, fits_kind, is_clear, is_sum, may_follow, after, are_lines}
-use Rattle.placed_programs.specs.Entries.{Entry, PlainFix, PlainCell, fix_line, lines_of, front_fixes, entries_of}
+use Rattle.placed_programs.specs.Entries.{PlainFix, fix_line, lines_of, front_fixes, entries_of}
 
 rest_of : (st : Standing) (l : PlainObjectLine) (ls : List PlainObjectLine) → are_lines st (l ∷ ls) ≡ true → are_lines (after st l) ls ≡ true
 rest_of st l ls e = (and_parts (has_names l && may_follow st l) (are_lines (after st l) ls) e).1

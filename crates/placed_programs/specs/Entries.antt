@@ -1,5 +1,5 @@
 -- What sources and objects say alike: lists of entries, which differ in what a cell holds.
-use Rattle.std.specs.Prelude.{ℕ, ℤ, List, [], ◌∷◌, ◌++◌, map, flat_map}
+use Rattle.std.specs.Prelude.{ℕ, ℤ, List, [], ◌∷◌, map, flat_map}
 use Rattle.asm_source.specs.Plain.{PlainSum}
 use Rattle.lisa_object.specs.declared.parts.FixKind.{FixKind}
 use Rattle.lisa_object.specs.Objects.{PlainObjectLine, Section, Space, Label, Equ, Global, Cell, Fix}

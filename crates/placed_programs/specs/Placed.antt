@@ -1,5 +1,5 @@
 -- The image of programs that are placed one behind the other in each memory.
-use Rattle.std.specs.Prelude.{ℕ, ◌+◌, ◌*◌, ◌^◌, ℤ, Bool, true, false, List, [], ◌∷◌, ◌++◌, map, filter, flat_map, replicate, sum_by, not, Option, Some, None, if◌then◌else◌}
+use Rattle.std.specs.Prelude.{ℕ, ◌+◌, ◌*◌, ◌^◌, ℤ, Bool, true, false, List, [], ◌∷◌, ◌++◌, map, filter, flat_map, replicate, sum_by, None}
 use Rattle.std.specs.Str.{bytes_eq}
 use Rattle.lisa_words.specs.Words.{reduced}
 use Rattle.lisa_engine.specs.Memory.{Memory}

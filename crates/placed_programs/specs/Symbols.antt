@@ -1,5 +1,5 @@
 -- Symbols of programs that are placed one behind the other, and the values of sums.
-use Rattle.std.specs.Prelude.{ℕ, ℤ, pos, neg_ℤ, ◌+ℤ◌, Bool, true, false, List, [], ◌∷◌, ◌++◌, map, filter, fold, flat_map, Option, Some, None, unwrap_or}
+use Rattle.std.specs.Prelude.{ℕ, ℤ, pos, neg_ℤ, ◌+ℤ◌, Bool, true, false, List, [], ◌∷◌, filter, flat_map, Option, Some, None, unwrap_or}
 use Rattle.std.specs.List.{list_any}
 use Rattle.std.specs.Map.{lookup}
 use Rattle.std.specs.Option.{option_or}
@@ -7,7 +7,7 @@ use Rattle.std.specs.Str.{bytes_eq}
 use Rattle.asm_source.specs.Plain.{PlainSum}
 use Rattle.asm_source.specs.declared.parts.Term.{Term}
 use Rattle.placed_programs.specs.Entries.{Entry, Enter, Room, Put, Mark, Equal, Share}
-use Rattle.placed_programs.specs.Addresses.{Counts, no_cells, counts_after, definitions}
+use Rattle.placed_programs.specs.Addresses.{Counts, counts_after, definitions}
 
 -- the parts, each with the cells that stand before it; each part begins outside of any section
 abbrev pub with_counts : {C : Type 0} → Counts → List (List (Entry C)) → List (Counts × List (Entry C))

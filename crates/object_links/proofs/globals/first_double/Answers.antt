@@ -1,4 +1,4 @@
-use Rattle.std.proofs.Common.{◌≡◌, ◌∷◌, ◌+◌, ℕ, List, Bor, [], drop, map, refl, sym, ap, ◌∙◌, rules, arith}
+use Rattle.std.proofs.Common.{◌∷◌, ◌+◌, ℕ, List, Bor, [], drop, map, refl, sym, ap, ◌∙◌, rules, arith}
 use Rattle.std.proofs.lemmas.List.{drop_all}
 use Rattle.object_links.specs.Firsts.{first_double}
 use Rattle.object_links.proofs.Steps.{one_name}

@@ -1,4 +1,4 @@
-use Rattle.std.proofs.Common.{◌≡◌, ◌∷◌, ◌+◌, ℕ, List, Option, None, drop, map, sym, ap, ◌∙◌, arith}
+use Rattle.std.proofs.Common.{◌∷◌, ◌+◌, ℕ, List, Option, None, drop, map, sym, ap, ◌∙◌, arith}
 use Rattle.std.specs.Option.{option_copied}
 use Rattle.lisa_object.specs.declared.parts.ObjectLine.{ObjectLine}
 use Rattle.lisa_object.specs.Objects.{PlainObjectLine, object_line_tree}

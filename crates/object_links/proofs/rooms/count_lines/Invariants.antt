@@ -1,4 +1,4 @@
-use Rattle.std.proofs.Common.{◌≡◌, ℕ, List, None, drop, map}
+use Rattle.std.proofs.Common.{None, drop, map}
 use Rattle.std.specs.Option.{option_copied}
 use Rattle.lisa_object.specs.Objects.{object_line_tree}
 use Rattle.placed_programs.specs.Entries.{entries_of}

@@ -1,4 +1,4 @@
-use Rattle.std.proofs.Common.{◌≡◌, ◌∷◌, ◌+◌, ℕ, List, drop, map, sym, ap, ◌∙◌, arith}
+use Rattle.std.proofs.Common.{◌∷◌, ◌+◌, List, drop, map, sym, ap, ◌∙◌, arith}
 use Rattle.lisa_object.specs.declared.parts.Object.{Object}
 use Rattle.lisa_object.specs.Objects.{object_tree}
 use Rattle.placed_programs.specs.Entries.{entries_of}

@@ -1,4 +1,4 @@
-use Rattle.std.proofs.Common.{◌≡◌, ℕ, List, drop, map}
+use Rattle.std.proofs.Common.{drop, map}
 use Rattle.lisa_object.specs.Objects.{object_tree}
 use Rattle.placed_programs.specs.Addresses.{no_cells}
 use Rattle.object_links.specs.LinkFaults.{all_counts}

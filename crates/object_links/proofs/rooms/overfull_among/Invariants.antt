@@ -1,4 +1,4 @@
-use Rattle.std.proofs.Common.{◌≡◌, ℕ, List, drop}
+use Rattle.std.proofs.Common.{◌≡◌, drop}
 use Rattle.placed_programs.specs.Addresses.{Counts}
 use Rattle.object_links.specs.Firsts.{first_of}
 use Rattle.object_links.specs.LinkFaults.{if_overfull}
