@@ -1,0 +1,5 @@
+pub mod Finding
+pub mod Lined
+pub mod Putting
+pub mod Written
+pub mod Reading
