@@ -1,0 +1,4 @@
+pub mod Memories
+pub mod Sources
+pub mod Objects
+pub mod Faults
