@@ -1,0 +1,2 @@
+mod Signed
+mod Computing

@@ -1,0 +1,4 @@
+//! What expressions of behaviours become in a step program: templates over operands, and laws that each has the value that is defined.
+#![tactic(auto)]
+
+pub mod laws;
