@@ -5,3 +5,4 @@ pub mod Slots
 pub mod Stored
 pub mod Listing
 pub mod Shaped
+pub mod Sample
