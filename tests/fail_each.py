@@ -6,7 +6,7 @@
 Each command is run once, and then once for each of its calls, in which that call fails, and once more in which all behind it fail too. The
 answer is the right one, or the status and line of that want or fault, behind a front of the right output. Beside this, each read and write
 takes one byte, which changes nothing. The calls fail by a small library that is put before the C library, and is built with a C compiler;
-where there is none nothing is tested. Of more than 1,500 calls of a sort some of them are taken, evenly."""
+where there is none nothing is tested. Of more than 600 calls of a sort some of them are taken, evenly."""
 
 import os
 import shutil
@@ -18,7 +18,7 @@ from concurrent.futures import ThreadPoolExecutor
 
 HERE = os.path.dirname(os.path.abspath(__file__))
 TOP = os.path.dirname(HERE)
-MOST = 1500
+MOST = 600
 SHOWN = 10
 # the sorts of calls, as the library numbers them, with the status and the line of their failing
 SORTS = [("allocation", 5, b"lisa: out of memory\n"), ("read", 3, b"lisa: read fault\n"), ("write", 4, None)]
