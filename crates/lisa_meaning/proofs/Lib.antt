@@ -5,4 +5,5 @@ pub mod Slots
 pub mod Stored
 pub mod Listing
 pub mod Shaped
+pub mod Shown
 pub mod Sample

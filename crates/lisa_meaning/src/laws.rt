@@ -1,13 +1,12 @@
 //! Laws on the meaning of descriptions. Each is the contract of a function that does nothing.
 
-ghost use Rattle.std.specs.Prelude.{◌≡◌, ◌≢◌, ℕ, List, AllPairs, Option, None};
+ghost use Rattle.std.specs.Prelude.{◌≡◌, ℕ, List, Option, None};
 ghost use Rattle.lisa_tree.specs.Descriptions.{DescriptionTree};
 ghost use Rattle.lisa_engine.specs.Memory.{Memory};
 ghost use Rattle.lisa_engine.specs.Images.{IsImage, missing_memory};
 ghost use Rattle.lisa_engine.specs.Shape.{IsShaped};
 ghost use Rattle.lisa_machine.specs.Verdicts.{IsAccepted};
-ghost use Rattle.machine_parts.specs.Parts.{arrays_of, registers_of};
-ghost use Rattle.machine_parts.specs.Laws.{HaveWidths};
+ghost use Rattle.machine_parts.specs.Parts.{arrays_of};
 ghost use Rattle.instruction_forms.specs.Widths.{HasWidth};
 ghost use Rattle.description_sizes.specs.Sizes.{items};
 ghost use Rattle.lisa_coding.specs.declared.coding.Coding.{Coding};
@@ -44,7 +43,7 @@ pub fn words_are_decoded_once()
 {}
 
 /// After any edges, whatever the values of their pins, the state has one value for each item and for each cell of each array, within its
-/// width. Asked are widths that words have, and distinct names of arrays, as each accepted description has them.
+/// width.
 pub fn states_are_shaped()
-    ensures { (d : DescriptionTree) (width : Option ℕ) (image : List Memory) (entries : List (List ℕ)) → HaveWidths (registers_of d) → AllPairs (λ a b. a.name ≢ b.name) (arrays_of d) → HasWidth d width → IsImage image → missing_memory (arrays_of d) image ≡ None → IsShaped (items d width) (arrays_of d) (state_of d image entries) }
+    ensures { (d : DescriptionTree) (width : Option ℕ) (image : List Memory) (entries : List (List ℕ)) → IsAccepted d → HasWidth d width → IsImage image → missing_memory (arrays_of d) image ≡ None → IsShaped (items d width) (arrays_of d) (state_of d image entries) }
 {}
