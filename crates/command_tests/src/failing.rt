@@ -160,3 +160,101 @@ fn a_call_fails(rt: HostRuntime) -> Result<(), Fail> {
     }
     Ok(())
 }
+
+// What the program answers, prints and says.
+struct Seen {
+    status: &'static str,
+    printed: Vec<u8>,
+    said: Vec<u8>,
+}
+
+// What is seen where these calls fail.
+fn seen(alloc: Global, asked: &str, failing: [&[u64]; 4]) -> Result<Seen, Fail> {
+    let mut input = MemSource::new(LINES.to_vec(alloc)?, failing[1].to_vec(alloc)?);
+    let mut out = sink(alloc, failing[2])?;
+    let mut err = sink(alloc, failing[3])?;
+    let status = lisa(
+        alloc,
+        &words(alloc, asked)?,
+        &mut files(alloc, failing[0])?,
+        &mut input,
+        &mut out,
+        &mut err,
+    );
+    Ok(Seen {
+        status: word(status),
+        printed: out.bytes().to_vec(alloc)?,
+        said: err.bytes().to_vec(alloc)?,
+    })
+}
+
+// Whether what is seen is what nothing but a failing read shows.
+fn is_unread(whole: &Seen, cut: &Seen) -> bool {
+    cut.status == "read fault"
+        && cut.said.as_slice() == FAULT
+        && whole.printed.starts_with(&cut.printed)
+}
+
+// Whether it is what a failing put on the output shows.
+fn is_unprinted(whole: &Seen, cut: &Seen) -> bool {
+    cut.status == "write fault" && cut.said.is_empty() && whole.printed.starts_with(&cut.printed)
+}
+
+// Whether it is what a failing put of what is said shows.
+fn is_unsaid(whole: &Seen, cut: &Seen) -> bool {
+    cut.status == "write fault" && cut.printed == whole.printed && whole.said.starts_with(&cut.said)
+}
+
+// Whether a call shows nothing, since it isn't made.
+fn is_same(whole: &Seen, cut: &Seen) -> bool {
+    cut.status == whole.status && cut.printed == whole.printed && cut.said == whole.said
+}
+
+// Whether this call of each of the four fails as it should, or isn't made.
+fn fails_well(alloc: Global, asked: &str, whole: &Seen, call: u64) -> Result<bool, Fail> {
+    let once = [call];
+    let once = once.as_slice();
+    let none = [].as_slice();
+    let file = seen(alloc, asked, [once, none, none, none])?;
+    let input = seen(alloc, asked, [none, once, none, none])?;
+    let out = seen(alloc, asked, [none, none, once, none])?;
+    let err = seen(alloc, asked, [none, none, none, once])?;
+    Ok(
+        (is_same(whole, &file) || is_unread(whole, &file) && file.printed.is_empty())
+            && (is_same(whole, &input) || is_unread(whole, &input))
+            && (is_same(whole, &out) || is_unprinted(whole, &out))
+            && (is_same(whole, &err) || is_unsaid(whole, &err)),
+    )
+}
+
+// The words of each command that is built, with what is given and with what is refused.
+const COMMANDS: [&str; 14] = [
+    "",
+    "fmt D",
+    "fmt V",
+    "fmt G",
+    "check D",
+    "check V",
+    "run D - - 3",
+    "run V - - 3",
+    "trace D - - 3",
+    "debug D - -",
+    "clock V - - 2",
+    "clock V D - 2",
+    "clocktrace V - D 2",
+    "vdebug V - -",
+];
+
+#[test]
+fn each_call_fails(rt: HostRuntime) -> Result<(), Fail> {
+    for asked in COMMANDS {
+        let whole = seen(rt.alloc(), asked, NONE)?;
+        for call in 1..24 {
+            assert!(rt;
+                fails_well(rt.alloc(), asked, &whole, call)?,
+                "{asked}, call {call}"
+            );
+        }
+    }
+    Ok(())
+}

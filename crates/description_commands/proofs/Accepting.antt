@@ -11,6 +11,7 @@ use Rattle.lisa_outcomes.specs.declared.status.End.TheVariants as ends
 use Rattle.lisa_outcomes.specs.declared.status.Refusal.TheVariants as refusals
 use Rattle.lisa_outcomes.specs.Stages.{Finds}
 use Rattle.lisa_outcomes.proofs.Finding.{found_ok, found_memory, found_refused}
+use Rattle.lisa_outcomes.proofs.Refusals.{description_refusal}
 use Rattle.description_commands.specs.Checks.{IsSound, IsFaulty}
 use Rattle.description_commands.specs.Unread.{unread_end}
 use Rattle.description_commands.proofs.Faulty.{memory_is_no_refusal, unread_is}
@@ -22,7 +23,7 @@ pub refused_finds : (d : DescriptionTree) (f : DescFault) → ((f ≡ descriptio
 refused_finds d f broken = ⊎_elim
     (λ m. subst (λ (e : End). Finds {X = Description} description_tree (IsSound d) (IsFaulty d) (Err e)) (sym m) (found_memory description_tree (IsSound d) (IsFaulty d)))
     (λ r. subst (λ (e : End). Finds {X = Description} description_tree (IsSound d) (IsFaulty d) (Err e)) (sym r)
-    (⊎_elim (λ w. absurd (wanted w r)) (λ b. found_refused description_tree (IsSound d) (IsFaulty d) (refusals.Description f) (f, b, refl) (λ t here. no_fault_in_accepted d f here.1 b)) broken))
+    (⊎_elim (λ w. absurd (wanted w r)) (λ b. found_refused description_tree (IsSound d) (IsFaulty d) (refusals.Description f) (description_refusal f (λ e. wanted e r)) (f, b, refl) (λ t here. no_fault_in_accepted d f here.1 b)) broken))
     (unread_is f)
   where
     wanted : f ≡ descriptions.NoMemory → unread_end f ≡ ends.Refused (refusals.Description f) → ⊥

@@ -14,6 +14,7 @@ use Rattle.description_commands.specs.Descriptions.{IsUnread}
 use Rattle.lisa_outcomes.specs.Stages.{Finds}
 use Rattle.description_commands.specs.Unread.{unread_end}
 use Rattle.lisa_outcomes.proofs.Finding.{found_memory, found_refused}
+use Rattle.lisa_outcomes.proofs.Refusals.{description_refusal}
 
 pub memory_is_no_refusal : (r : Refusal) → ends.NoMemory ≡ ends.Refused r → ⊥
 memory_is_no_refusal r e = cc
@@ -28,7 +29,7 @@ pub unread_finds : (bytes : List ℕ) (f : DescFault) → ((f ≡ descriptions.N
 unread_finds bytes f broken only = ⊎_elim
     (λ m. subst (λ (e : End). Finds {X = Description} description_tree (SpellsText bytes) (IsUnread bytes) (Err e)) (sym m) (found_memory description_tree (SpellsText bytes) (IsUnread bytes)))
     (λ r. subst (λ (e : End). Finds {X = Description} description_tree (SpellsText bytes) (IsUnread bytes) (Err e)) (sym r)
-    (found_refused description_tree (SpellsText bytes) (IsUnread bytes) (refusals.Description f)
+    (found_refused description_tree (SpellsText bytes) (IsUnread bytes) (refusals.Description f) (description_refusal f (λ e. wanted e r))
     (⊎_elim (λ w. absurd (wanted w r)) (λ b. (f, b, refl)) broken) (λ t h. wanted (only t h) r)))
     (unread_is f)
   where

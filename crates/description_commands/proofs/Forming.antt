@@ -16,6 +16,7 @@ use Rattle.lisa_outcomes.specs.declared.status.End.TheVariants as ends
 use Rattle.lisa_outcomes.specs.declared.status.Refusal.TheVariants as refusals
 use Rattle.lisa_outcomes.specs.Stages.{Finds}
 use Rattle.lisa_outcomes.proofs.Finding.{found_ok, found_memory, found_refused}
+use Rattle.lisa_outcomes.proofs.Refusals.{description_refusal}
 use Rattle.description_commands.specs.Checks.{AreCounts, IsMisformed, counts_with}
 use Rattle.description_commands.specs.FormCounts.{counts_of}
 use Rattle.description_commands.specs.Instructions.{HasInstructions, IsFirstInstructionFault}
@@ -44,7 +45,7 @@ pub misformed_finds : (d : DescriptionTree) (f : DescFault) → ((f ≡ descript
 misformed_finds d f broken = ⊎_elim
     (λ m. subst (λ (e : End). Finds {X = Forms} (counts_of d) (AreCounts d) (IsMisformed d) (Err e)) (sym m) (found_memory (counts_of d) (AreCounts d) (IsMisformed d)))
     (λ r. subst (λ (e : End). Finds {X = Forms} (counts_of d) (AreCounts d) (IsMisformed d) (Err e)) (sym r)
-    (⊎_elim (λ w. absurd (wanted w r)) (λ b. found_refused (counts_of d) (AreCounts d) (IsMisformed d) (refusals.Description f) (f, b, refl) (λ c told. no_fault_in_instructions d f told.well b)) broken))
+    (⊎_elim (λ w. absurd (wanted w r)) (λ b. found_refused (counts_of d) (AreCounts d) (IsMisformed d) (refusals.Description f) (description_refusal f (λ e. wanted e r)) (f, b, refl) (λ c told. no_fault_in_instructions d f told.well b)) broken))
     (unread_is f)
   where
     wanted : f ≡ descriptions.NoMemory → unread_end f ≡ ends.Refused (refusals.Description f) → ⊥

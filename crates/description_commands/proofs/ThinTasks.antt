@@ -1,16 +1,15 @@
 -- From a task under an empty schedule to the same over a thin description.
-use Rattle.std.proofs.Common.{◌≡◌, ◌∙◌, sym, ap, refl, subst, arith, List, ℕ, [], Option, Result, Ok, Err}
-use Rattle.lisa_io.proofs.Known.{appends_none}
+use Rattle.std.proofs.Common.{◌≡◌, ◌∙◌, sym, ap, refl, subst, List, ℕ, [], Option, Result, Ok, Err}
 use Rattle.lisa_engine.specs.ScheduleLine.{Line}
 use Rattle.lisa_engine.specs.Text.{state_text, trace_text}
 use Rattle.lisa_engine.specs.State.{State}
 use Rattle.lisa_engine.specs.declared.schedule.ScheduleFault.{ScheduleFault}
 use Rattle.lisa_outcomes.specs.declared.status.End.{End}
-use Rattle.lisa_outcomes.specs.declared.status.End.TheVariants as ends
 use Rattle.lisa_outcomes.specs.declared.status.Refusal.{Refusal}
 use Rattle.lisa_outcomes.specs.Outcomes.{Outcome, Finished, passed, stopped}
 use Rattle.lisa_outcomes.specs.Ends.{Ends}
-use Rattle.lisa_outcomes.proofs.Told.{err_is, not_ok, ok_is_no_err}
+use Rattle.lisa_outcomes.proofs.Within.{within_more}
+use Rattle.lisa_outcomes.proofs.Told.{ok_is_no_err}
 use Rattle.engine_commands.specs.declared.tasks.Task.{Task}
 use Rattle.engine_commands.specs.declared.tasks.Task.TheVariants as tasks
 use Rattle.engine_commands.specs.Machines.{Machine, AfterSchedule, machine_state}
@@ -54,10 +53,11 @@ same_ends : {T W : Type 0} (Told : W → Type 0) (Gives Gives' : W → Outcome �
 same_ends Told Gives Gives' Blamed Blamed' before after old new result to from blamed ends = record {
   done = λ ok w e. let r = ends.done ok w e in (r.0, to w _ r.1, r.2);
   refused = λ refusal is w e. let r = ends.refused refusal is w e in (r.0, to w _ r.1, r.2);
+  real = ends.real;
   read = λ is. blamed (ends.read is);
   later = ends.later;
   write = ends.write;
-  front = λ w outcome e gives. ends.front w outcome e (from w outcome gives);
+  front = λ w e. within_more (Gives w) (Gives' w) before after (to w) (ends.front w e);
   finished = λ w text e gives. ends.finished w text e (from w _ gives);
   refusing = λ w refusal text e gives. ends.refusing w refusal text e (from w _ gives);
 }
@@ -71,25 +71,3 @@ thin_ends {T = T} task t m left rest first last before after old new result is h
     (λ bytes outcome same. passed refl (outcome_of task t bytes outcome same))
     (λ b. (b.0, cut_none t left rest before after b.1))
     (subst (λ (m' : Machine). Ends {T = T} (IsHeard task left) (GivesUnder task m' []) (HasFailed task first last × IsCutUnder m' [] left rest before after) before after old new result) is how)
-
--- memory was wanted, and nothing was written
-pub wanting_ends : {T W : Type 0} (Told : W → Type 0) (Gives : W → Outcome → Type 0) (Blamed : Type 0) (sink : Option (List ℕ)) (old : ℕ) → Ends {T = T} Told Gives Blamed sink sink old old (Err ends.NoMemory)
-wanting_ends Told Gives Blamed sink old = record {
-  done = λ ok. absurd (not_ok ok);
-  refused = λ refusal is. absurd (refuses refusal (err_is _ _ is));
-  read = λ is. absurd (reads (err_is _ _ is));
-  later = omega arith;
-  write = λ is. absurd (writes (err_is _ _ is));
-  front = λ w outcome e gives. (0, omega arith, appends_none sink);
-  finished = λ w text e gives refusal is. refuses refusal (err_is _ _ is);
-  refusing = λ w refusal text e gives ok. not_ok ok;
-}
-  where
-    refuses : (r : Refusal) → ends.NoMemory ≡ ends.Refused r → ⊥
-    refuses r e = cc
-
-    reads : ends.NoMemory ≡ ends.ReadFault → ⊥
-    reads e = cc
-
-    writes : ends.NoMemory ≡ ends.WriteFault → ⊥
-    writes e = cc

@@ -8,7 +8,7 @@ use Rattle.lisa_printer.specs.CanonicalTokens.{description_tokens}
 use Rattle.lisa_outcomes.specs.declared.status.Refusal.{Refusal}
 use Rattle.lisa_outcomes.specs.declared.status.Refusal.TheVariants as refusals
 use Rattle.lisa_reader.specs.Answers.{IsBroken}
-use Rattle.lisa_outcomes.specs.Outcomes.{Outcome, Finished, FileMap, After, AfterReading}
+use Rattle.lisa_outcomes.specs.Outcomes.{Outcome, Finished, After}
 
 -- the most bytes of a description
 abbrev pub description_limit : ℕ
@@ -20,9 +20,6 @@ IsUnread bytes refusal = (fault : DescFault) × IsBroken bytes fault × (refusal
 
 abbrev pub AfterSpelling : List ℕ → (DescriptionTree → Outcome → Type 0) → Outcome → Type 0
 AfterSpelling bytes Then = After (SpellsText bytes) (IsUnread bytes) Then
-
-abbrev pub AfterDescription : FileMap → List ℕ → (DescriptionTree → Outcome → Type 0) → Outcome → Type 0
-AfterDescription files name Then = AfterReading files name description_limit (λ bytes. AfterSpelling bytes Then)
 
 -- the canonical text
 abbrev pub Formats : DescriptionTree → Outcome → Type 0

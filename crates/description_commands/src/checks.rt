@@ -1,26 +1,22 @@
 //! The command that only checks a description.
-ghost use Rattle.std.specs.Prelude.{◌≡◌, ◌<◌, ◌^◌, [], length, false, IfOk};
-ghost use Rattle.std.specs.Io.KnownBytes.{Appends};
-ghost use Rattle.lisa_io.specs.Causes.{Rose};
+ghost use Rattle.std.specs.Prelude.{◌<◌, ◌^◌, length, IfOk};
 ghost use Rattle.lisa_tree.specs.Descriptions.{description_tree};
-ghost use Rattle.description_commands.specs.Descriptions.{AfterSpelling, AfterDescription};
+ghost use Rattle.description_commands.specs.Descriptions.{AfterSpelling};
 ghost use Rattle.description_commands.specs.Checks.{IsSound, IsFaulty, AreCounts, IsMisformed, counts_text, Unfolds, Checks};
 ghost use Rattle.description_commands.specs.FormCounts.{counts_of};
 ghost use Rattle.lisa_forms.specs.Parts.{AreFormsOf};
 ghost use Rattle.lisa_machine.specs.Machines.{IsSpelled};
-ghost use Rattle.lisa_outcomes.specs.Ends.{Ends, AreHeld};
 ghost use Rattle.lisa_outcomes.specs.Replies.{Replies};
 ghost use Rattle.lisa_outcomes.specs.Stages.{Finds};
 ghost use Rattle.lisa_outcomes.specs.Writes.{Writes};
 
-use crate::commands::DESCRIPTION_LIMIT;
 use crate::counts::{Counts, put_counts};
 use crate::instructions::checked_forms;
 use crate::reading::{description_of, unread};
 use lisa_forms::Forms;
-use lisa_io::{Files, Sink};
+use lisa_io::Sink;
 use lisa_machine::{Machine, check};
-use lisa_outcomes::{End, load};
+use lisa_outcomes::End;
 use lisa_tree::Description;
 use std::alloc::Global;
 
@@ -77,30 +73,14 @@ fn check_tree<O: Sink>(alloc: Global, description: Description, out: &mut O) -> 
     }
 }
 
-// `check` on the bytes of a description.
-fn check_bytes<O: Sink>(alloc: Global, bytes: &[u8], out: &mut O) -> Result<(), End>
+/// `check`: writes how many operations the description has that the bytes spell, and how many forms, occurrences and items it unfolds to,
+/// where no condition is broken in it, and is refused with the first fault of the first condition that is.
+pub fn check_description<O: Sink>(alloc: Global, bytes: &[u8], out: &mut O) -> Result<(), End>
     requires { length bytes.now < 2 ^ 32 }
     ensures { Replies (AfterSpelling bytes.now Checks) (O.written out.old) (O.written out.new) (O.faults out.old) (O.faults out.new) result }
 {
     match description_of(alloc, bytes) {
         Ok(description) => check_tree(alloc, description, out),
-        Err(end) => Err(end),
-    }
-}
-
-/// `check` on a file: writes how many operations its description has, and how many forms, occurrences and items it unfolds to, where no
-/// condition is broken in it, and is refused with the first fault of the first condition that is.
-pub fn check_file<F: Files, O: Sink>(
-    alloc: Global,
-    description: &str,
-    files: &mut F,
-    out: &mut O,
-) -> Result<(), End>
-    ensures { Ends (AreHeld (F.held files.old)) (λ files. AfterDescription files description.now Checks)
-        (Rose (F.faults files.old description.now) (F.faults files.new description.now) × Appends (O.written out.old) (O.written out.new) []) (O.written out.old) (O.written out.new) (O.faults out.old) (O.faults out.new) result }
-{
-    match load(alloc, files, description, DESCRIPTION_LIMIT) {
-        Ok(bytes) => check_bytes(alloc, &bytes, out),
         Err(end) => Err(end),
     }
 }

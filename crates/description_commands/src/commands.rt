@@ -1,28 +1,24 @@
-//! The commands, over the file that they name.
-ghost use Rattle.std.specs.Prelude.{◌≡◌, ◌≤◌, ◌<◌, ◌^◌, List, ℕ, [], length, false};
-ghost use Rattle.std.specs.Io.KnownBytes.{Appends};
-ghost use Rattle.lisa_io.specs.Causes.{Rose};
+//! The commands, over the bytes of a description.
+ghost use Rattle.std.specs.Prelude.{◌≡◌, ◌≤◌, ◌<◌, ◌^◌, length, false};
 ghost use Rattle.lisa_tree.specs.Descriptions.{description_tree};
 ghost use Rattle.lisa_printer.specs.CanonicalText.{canonical_text};
 ghost use Rattle.lisa_printer.specs.CanonicalTokens.{description_tokens};
-ghost use Rattle.description_commands.specs.Descriptions.{AfterSpelling, AfterDescription, Formats};
-ghost use Rattle.description_commands.specs.Tasks.{GivesDescription, IsTold, IsCutText, IsStopped};
+ghost use Rattle.description_commands.specs.Descriptions.{AfterSpelling, Formats};
+ghost use Rattle.description_commands.specs.Tasks.{IsCutText};
 ghost use Rattle.description_commands.specs.ThinRuns.{GivesTree};
 ghost use Rattle.engine_commands.specs.Tasks.{takes_input, IsHeard, HasFailed};
-ghost use Rattle.lisa_outcomes.specs.Ends.{Ends, AreHeld};
+ghost use Rattle.lisa_outcomes.specs.Ends.{Ends};
 ghost use Rattle.lisa_outcomes.specs.Replies.{Replies};
 ghost use Rattle.lisa_outcomes.specs.Writes.{Writes};
 
 use crate::reading::description_of;
 use crate::running::do_with_tree;
 use engine_commands::Task;
-use lisa_io::{Files, Flush, Sink, Source, put_all};
-use lisa_outcomes::{End, load};
+use lisa_io::{Flush, Sink, Source, put_all};
+use lisa_outcomes::End;
 use lisa_printer::print_description;
 use lisa_tree::Description;
 use std::alloc::Global;
-
-pub(crate) const DESCRIPTION_LIMIT: u64 = 1_048_576;
 
 // Writes the canonical text of a description.
 fn format_tree<O: Sink>(alloc: Global, description: &Description, out: &mut O) -> Result<(), End>
@@ -38,8 +34,8 @@ fn format_tree<O: Sink>(alloc: Global, description: &Description, out: &mut O) -
     }
 }
 
-// `fmt` on the bytes of a description.
-fn format_bytes<O: Sink>(alloc: Global, bytes: &[u8], out: &mut O) -> Result<(), End>
+/// `fmt`: writes the canonical text of the description that the bytes spell.
+pub fn format_description<O: Sink>(alloc: Global, bytes: &[u8], out: &mut O) -> Result<(), End>
     requires { length bytes.now < 2 ^ 32 }
     ensures { Replies (AfterSpelling bytes.now Formats) (O.written out.old) (O.written out.new) (O.faults out.old) (O.faults out.new) result }
 {
@@ -49,24 +45,9 @@ fn format_bytes<O: Sink>(alloc: Global, bytes: &[u8], out: &mut O) -> Result<(),
     }
 }
 
-/// `fmt` on a file: writes the canonical text of its description.
-pub fn format_file<F: Files, O: Sink>(
-    alloc: Global,
-    description: &str,
-    files: &mut F,
-    out: &mut O,
-) -> Result<(), End>
-    ensures { Ends (AreHeld (F.held files.old)) (λ files. AfterDescription files description.now Formats)
-        (Rose (F.faults files.old description.now) (F.faults files.new description.now) × Appends (O.written out.old) (O.written out.new) []) (O.written out.old) (O.written out.new) (O.faults out.old) (O.faults out.new) result }
-{
-    match load(alloc, files, description, DESCRIPTION_LIMIT) {
-        Ok(bytes) => format_bytes(alloc, &bytes, out),
-        Err(end) => Err(end),
-    }
-}
-
-// A task over the description that bytes spell.
-fn do_with_bytes<I: Source, O: Flush>(
+/// Does a task over the description that the bytes spell: `run` is its state after some edges, `debug` the answers to the lines of the
+/// input.
+pub fn do_with_description<I: Source, O: Flush>(
     alloc: Global,
     bytes: &[u8],
     task: Task,
@@ -78,29 +59,10 @@ fn do_with_bytes<I: Source, O: Flush>(
         (HasFailed task (I.faults input.old) (I.faults input.new) × IsCutText bytes.now (I.left input.old) (I.left input.new) (O.written out.old) (O.written out.new))
         (O.written out.old) (O.written out.new) (O.faults out.old) (O.faults out.new) result }
     ensures input { takes_input task ≡ false → (I.left input.new ≡ I.left input.old) × (I.faults input.new ≡ I.faults input.old) }
+    ensures later { I.faults input.old ≤ I.faults input.new }
 {
     match description_of(alloc, bytes) {
         Ok(description) => do_with_tree(alloc, &description, task, input, out),
-        Err(end) => Err(end),
-    }
-}
-
-/// Does a task over the description of a file: `run` is its state after some edges, `debug` the answers to the lines of the input.
-pub fn do_with_description<F: Files, I: Source, O: Flush>(
-    alloc: Global,
-    description: &str,
-    task: Task,
-    files: &mut F,
-    input: &mut I,
-    out: &mut O,
-) -> Result<(), End>
-    ensures ends { Ends (IsTold (F.held files.old) (I.left input.old) task) (GivesDescription task description.now)
-        (IsStopped task description.now (F.held files.old) (F.faults files.old description.now) (F.faults files.new description.now) (I.left input.old) (I.left input.new) (I.faults input.old) (I.faults input.new) (O.written out.old) (O.written out.new))
-        (O.written out.old) (O.written out.new) (O.faults out.old) (O.faults out.new) result }
-    ensures input { takes_input task ≡ false → (I.left input.new ≡ I.left input.old) × (I.faults input.new ≡ I.faults input.old) }
-{
-    match load(alloc, files, description, DESCRIPTION_LIMIT) {
-        Ok(bytes) => do_with_bytes(alloc, &bytes, task, input, out),
         Err(end) => Err(end),
     }
 }

@@ -13,6 +13,6 @@ mod running;
 mod simulator;
 mod thin;
 
-pub use checks::check_file;
-pub use commands::{do_with_description, format_file};
+pub use checks::check_description;
+pub use commands::{do_with_description, format_description};
 pub use reading::description_of;

@@ -1,5 +1,5 @@
 //! Tasks over a description that is read.
-ghost use Rattle.std.specs.Prelude.{◌≡◌, [], false};
+ghost use Rattle.std.specs.Prelude.{◌≡◌, ◌≤◌, [], false};
 ghost use Rattle.lisa_tree.specs.Descriptions.{description_tree};
 ghost use Rattle.lisa_outcomes.specs.Ends.{Ends};
 ghost use Rattle.lisa_outcomes.specs.Stages.{Finds};
@@ -31,6 +31,7 @@ fn do_with_thin<I: Source, O: Flush>(
         (HasFailed task (I.faults input.old) (I.faults input.new) × IsCutOff (course_under (thin_machine (thin_of thin.now)) []) (I.left input.old) (I.left input.new) (O.written out.old) (O.written out.new))
         (O.written out.old) (O.written out.new) (O.faults out.old) (O.faults out.new) result }
     ensures input { takes_input task ≡ false → (I.left input.new ≡ I.left input.old) × (I.faults input.new ≡ I.faults input.old) }
+    ensures later { I.faults input.old ≤ I.faults input.new }
 {
     match Simulator::make(alloc, thin) {
         Ok(simulator) => do_task(alloc, simulator, task, b"", input, out),
@@ -60,6 +61,7 @@ pub fn do_with_tree<I: Source, O: Flush>(
         (HasFailed task (I.faults input.old) (I.faults input.new) × IsCutTree (description_tree description.now) (I.left input.old) (I.left input.new) (O.written out.old) (O.written out.new))
         (O.written out.old) (O.written out.new) (O.faults out.old) (O.faults out.new) result }
     ensures input { takes_input task ≡ false → (I.left input.new ≡ I.left input.old) × (I.faults input.new ≡ I.faults input.old) }
+    ensures later { I.faults input.old ≤ I.faults input.new }
 {
     match built(description) {
         Ok(thin) => do_with_thin(alloc, &thin, task, input, out),

@@ -11,6 +11,7 @@ use Rattle.lisa_outcomes.specs.declared.status.Refusal.{Refusal}
 use Rattle.lisa_outcomes.specs.declared.status.Refusal.TheVariants as refusals
 use Rattle.lisa_outcomes.specs.Stages.{Finds}
 use Rattle.lisa_outcomes.proofs.Finding.{found_ok, found_memory, found_refused}
+use Rattle.lisa_outcomes.proofs.Refusals.{image_refusal}
 use Rattle.engine_commands.specs.Images.{IsImageOf, IsNoImage}
 use Rattle.engine_commands.specs.Unread.{unread_image}
 
@@ -29,6 +30,6 @@ pub unimaged : (bytes : List ℕ) (fault : ImageFault) → IsRefusal bytes fault
     → Finds (λ (found : Option Stamped). found) (IsImageOf (Some bytes)) (IsNoImage (Some bytes)) (Err (unread_image fault))
 unimaged bytes images.NoMemory refusal only = found_memory (λ (found : Option Stamped). found) (IsImageOf (Some bytes)) (IsNoImage (Some bytes))
 unimaged bytes (images.NotAnImage line) refusal only = found_refused (λ (found : Option Stamped). found) (IsImageOf (Some bytes)) (IsNoImage (Some bytes)) (refusals.Image (images.NotAnImage line))
-    (λ image stamped same. only image stamped same, (line, refusal, refl)) (λ found is. only is.0 is.2 is.3)
+    (image_refusal (images.NotAnImage line) (λ e. cc)) (λ image stamped same. only image stamped same, (line, refusal, refl)) (λ found is. only is.0 is.2 is.3)
 unimaged bytes (images.OtherDescription kept expected) refusal only = absurd refusal
 unimaged bytes (images.NoSuchMemory name) refusal only = absurd refusal

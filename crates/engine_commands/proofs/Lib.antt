@@ -2,3 +2,4 @@ mod Scheduled
 mod Tracing
 mod SessionEnds
 mod Imaged
+pub mod CutOff

@@ -11,6 +11,7 @@ use Rattle.lisa_outcomes.specs.declared.status.Refusal.{Refusal}
 use Rattle.lisa_outcomes.specs.declared.status.Refusal.TheVariants as refusals
 use Rattle.lisa_outcomes.specs.Stages.{Finds}
 use Rattle.lisa_outcomes.proofs.Finding.{found_ok, found_memory, found_refused}
+use Rattle.lisa_outcomes.proofs.Refusals.{schedule_refusal}
 use Rattle.lisa_outcomes.proofs.Told.{ok_is_no_err}
 use Rattle.engine_commands.specs.Machines.{IsSchedule, IsNoSchedule}
 use Rattle.engine_commands.specs.Unread.{unscheduled_end}
@@ -43,7 +44,7 @@ pub unscheduled : (pins : List Item) (bytes : List ℕ) (f : ScheduleFault) → 
 unscheduled pins bytes f read = ⊎_elim
     (λ m. subst (λ (e : End). Finds (λ (s : List Line). s) (IsSchedule pins bytes) (IsNoSchedule pins bytes) (Err e)) (sym m) (found_memory (λ (s : List Line). s) (IsSchedule pins bytes) (IsNoSchedule pins bytes)))
     (λ r. subst (λ (e : End). Finds (λ (s : List Line). s) (IsSchedule pins bytes) (IsNoSchedule pins bytes) (Err e)) (sym r.0)
-    (found_refused (λ (s : List Line). s) (IsSchedule pins bytes) (IsNoSchedule pins bytes) (refusals.Schedule f) (f, here r.1, refl) (λ lines is. ok_is_no_err lines f (sym is ∙ here r.1))))
+    (found_refused (λ (s : List Line). s) (IsSchedule pins bytes) (IsNoSchedule pins bytes) (refusals.Schedule f) (schedule_refusal f r.1) (f, here r.1, refl) (λ lines is. ok_is_no_err lines f (sym is ∙ here r.1))))
     (unscheduled_is f)
   where
     here : (f ≡ schedules.NoMemory → ⊥) → schedule_of pins bytes ≡ Err f

@@ -1,5 +1,5 @@
 -- From what a session gives of an input to how its command ends.
-use Rattle.std.proofs.Common.{◌≡◌, ◌≢◌, ◌∙◌, sym, ap, refl, subst, List, ℕ, Option, Some, Result, Ok, Err, IsOk, OnOk, Bool, true, false}
+use Rattle.std.proofs.Common.{◌≡◌, ◌≢◌, ◌∙◌, sym, ap, refl, subst, List, ℕ, Option, Some, Result, Ok, Err, IsOk, OnOk, inr, Bool, true, false}
 use Rattle.std.specs.Io.KnownBytes.{Appends}
 use Rattle.lisa_io.specs.Causes.{Rose}
 use Rattle.lisa_io.specs.Contents.{AppendsFront}
@@ -15,6 +15,8 @@ use Rattle.lisa_outcomes.specs.declared.status.Refusal.TheVariants as refusals
 use Rattle.lisa_outcomes.specs.declared.status.InputFault.TheVariants as input_faults
 use Rattle.lisa_outcomes.specs.Outcomes.{Outcome, Finished, Refusing, written_of}
 use Rattle.lisa_outcomes.specs.Ends.{Ends}
+use Rattle.lisa_outcomes.specs.Refusals.{IsRefusal}
+use Rattle.lisa_outcomes.proofs.Refusals.{input_refusal}
 use Rattle.lisa_outcomes.proofs.Told.{err_is, not_ok}
 use Rattle.engine_commands.specs.Sessions.{given_up, session_outcome, IsCutOff, end_of, ended}
 
@@ -62,10 +64,11 @@ pub session_ended : (course : Course) (left rest before after : Option (List ℕ
 session_ended course left rest before after first last old new u ran gives causes = record {
   done = λ ok bytes e. let d = (gives bytes e).done in (session_text course bytes, ap (λ (b : Bool). given_up b (session_text course bytes)) (sym d.0), d.1);
   refused = λ refusal is. absurd (cc);
+  real = λ refusal is. absurd (cc);
   read = λ is. absurd (cc);
   later = causes.out_later;
   write = λ is. absurd (cc);
-  front = λ bytes outcome e is. subst (AppendsFront before after) (sym (ap written_of is ∙ written_given _ _)) (gives bytes e).front;
+  front = λ bytes e. inr (session_outcome course bytes, refl, subst (AppendsFront before after) (sym (written_given _ _)) (gives bytes e).front);
   finished = λ bytes text e is refusal refused. absurd (cc);
   refusing = λ bytes refusal text e is ok. refused_up _ refusal _ _ is (gives bytes e).done.0;
 }
@@ -79,12 +82,13 @@ session_failed course left rest before after first last old new end ran gives ca
       let kind = is_refusal end refusal (err_is _ _ is) in
       let d = (gives bytes e).too_long (ap Err kind.0) in
       (session_text course bytes, ap (λ (r : Refusal). Refusing r (session_text course bytes)) kind.1 ∙ ap (λ (b : Bool). given_up b (session_text course bytes)) (sym d.0), d.1);
+  real = λ refusal is. subst IsRefusal (sym (is_refusal end refusal (err_is _ _ is)).1) (input_refusal input_faults.TooLong (λ e. cc));
   read = λ is.
       let kind = is_read end (err_is _ _ is) in
       (causes.read_fault (ap Err kind), record { taken = ran.taken; consumed = ran.consumed; goes_on = ran.read_fault (ap Err kind) });
   later = causes.out_later;
   write = λ is. causes.write_fault (ap Err (is_write end (err_is _ _ is)));
-  front = λ bytes outcome e is. subst (AppendsFront before after) (sym (ap written_of is ∙ written_given _ _)) (gives bytes e).front;
+  front = λ bytes e. inr (session_outcome course bytes, refl, subst (AppendsFront before after) (sym (written_given _ _)) (gives bytes e).front);
   finished = λ bytes text e is refusal refused. finished_up _ _ _ is ((gives bytes e).too_long (ap Err (is_refusal end refusal (err_is _ _ refused)).0)).0;
   refusing = λ bytes refusal text e is ok. not_ok ok;
 }

@@ -31,11 +31,11 @@ fn spelled(alloc: Global, bytes: &[u8]) -> Result<Option<Stamped>, End>
 }
 
 /// The image of a run, where it isn't left out.
-pub fn image_of(alloc: Global, bytes: &RunBytes) -> Result<Option<Stamped>, End>
+pub fn image_of(alloc: Global, bytes: &RunBytes<'_>) -> Result<Option<Stamped>, End>
     requires { IfSome (bytes_of bytes.now).image (λ image. length image < 2 ^ 32) }
     ensures { Finds (λ image. image) (IsImageOf (bytes_of bytes.now).image) (IsNoImage (bytes_of bytes.now).image) result }
 {
-    match &bytes.image {
+    match bytes.image {
         Some(image) => spelled(alloc, image),
         None => Ok(None),
     }

@@ -1,5 +1,5 @@
 //! Sessions of the debugger over an engine.
-ghost use Rattle.std.specs.Prelude.{◌≡◌, [], Some};
+ghost use Rattle.std.specs.Prelude.{◌≡◌, ◌≤◌, [], Some};
 ghost use Rattle.lisa_io.specs.Causes.{Rose};
 ghost use Rattle.lisa_engine.specs.PinValues.{IsFor};
 ghost use Rattle.lisa_outcomes.specs.Ends.{Ends};
@@ -34,10 +34,11 @@ pub fn answer_under<E: Engine + Drop, I: Source, O: Flush>(
 ) -> Result<(), End>
     requires first { E.present engine ≡ E.defined engine [] }
     requires fits { IsFor (E.pin_list engine) schedule }
-    ensures { let machine = machine_of (E.pin_list engine) (E.item_list engine) (E.array_list engine) (E.defined engine) in
+    ensures ends { let machine = machine_of (E.pin_list engine) (E.item_list engine) (E.array_list engine) (E.defined engine) in
         Ends (λ bytes. I.left input.old ≡ Some bytes) (λ bytes outcome. outcome ≡ session_outcome (course_under machine schedule) bytes)
         (Rose (I.faults input.old) (I.faults input.new) × IsCutOff (course_under machine schedule) (I.left input.old) (I.left input.new) (O.written out.old) (O.written out.new))
         (O.written out.old) (O.written out.new) (O.faults out.old) (O.faults out.new) result }
+    ensures later { I.faults input.old ≤ I.faults input.new }
 {
     match answer_input(alloc, engine, schedule, input, out) {
         Ok(()) => Ok(()),

@@ -1,5 +1,5 @@
 //! What is to be done with an engine.
-ghost use Rattle.std.specs.Prelude.{◌≡◌, ◌<◌, ◌^◌, [], List, ℕ, length, false};
+ghost use Rattle.std.specs.Prelude.{◌≡◌, ◌≤◌, ◌<◌, ◌^◌, [], List, ℕ, length, false};
 ghost use Rattle.lisa_engine.specs.PinValues.{IsFor};
 ghost use Rattle.lisa_outcomes.specs.Ends.{Ends};
 ghost use Rattle.engine_commands.specs.Machines.{machine_of};
@@ -41,6 +41,7 @@ fn do_under<E: Engine + Drop, I: Source, O: Flush>(
         (HasFailed task (I.faults input.old) (I.faults input.new) × IsCutOff (course_under machine schedule) (I.left input.old) (I.left input.new) (O.written out.old) (O.written out.new))
         (O.written out.old) (O.written out.new) (O.faults out.old) (O.faults out.new) result }
     ensures input { takes_input task ≡ false → (I.left input.new ≡ I.left input.old) × (I.faults input.new ≡ I.faults input.old) }
+    ensures later { I.faults input.old ≤ I.faults input.new }
 {
     match task {
         Task::State { edges } => put_state(alloc, &mut engine, &schedule, edges, out),
@@ -65,6 +66,7 @@ pub fn do_task<E: Engine + Drop, I: Source, O: Flush>(
         (HasFailed task (I.faults input.old) (I.faults input.new) × IsCutUnder machine schedule.now (I.left input.old) (I.left input.new) (O.written out.old) (O.written out.new))
         (O.written out.old) (O.written out.new) (O.faults out.old) (O.faults out.new) result }
     ensures input { takes_input task ≡ false → (I.left input.new ≡ I.left input.old) × (I.faults input.new ≡ I.faults input.old) }
+    ensures later { I.faults input.old ≤ I.faults input.new }
 {
     match schedule_for(alloc, schedule, engine.pins()) {
         Ok(schedule) => do_under(alloc, engine, task, schedule, input, out),

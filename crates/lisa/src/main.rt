@@ -1,10 +1,10 @@
 //! The program: the real files and streams, and the exit status of each way to end.
 #![tactic(auto)]
 
-use lisa_cli::{Status, lisa};
+use lisa_cli::{Status, lisa, tell_no_memory};
 use lisa_io::{Buffered, HostFiles, HostSink, HostSource};
-use std::env;
 use std::process::ExitCode;
+use std::{env, io};
 
 // How many bytes of output are gathered before they are sent on.
 const ROOM: usize = 65_536;
@@ -21,22 +21,33 @@ fn exit_status(status: Status) -> u8 {
     }
 }
 
-// The words after the program's name. Where they can't be had as text, there are none.
-fn command_words(rt: &HostRuntime) -> Vec<String> {
-    let Ok(mut args) = env::args(rt) else {
-        return Vec::new(rt.alloc());
+// The words after the program's name; none at all where one of them is no text. It is `None` where memory was wanted for them.
+fn command_words(rt: &HostRuntime) -> Option<Vec<String>> {
+    let mut args = match env::args(rt) {
+        Ok(args) => args,
+        Err(error) => {
+            if error.kind() == io::ErrorKind::OutOfMemory {
+                return None;
+            }
+            return Some(Vec::new(rt.alloc()));
+        }
     };
     let _ = args.next();
-    args.collect(rt.alloc()).unwrap_or(Vec::new(rt.alloc()))
+    match args.collect(rt.alloc()) {
+        Ok(words) => Some(words),
+        Err(_) => None,
+    }
 }
 
 fn main(rt: HostRuntime) -> ExitCode {
-    let words = command_words(&rt);
+    let mut err = HostSink::new(rt.stderr());
+    let Some(words) = command_words(&rt) else {
+        return ExitCode::from(exit_status(tell_no_memory(&mut err)));
+    };
     let mut files = HostFiles::new(rt.alloc(), &rt);
     let mut input = HostSource::new(rt.stdin());
     let room = vec![in rt.alloc(); 0; ROOM].unwrap_or(Vec::new(rt.alloc()));
     let mut out = Buffered::new(HostSink::new(rt.stdout()), room);
-    let mut err = HostSink::new(rt.stderr());
     let status = lisa(
         rt.alloc(),
         &words,

@@ -1,13 +1,21 @@
 -- What each request gives for the files and the input that are there.
+use Rattle.std.specs.Prelude.{ℕ, List}
 use Rattle.lisa_outcomes.specs.Outcomes.{Outcome, Given}
-use Rattle.description_commands.specs.Descriptions.{AfterDescription, Formats}
+use Rattle.lisa_outcomes.specs.NamedFiles.{AfterFiles, file_at}
+use Rattle.lisa_outcomes.specs.RunFiles.{run_bytes}
+use Rattle.description_commands.specs.Descriptions.{AfterSpelling, Formats}
 use Rattle.description_commands.specs.Checks.{Checks}
-use Rattle.description_commands.specs.Tasks.{GivesDescription}
-use Rattle.module_commands.specs.Clocks.{GivesClocked}
-use Rattle.lisa_cli.specs.Requests.{Request, Format, Check, Simulate, Clock}
+use Rattle.description_commands.specs.ThinRuns.{GivesTree}
+use Rattle.module_commands.specs.Clocks.{GivesClock}
+use Rattle.lisa_cli.specs.Requests.{Request, Format, Check, Simulate, Clock, files_of}
 
+-- for the bytes of its files, in their order, and the bytes of the input
+abbrev pub GivesOver : Request → (bytes : List (List ℕ)) → (input : List ℕ) → Outcome → Type 0
+GivesOver (Format description) bytes input = AfterSpelling (file_at bytes 0) Formats
+GivesOver (Check description) bytes input = AfterSpelling (file_at bytes 0) Checks
+GivesOver (Simulate task description) bytes input = AfterSpelling (file_at bytes 0) (GivesTree task input)
+GivesOver (Clock task names) bytes input = GivesClock task (run_bytes names bytes) input
+
+-- for the files that it names: the first that is too long is told before anything else
 abbrev pub Gives : Given → Request → Outcome → Type 0
-Gives given (Format description) = AfterDescription given.files description Formats
-Gives given (Check description) = AfterDescription given.files description Checks
-Gives given (Simulate task description) = GivesDescription task description given
-Gives given (Clock task names) = GivesClocked task names given
+Gives given request = AfterFiles given.files (files_of request) (λ bytes. GivesOver request bytes given.input)

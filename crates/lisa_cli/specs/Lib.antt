@@ -6,7 +6,9 @@ pub mod DescriptionLines
 pub mod ModuleLines
 pub mod Gives
 pub mod Worlds
+pub mod Says
 pub mod Runs
+pub mod Headline
 pub mod Told
 pub mod Sent
 pub mod OwnLines

@@ -1,7 +1,10 @@
 -- What the words of a command line ask for.
 use Rattle.std.specs.Prelude.{ℕ, ◌≡◌, ◌≢◌, ◌≤◌, ◌||◌, Bool, false, List, [], ◌∷◌, Option, Some, None, codes, decimal}
 use Rattle.std.specs.Str.{bytes_eq}
-use Rattle.lisa_outcomes.specs.RunFiles.{RunNames}
+use Rattle.lisa_outcomes.specs.NamedFiles.{NamedFile, named}
+use Rattle.lisa_outcomes.specs.RunFiles.{RunNames, run_files}
+use Rattle.description_commands.specs.Descriptions.{description_limit}
+use Rattle.module_commands.specs.Clocks.{module_limit}
 use Rattle.engine_commands.specs.declared.tasks.Task.{Task}
 use Rattle.engine_commands.specs.declared.tasks.Task.TheVariants as tasks
 use Rattle.engine_commands.specs.Tasks.{takes_input}
@@ -75,6 +78,13 @@ IsAllowed (Format description) = IsFileName description
 IsAllowed (Check description) = IsFileName description
 IsAllowed (Simulate task description) = IsFileName description × IsCounted task
 IsAllowed (Clock task names) = AreNames names × IsCounted task
+
+-- the files that it reads, in this order, each with the most bytes that it may have
+abbrev pub files_of : Request → List NamedFile
+files_of (Format description) = named description description_limit ∷ []
+files_of (Check description) = named description description_limit ∷ []
+files_of (Simulate task description) = named description description_limit ∷ []
+files_of (Clock task names) = run_files names module_limit
 
 -- it takes the lines of the input
 abbrev pub reads_input : Request → Bool

@@ -1,20 +1,125 @@
-//! The commands, each by what it reads.
-ghost use Rattle.std.specs.Prelude.{◌≡◌, Bool, false, List, ℕ};
+//! The commands, each by the bytes that it reads.
+ghost use Rattle.std.specs.Prelude.{◌≡◌, ◌≤◌, ◌<◌, ◌^◌, ◌∷◌, ◌++◌, [], Bool, false, List, ℕ, Option, option_map, IfOk, OnOk, map, length};
 ghost use Rattle.lisa_outcomes.specs.Outcomes.{Given};
 ghost use Rattle.lisa_outcomes.specs.Ends.{Ends};
-ghost use Rattle.lisa_cli.specs.Requests.{reads_input};
+ghost use Rattle.lisa_outcomes.specs.FileViews.{named_of};
+ghost use Rattle.lisa_outcomes.specs.NamedFiles.{file_at, named};
+ghost use Rattle.lisa_outcomes.specs.RunFiles.{any_file, run_files};
+ghost use Rattle.lisa_outcomes.specs.RunViews.{names_of};
+ghost use Rattle.description_commands.specs.Descriptions.{description_limit};
+ghost use Rattle.module_commands.specs.Clocks.{module_limit};
+ghost use Rattle.lisa_cli.specs.Requests.{reads_input, files_of};
 ghost use Rattle.lisa_cli.specs.Asked.{request_of};
-ghost use Rattle.lisa_cli.specs.Gives.{Gives};
-ghost use Rattle.lisa_cli.specs.Worlds.{readings, IsGiven, Blamed};
+ghost use Rattle.lisa_cli.specs.Gives.{Gives, GivesOver};
+ghost use Rattle.lisa_cli.specs.Worlds.{readings, IsGiven, IsHeard, HasFailed, IsCutOver, Blamed};
 
 use crate::requests::Command;
-use description_commands::{check_file, do_with_description, format_file};
+use description_commands::{check_description, do_with_description, format_description};
 use lisa_io::{Files, Flush, Source};
-use lisa_outcomes::End;
+use lisa_outcomes::{End, NamedFile, RunNames, file_at, load_files, run_bytes};
+use lisa_words::NoMemory;
 use module_commands::do_with_module;
 use std::alloc::Global;
 
-/// Does what a command asks for, and writes what it gives.
+const DESCRIPTION_LIMIT: u32 = 1_048_576;
+
+const MODULE_LIMIT: u32 = 134_217_728;
+
+const IMAGE_LIMIT: u32 = 134_217_728;
+
+const SCHEDULE_LIMIT: u32 = 1_048_576;
+
+// One more file, where one is named.
+fn push_file<'a>(
+    files: &mut Vec<NamedFile<'a>>,
+    name: Option<&'a str>,
+    limit: u32,
+) -> Result<(), NoMemory>
+    ensures { OnOk result (map named_of files.new.items ≡ map named_of files.old.items ++ any_file (option_map (λ n. n.now) name.entry) limit) }
+{
+    let Some(name) = name else {
+        return Ok(());
+    };
+    match files.push(NamedFile { name, limit }) {
+        Ok(()) => Ok(()),
+        Err(_) => Err(NoMemory),
+    }
+}
+
+// The file of a description.
+fn description_files<'a>(
+    alloc: Global,
+    description: &'a str,
+) -> Result<Vec<NamedFile<'a>>, NoMemory>
+    ensures { IfOk result (λ files. map named_of files.items ≡ named description.now description_limit ∷ []) }
+{
+    let mut files = Vec::new(alloc);
+    match push_file(&mut files, Some(description), DESCRIPTION_LIMIT) {
+        Ok(()) => Ok(files),
+        Err(_) => Err(NoMemory),
+    }
+}
+
+// The files of a run over a module.
+fn module_files<'a>(alloc: Global, names: RunNames<'a>) -> Result<Vec<NamedFile<'a>>, NoMemory>
+    ensures { IfOk result (λ files. map named_of files.items ≡ run_files (names_of names.entry) module_limit) }
+{
+    let mut files = Vec::new(alloc);
+    match push_file(&mut files, Some(names.main), MODULE_LIMIT) {
+        Ok(()) => {}
+        Err(_) => return Err(NoMemory),
+    }
+    match push_file(&mut files, names.image, IMAGE_LIMIT) {
+        Ok(()) => {}
+        Err(_) => return Err(NoMemory),
+    }
+    match push_file(&mut files, names.schedule, SCHEDULE_LIMIT) {
+        Ok(()) => Ok(files),
+        Err(_) => Err(NoMemory),
+    }
+}
+
+// The files that a command reads, in order.
+fn files_of<'a>(alloc: Global, command: &Command<'a>) -> Result<Vec<NamedFile<'a>>, NoMemory>
+    ensures { IfOk result (λ files. map named_of files.items ≡ files_of (request_of command.now)) }
+{
+    match command {
+        Command::Format { description } => description_files(alloc, description),
+        Command::Check { description } => description_files(alloc, description),
+        Command::Simulate { description, .. } => description_files(alloc, description),
+        Command::Clock { names, .. } => module_files(alloc, *names),
+    }
+}
+
+// Does what a command asks for, over the bytes of its files.
+fn perform_with<I: Source, O: Flush>(
+    alloc: Global,
+    command: &Command<'_>,
+    all: &[Vec<u8>],
+    input: &mut I,
+    out: &mut O,
+) -> Result<(), End>
+    requires { (place : ℕ) → length (file_at (map (λ bytes. bytes.items) all.now) place) < 2 ^ 32 }
+    ensures ends { Ends (IsHeard (request_of command.now) (I.left input.old)) (GivesOver (request_of command.now) (map (λ bytes. bytes.items) all.now))
+        (HasFailed (request_of command.now) (I.faults input.old) (I.faults input.new)
+        × IsCutOver (request_of command.now) (map (λ bytes. bytes.items) all.now) (I.left input.old) (I.left input.new) (O.written out.old) (O.written out.new))
+        (O.written out.old) (O.written out.new) (O.faults out.old) (O.faults out.new) result }
+    ensures input { reads_input (request_of command.now) ≡ false → (I.left input.new ≡ I.left input.old) × (I.faults input.new ≡ I.faults input.old) }
+    ensures later { I.faults input.old ≤ I.faults input.new }
+{
+    match command {
+        Command::Format { .. } => format_description(alloc, file_at(all, 0), out),
+        Command::Check { .. } => check_description(alloc, file_at(all, 0), out),
+        Command::Simulate { task, .. } => {
+            do_with_description(alloc, file_at(all, 0), *task, input, out)
+        }
+        Command::Clock { names, task } => {
+            do_with_module(alloc, &run_bytes(*names, all), *task, input, out)
+        }
+    }
+}
+
+/// Does what a command asks for, and writes what it gives: its files are read first, in the order of the words.
 pub fn perform<F: Files, I: Source, O: Flush>(
     alloc: Global,
     command: &Command<'_>,
@@ -23,16 +128,20 @@ pub fn perform<F: Files, I: Source, O: Flush>(
     out: &mut O,
 ) -> Result<(), End>
     ensures ends { Ends (IsGiven (F.held files.old) (I.left input.old) (request_of command.now)) (λ given. Gives given (request_of command.now))
-        (Blamed (readings (F.held files.old) (F.faults files.old) (F.faults files.new) (I.left input.old) (I.left input.new) (I.faults input.old) (I.faults input.new)) (O.written out.old) (O.written out.new) (request_of command.now))
+        (Blamed (readings (F.held files.old) (F.held files.new) (F.faults files.old) (F.faults files.new) (I.left input.old) (I.left input.new) (I.faults input.old) (I.faults input.new))
+        (O.written out.old) (O.written out.new) (request_of command.now))
         (O.written out.old) (O.written out.new) (O.faults out.old) (O.faults out.new) result }
     ensures input { reads_input (request_of command.now) ≡ false → (I.left input.new ≡ I.left input.old) × (I.faults input.new ≡ I.faults input.old) }
+    ensures held { F.held files.new ≡ F.held files.old }
+    ensures files { (other : List ℕ) → F.faults files.old other ≤ F.faults files.new other }
+    ensures later { I.faults input.old ≤ I.faults input.new }
 {
-    match command {
-        Command::Format { description } => format_file(alloc, description, files, out),
-        Command::Check { description } => check_file(alloc, description, files, out),
-        Command::Simulate { description, task } => {
-            do_with_description(alloc, description, *task, files, input, out)
-        }
-        Command::Clock { names, task } => do_with_module(alloc, *names, *task, files, input, out),
+    let named = match files_of(alloc, command) {
+        Ok(named) => named,
+        Err(_) => return Err(End::NoMemory),
+    };
+    match load_files(alloc, files, &named) {
+        Ok(all) => perform_with(alloc, command, &all, input, out),
+        Err(end) => Err(end),
     }
 }

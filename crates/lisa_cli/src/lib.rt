@@ -11,4 +11,5 @@ mod telling;
 mod top;
 
 pub use lisa_outcomes::{End, FileFault, InputFault, LaterFault, Refusal, Status};
+pub use telling::tell_no_memory;
 pub use top::lisa;

@@ -1,16 +1,16 @@
 -- From what a command does with what it found to what it does with all that it reads.
 use Rattle.std.proofs.Common.{◌≡◌, ◌≢◌, ◌<◌, ◌≤◌, ◌∙◌, sym, ap, subst, refl, arith, List, ℕ, [], length, Option, Some, Result, Ok, Err}
-use Rattle.lisa_io.specs.Causes.{Rose}
-use Rattle.lisa_io.specs.Contents.{Held}
 use Rattle.lisa_io.proofs.Known.{appends_none}
 use Rattle.lisa_outcomes.specs.declared.status.End.{End}
 use Rattle.lisa_outcomes.specs.declared.status.End.TheVariants as ends
 use Rattle.lisa_outcomes.specs.declared.status.Refusal.{Refusal}
-use Rattle.lisa_outcomes.specs.Outcomes.{Outcome, Finished, FileMap, After, passed, stopped, IsFile, IsTooLong, AfterReading}
+use Rattle.lisa_outcomes.specs.Outcomes.{Outcome, Finished, FileMap, After, passed, stopped, IsFile, IsTooLong}
+use Rattle.lisa_outcomes.specs.Refusals.{IsRefusal}
 use Rattle.lisa_outcomes.specs.Stages.{Finds}
-use Rattle.lisa_outcomes.specs.Ends.{Ends, Loads}
+use Rattle.lisa_outcomes.specs.Ends.{Ends}
 use Rattle.lisa_outcomes.specs.Replies.{Replies}
 use Rattle.lisa_outcomes.proofs.Told.{err_is, not_ok}
+use Rattle.lisa_outcomes.proofs.Within.{nothing_within, within_more}
 
 -- a command that reads nothing more
 pub replies_end : {T W : Type 0} (Told : W → Type 0) (Blamed : Type 0) (Gives : Outcome → Type 0) (before after : Option (List ℕ)) (old new : ℕ) (result : Result T End)
@@ -18,10 +18,11 @@ pub replies_end : {T W : Type 0} (Told : W → Type 0) (Blamed : Type 0) (Gives 
 replies_end Told Blamed Gives before after old new result replies = record {
   done = λ ok w e. replies.done ok;
   refused = λ refusal is w e. replies.refused refusal is;
+  real = replies.real;
   read = λ is. absurd (replies.read is);
   later = replies.later;
   write = replies.write;
-  front = λ w outcome e gives. replies.front outcome gives;
+  front = λ w e. replies.front;
   finished = λ w text e gives. replies.finished text gives;
   refusing = λ w refusal text e gives. replies.refusing refusal text gives;
 }
@@ -33,10 +34,11 @@ pub ends_within : {T W V : Type 0} (Told : W → Type 0) (Told' : V → Type 0) 
 ends_within Told Told' Gives Blamed Blamed' part before after old new result told blamed ends = record {
   done = λ ok v e. ends.done ok (part v) (told v e);
   refused = λ refusal is v e. ends.refused refusal is (part v) (told v e);
+  real = ends.real;
   read = λ is. blamed (ends.read is);
   later = ends.later;
   write = ends.write;
-  front = λ v outcome e gives. ends.front (part v) outcome (told v e) gives;
+  front = λ v e. ends.front (part v) (told v e);
   finished = λ v text e gives. ends.finished (part v) text (told v e) gives;
   refusing = λ v refusal text e gives. ends.refusing (part v) refusal text (told v e) gives;
 }
@@ -48,10 +50,11 @@ pub passed_told : {A T W : Type 0} (Told : W → Type 0) (Found : W → A → Ty
 passed_told {A = A} {W = W} Told Found Wrong Then Inner Blamed a before after old new result found only none blamed ends = record {
   done = λ ok w e. let r = ends.done ok w e in (r.0, passed (found w e) r.1, r.2);
   refused = λ refusal is w e. let r = ends.refused refusal is w e in (r.0, passed (found w e) r.1, r.2);
+  real = ends.real;
   read = λ is. blamed (ends.read is);
   later = ends.later;
   write = ends.write;
-  front = λ w outcome e gives. ends.front w outcome e (rest w outcome e gives);
+  front = λ w e. within_more (Then w a) (After (Found w) (Wrong w) (Then w)) before after (λ outcome then. passed (found w e) then) (ends.front w e);
   finished = λ w text e gives refusal is. ends.finished w text e (rest w _ e gives) refusal is;
   refusing = λ w refusal text e gives ok. ends.refusing w refusal text e (rest w _ e gives) ok;
 }
@@ -62,15 +65,16 @@ passed_told {A = A} {W = W} Told Found Wrong Then Inner Blamed a before after ol
 
 -- it wasn't found, and nothing was written
 pub stopped_told : {A T W : Type 0} (Told : W → Type 0) (Found : W → A → Type 0) (Wrong : W → Refusal → Type 0) (Then : W → A → Outcome → Type 0) (Blamed : Type 0) (end : End) (sink : Option (List ℕ)) (old : ℕ)
-    → ((refusal : Refusal) → end ≡ ends.Refused refusal → (w : W) → Told w → Wrong w refusal) → ((refusal : Refusal) → end ≡ ends.Refused refusal → (w : W) (a : A) → Told w → Found w a → ⊥)
+    → ((refusal : Refusal) → end ≡ ends.Refused refusal → IsRefusal refusal) → ((refusal : Refusal) → end ≡ ends.Refused refusal → (w : W) → Told w → Wrong w refusal) → ((refusal : Refusal) → end ≡ ends.Refused refusal → (w : W) (a : A) → Told w → Found w a → ⊥)
     → (end ≡ ends.ReadFault → Blamed) → end ≢ ends.WriteFault → Ends {T = T} Told (λ w. After (Found w) (Wrong w) (Then w)) Blamed sink sink old old (Err end)
-stopped_told {W = W} Told Found Wrong Then Blamed end sink old wrong none read write = record {
+stopped_told {W = W} Told Found Wrong Then Blamed end sink old real wrong none read write = record {
   done = λ ok. absurd (not_ok ok);
   refused = λ refusal is w e. ([], stopped (wrong refusal (err_is _ _ is) w e), appends_none sink);
+  real = λ refusal is. real refusal (err_is _ _ is);
   read = λ is. read (err_is _ _ is);
   later = omega arith;
   write = λ is. absurd (write (err_is _ _ is));
-  front = λ w outcome e gives. (0, omega arith, appends_none sink);
+  front = λ w e. nothing_within (After (Found w) (Wrong w) (Then w)) sink;
   finished = λ w text e gives refusal is. never w e gives refusal (err_is _ _ is);
   refusing = λ w refusal text e gives ok. not_ok ok;
 }
@@ -89,7 +93,7 @@ passed_ends view Found Wrong Told Then Inner Blamed x before after old new resul
 pub stopped_ends : {X A T W : Type 0} (view : X → A) (Found : A → Type 0) (Wrong : Refusal → Type 0) (Told : W → Type 0) (Then : W → A → Outcome → Type 0) (Blamed : Type 0) (end : End) (sink : Option (List ℕ)) (old : ℕ)
     → Finds {X = X} view Found Wrong (Err end) → Ends {T = T} Told (λ w. After Found Wrong (Then w)) Blamed sink sink old old (Err end)
 stopped_ends view Found Wrong Told Then Blamed end sink old finds =
-    stopped_told Told (λ w. Found) (λ w. Wrong) Then Blamed end sink old (λ refusal is w e. finds.wrong refusal (ap Err is)) (λ refusal is w a e here. memory_is_no_refusal refusal (sym (finds.only a here) ∙ is))
+    stopped_told Told (λ w. Found) (λ w. Wrong) Then Blamed end sink old (λ refusal is. finds.real refusal (ap Err is)) (λ refusal is w e. finds.wrong refusal (ap Err is)) (λ refusal is w a e here. memory_is_no_refusal refusal (sym (finds.only a here) ∙ is))
     (λ is. absurd (finds.read (ap Err is))) (λ is. finds.write (ap Err is))
   where
     memory_is_no_refusal : (r : Refusal) → ends.NoMemory ≡ ends.Refused r → ⊥
@@ -108,21 +112,25 @@ no_long_file files name bytes limit refusal told short wrong = over (subst (λ (
     over : length wrong.0 ≤ limit → limit < length wrong.0 → ⊥
     over x y = omega arith
 
--- the command went on with the bytes of the file
-pub after_loading : {T W : Type 0} (Told : W → Type 0) (files : W → FileMap) (Inner Blamed : Type 0) (name bytes : List ℕ) (limit : ℕ) (Then : W → List ℕ → Outcome → Type 0) (before after : Option (List ℕ)) (old new : ℕ)
-    (result : Result T End) → length bytes ≤ limit → ((w : W) → Told w → files w name ≡ Some bytes) → (Inner → Blamed)
-    → Ends Told (λ w. Then w bytes) Inner before after old new result → Ends Told (λ w. AfterReading (files w) name limit (Then w)) Blamed before after old new result
-after_loading Told files Inner Blamed name bytes limit Then before after old new result short told blamed ends =
-    passed_told Told (λ w. IsFile (files w) name limit) (λ w. IsTooLong (files w) name limit) Then Inner Blamed bytes before after old new result
-    (λ w e. (told w e, short)) (λ w b e here. same_file (files w) name bytes b limit (told w e) here) (λ w refusal e wrong. no_long_file (files w) name bytes limit refusal (told w e) short wrong) blamed ends
+-- memory was wanted, and nothing was written
+pub wanting_ends : {T W : Type 0} (Told : W → Type 0) (Gives : W → Outcome → Type 0) (Blamed : Type 0) (sink : Option (List ℕ)) (old : ℕ) → Ends {T = T} Told Gives Blamed sink sink old old (Err ends.NoMemory)
+wanting_ends Told Gives Blamed sink old = record {
+  done = λ ok. absurd (not_ok ok);
+  refused = λ refusal is. absurd (refuses refusal (err_is _ _ is));
+  real = λ refusal is. absurd (refuses refusal (err_is _ _ is));
+  read = λ is. absurd (reads (err_is _ _ is));
+  later = omega arith;
+  write = λ is. absurd (writes (err_is _ _ is));
+  front = λ w e. nothing_within (Gives w) sink;
+  finished = λ w text e gives refusal is. refuses refusal (err_is _ _ is);
+  refusing = λ w refusal text e gives ok. not_ok ok;
+}
+  where
+    refuses : (r : Refusal) → ends.NoMemory ≡ ends.Refused r → ⊥
+    refuses r e = cc
 
--- nothing was written: the file was too long or failed, or memory was wanted
-pub unloaded : {T W : Type 0} (held : Held) (Told : W → Type 0) (files : W → FileMap) (Blamed : Type 0) (name : List ℕ) (limit : ℕ) (Then : W → List ℕ → Outcome → Type 0) (sink : Option (List ℕ)) (old first last : ℕ) (end : End)
-    → ((w : W) → Told w → held ≡ Some (files w)) → Loads held name limit first last (Err end) → (Rose first last → Blamed)
-    → Ends {T = T} Told (λ w. AfterReading (files w) name limit (Then w)) Blamed sink sink old old (Err end)
-unloaded held Told files Blamed name limit Then sink old first last end holds loads blamed =
-    stopped_told Told (λ w. IsFile (files w) name limit) (λ w. IsTooLong (files w) name limit) Then Blamed end sink old
-    (λ refusal is w e. let said = loads.refused refusal (ap Err is) in let long = said.1 (files w) (holds w e) in (long.0, long.1, long.2, said.0))
-    (λ refusal is w a e here. let said = loads.refused refusal (ap Err is) in let long = said.1 (files w) (holds w e) in
-    no_long_file (files w) name a limit refusal here.0 here.1 (long.0, long.1, long.2, said.0))
-    (λ is. blamed (loads.read (ap Err is))) (λ is. loads.write (ap Err is))
+    reads : ends.NoMemory ≡ ends.ReadFault → ⊥
+    reads e = cc
+
+    writes : ends.NoMemory ≡ ends.WriteFault → ⊥
+    writes e = cc

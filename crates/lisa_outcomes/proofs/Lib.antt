@@ -1,6 +1,9 @@
 pub mod Told
+pub mod Within
+pub mod Refusals
 pub mod Finding
 pub mod Stages
 pub mod Writing
 pub mod Endings
 pub mod Files
+pub mod ReadingFiles

@@ -7,6 +7,7 @@ use Rattle.lisa_outcomes.specs.declared.status.Refusal.{Refusal}
 use Rattle.lisa_outcomes.specs.Outcomes.{Outcome, Finished, After, passed, stopped}
 use Rattle.lisa_outcomes.specs.Stages.{Finds}
 use Rattle.lisa_outcomes.specs.Replies.{Replies}
+use Rattle.lisa_outcomes.proofs.Within.{nothing_within, within_more}
 use Rattle.lisa_outcomes.proofs.Told.{err_is, not_ok}
 
 -- it was found: what comes is what the rest of the command gives
@@ -15,10 +16,11 @@ pub passed_replies : {X A T : Type 0} (view : X → A) (Found : A → Type 0) (W
 passed_replies {A = A} view Found Wrong Then x before after old new result finds replies = record {
   done = λ ok. let r = replies.done ok in (r.0, passed finds.found r.1, r.2);
   refused = λ refusal e. let r = replies.refused refusal e in (r.0, passed finds.found r.1, r.2);
+  real = replies.real;
   read = replies.read;
   later = replies.later;
   write = replies.write;
-  front = λ outcome gives. replies.front outcome (rest outcome gives);
+  front = within_more (Then (view x)) (After Found Wrong Then) before after (λ outcome then. passed finds.found then) replies.front;
   finished = λ text gives refusal e. replies.finished text (rest _ gives) refusal e;
   refusing = λ refusal text gives ok. replies.refusing refusal text (rest _ gives) ok;
 }
@@ -33,10 +35,11 @@ pub stopped_replies : {X A T : Type 0} (view : X → A) (Found : A → Type 0) (
 stopped_replies view Found Wrong Then end sink old finds = record {
   done = λ ok. absurd (not_ok ok);
   refused = λ refusal e. ([], stopped (finds.wrong refusal (ap Err (err_is _ _ e))), appends_none sink);
+  real = λ refusal e. finds.real refusal (ap Err (err_is _ _ e));
   read = λ e. finds.read (ap Err (err_is _ _ e));
   later = omega arith;
   write = λ e. absurd (finds.write (ap Err (err_is _ _ e)));
-  front = λ outcome gives. (0, omega arith, appends_none sink);
+  front = nothing_within (After Found Wrong Then) sink;
   finished = λ text gives refusal e. never gives refusal (err_is _ _ e);
   refusing = λ refusal text gives ok. not_ok ok;
 }
@@ -52,10 +55,11 @@ pub memory_replies : {T : Type 0} (Gives : Outcome → Type 0) (sink : Option (L
 memory_replies Gives sink old = record {
   done = λ ok. absurd (not_ok ok);
   refused = λ refusal e. absurd (memory_is_no_refusal refusal (err_is _ _ e));
+  real = λ refusal e. absurd (memory_is_no_refusal refusal (err_is _ _ e));
   read = λ e. unread (err_is _ _ e);
   later = omega arith;
   write = λ e. absurd (faulty (err_is _ _ e));
-  front = λ outcome gives. (0, omega arith, appends_none sink);
+  front = nothing_within Gives sink;
   finished = λ text gives refusal e. memory_is_no_refusal refusal (err_is _ _ e);
   refusing = λ refusal text gives ok. not_ok ok;
 }

@@ -1,12 +1,12 @@
 -- What a command replies that writes its one text.
-use Rattle.std.proofs.Common.{◌≡◌, sym, subst, arith, List, ℕ, Option, Result, Ok, Err, IsOk, OnOk, refl}
+use Rattle.std.proofs.Common.{◌≡◌, inr, subst, arith, List, ℕ, Option, Result, Ok, Err, IsOk, OnOk, refl}
 use Rattle.std.specs.Io.KnownBytes.{Appends}
 use Rattle.lisa_io.specs.Contents.{AppendsFront, Puts}
 use Rattle.lisa_io.proofs.Known.{appends_none}
 use Rattle.lisa_outcomes.specs.declared.status.End.{End}
 use Rattle.lisa_outcomes.specs.declared.status.End.TheVariants as ends
 use Rattle.lisa_outcomes.specs.declared.status.Refusal.{Refusal}
-use Rattle.lisa_outcomes.specs.Outcomes.{Outcome, Finished, Refusing, written_of}
+use Rattle.lisa_outcomes.specs.Outcomes.{Outcome, Finished, Refusing}
 use Rattle.lisa_outcomes.specs.Writes.{Writes}
 use Rattle.lisa_outcomes.specs.Replies.{Replies}
 use Rattle.lisa_outcomes.proofs.Told.{err_is, not_ok, ok_is_no_err}
@@ -24,10 +24,11 @@ pub written_replies : {T : Type 0} (text : List ℕ) (before after : Option (Lis
 written_replies text before after old new result writes = record {
   done = λ ok. (text, refl, ok_writes result _ writes.all ok);
   refused = λ refusal e. absurd (writes.refused refusal e);
+  real = λ refusal e. absurd (writes.refused refusal e);
   read = writes.read;
   later = writes.later;
   write = writes.write;
-  front = λ outcome is. subst (λ (o : Outcome). AppendsFront before after (written_of o)) (sym is) writes.front;
+  front = inr (Finished text, refl, writes.front);
   finished = λ other is refusal e. writes.refused refusal e;
   refusing = λ refusal other is ok. refusing_is_no_finished refusal other text is;
 }

@@ -1,7 +1,11 @@
 pub mod Outcomes
 pub mod Stages
+pub mod Within
+pub mod Refusals
 pub mod Ends
 pub mod Replies
 pub mod Writes
+pub mod NamedFiles
+pub mod FileViews
 pub mod RunFiles
 pub mod RunViews

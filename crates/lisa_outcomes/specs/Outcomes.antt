@@ -34,7 +34,3 @@ IsFile files name limit bytes = (files name ≡ Some bytes) × (length bytes ≤
 
 abbrev pub IsTooLong : FileMap → (name : List ℕ) → (limit : ℕ) → Refusal → Type 0
 IsTooLong files name limit refusal = (bytes : List ℕ) × (files name ≡ Some bytes) × (limit < length bytes) × (refusal ≡ refusals.File (file_faults.TooLong name))
-
--- the outcome of a command that first reads a file whole
-abbrev pub AfterReading : FileMap → (name : List ℕ) → (limit : ℕ) → (List ℕ → Outcome → Type 0) → Outcome → Type 0
-AfterReading files name limit Then = After (IsFile files name limit) (IsTooLong files name limit) Then

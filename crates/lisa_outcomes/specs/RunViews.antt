@@ -8,4 +8,4 @@ abbrev pub names_of : Names → RunNames
 names_of n = record { main = n.main.now; image = option_map (λ name. name.now) n.image; schedule = option_map (λ name. name.now) n.schedule }
 
 abbrev pub bytes_of : Bytes → RunBytes
-bytes_of b = record { main = b.main.items; image = option_map (λ bytes. bytes.items) b.image; schedule = option_map (λ bytes. bytes.items) b.schedule }
+bytes_of b = record { main = b.main.now; image = option_map (λ bytes. bytes.now) b.image; schedule = option_map (λ bytes. bytes.now) b.schedule }

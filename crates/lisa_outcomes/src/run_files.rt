@@ -1,16 +1,8 @@
 //! The files of a run: the one that says the machine, and an image and a schedule where these aren't left out.
-ghost use Rattle.std.specs.Prelude.{◌≡◌, ◌≤◌, List, ℕ, Option, option_map};
-ghost use Rattle.lisa_outcomes.specs.RunFiles.{LoadsAny, LoadsRun};
+ghost use Rattle.std.specs.Prelude.{◌≡◌, List, ℕ, Option, option_map, map, ◌++◌, IfOk, IfErr};
+ghost use Rattle.lisa_outcomes.specs.NamedFiles.{file_at};
+ghost use Rattle.lisa_outcomes.specs.RunFiles.{run_bytes};
 ghost use Rattle.lisa_outcomes.specs.RunViews.{names_of, bytes_of};
-
-use crate::loading::load;
-use crate::status::End;
-use lisa_io::Files;
-use std::alloc::Global;
-
-const IMAGE_LIMIT: u64 = 134_217_728;
-
-const SCHEDULE_LIMIT: u64 = 1_048_576;
 
 /// The names of a run's files.
 #[derive(Clone, Copy, Debug)]
@@ -21,59 +13,43 @@ pub struct RunNames<'a> {
 }
 
 /// The bytes of a run's files.
-#[derive(Debug, Drop)]
-pub struct RunBytes {
-    pub main: Vec<u8>,
-    pub image: Option<Vec<u8>>,
-    pub schedule: Option<Vec<u8>>,
+#[derive(Clone, Copy, Debug)]
+pub struct RunBytes<'a> {
+    pub main: &'a [u8],
+    pub image: Option<&'a [u8]>,
+    pub schedule: Option<&'a [u8]>,
 }
 
-// Reads a file whole, where one is named.
-fn load_any<F: Files>(
-    alloc: Global,
-    files: &mut F,
-    name: Option<&str>,
-    limit: u64,
-) -> Result<Option<Vec<u8>>, End>
-    ensures loads { LoadsAny (option_map (λ v. v.items)) (F.held files.old) (option_map (λ n. n.now) name.entry) limit (F.faults files.old) (F.faults files.new) result }
-    ensures held { F.held files.new ≡ F.held files.old }
-    ensures later { (other : List ℕ) → F.faults files.old other ≤ F.faults files.new other }
+/// The bytes of the file at a place of those that were read; none where there is no such file.
+pub fn file_at(all: &[Vec<u8>], place: usize) -> &[u8]
+    ensures { result.now ≡ file_at (map (λ bytes. bytes.items) all.now) place }
 {
-    match name {
-        None => Ok(None),
-        Some(name) => match load(alloc, files, name, limit) {
-            Ok(bytes) => Ok(Some(bytes)),
-            Err(end) => Err(end),
-        },
+    if place < all.len() {
+        return &all[place];
     }
+    &[]
 }
 
-/// Reads the files of a run whole, in this order, of which the first has at most `limit` bytes.
-pub fn load_run<F: Files>(
-    alloc: Global,
-    files: &mut F,
-    names: RunNames<'_>,
-    limit: u64,
-) -> Result<RunBytes, End>
-    ensures loads { LoadsRun bytes_of (F.held files.old) (names_of names.entry) limit (F.faults files.old) (F.faults files.new) result }
-    ensures held { F.held files.new ≡ F.held files.old }
-    ensures later { (other : List ℕ) → F.faults files.old other ≤ F.faults files.new other }
+/// The bytes of a run's files among those that were read: of the first, and of those that aren't left out.
+pub fn run_bytes<'a>(names: RunNames<'_>, all: &'a [Vec<u8>]) -> RunBytes<'a>
+    ensures { bytes_of result ≡ run_bytes (names_of names.entry) (map (λ bytes. bytes.items) all.now) }
 {
-    let main = match load(alloc, files, names.main, limit) {
-        Ok(main) => main,
-        Err(end) => return Err(end),
+    let main = file_at(all, 0);
+    let image = match names.image {
+        Some(_) => Some(file_at(all, 1)),
+        None => None,
     };
-    let image = match load_any(alloc, files, names.image, IMAGE_LIMIT) {
-        Ok(image) => image,
-        Err(end) => return Err(end),
+    let place = match names.image {
+        Some(_) => 2,
+        None => 1,
     };
-    let schedule = match load_any(alloc, files, names.schedule, SCHEDULE_LIMIT) {
-        Ok(schedule) => schedule,
-        Err(end) => return Err(end),
+    let schedule = match names.schedule {
+        Some(_) => Some(file_at(all, place)),
+        None => None,
     };
-    Ok(RunBytes {
+    RunBytes {
         main,
         image,
         schedule,
-    })
+    }
 }

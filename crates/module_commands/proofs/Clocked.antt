@@ -8,6 +8,7 @@ use Rattle.verilog_text.specs.Clocked.{arrays}
 use Rattle.lisa_outcomes.specs.declared.status.Refusal.TheVariants as refusals
 use Rattle.lisa_outcomes.specs.Stages.{Finds}
 use Rattle.lisa_outcomes.proofs.Finding.{found_ok, found_memory, found_refused}
+use Rattle.lisa_outcomes.proofs.Refusals.{image_refusal}
 use Rattle.lisa_outcomes.proofs.Told.{none_is_no_some}
 use Rattle.engine_commands.specs.Machines.{Machine}
 use Rattle.module_commands.specs.Designs.{Design, clock_machine, IsClock, IsNoClock}
@@ -20,5 +21,5 @@ made_clock view d x same none = found_ok view (IsClock d) (IsNoClock d) x (none,
 pub unmade_clock : {X : Type 0} (view : X → Machine) (d : Design) (fault : MakeFault) → ((name : List ℕ) → fault ≡ makes.NoSuchMemory name → missing_memory (arrays d.tree.members) d.memories ≡ Some name)
     → Finds view (IsClock d) (IsNoClock d) (Err (unmade_end fault))
 unmade_clock view d (makes.NoSuchMemory name) missing = found_refused view (IsClock d) (IsNoClock d) (refusals.Image (images.NoSuchMemory name))
-    (name, missing name refl, refl) (λ m is. none_is_no_some _ (sym is.0 ∙ missing name refl))
+    (image_refusal (images.NoSuchMemory name) (λ e. cc)) (name, missing name refl, refl) (λ m is. none_is_no_some _ (sym is.0 ∙ missing name refl))
 unmade_clock view d makes.NoMemory missing = found_memory view (IsClock d) (IsNoClock d)

@@ -11,6 +11,7 @@ use Rattle.lisa_outcomes.specs.declared.status.Refusal.{Refusal}
 use Rattle.lisa_outcomes.specs.declared.status.Refusal.TheVariants as refusals
 use Rattle.lisa_outcomes.specs.Stages.{Finds}
 use Rattle.lisa_outcomes.proofs.Finding.{found_memory, found_refused}
+use Rattle.lisa_outcomes.proofs.Refusals.{verilog_refusal}
 use Rattle.verilog_reader.specs.Answers.{IsFault}
 use Rattle.module_commands.specs.Designs.{IsUnreadModule}
 use Rattle.module_commands.specs.Unread.{unread_end}
@@ -28,5 +29,5 @@ pub unread_module : (bytes : List ℕ) (f : VerilogFault) → IsFault bytes f �
 unread_module bytes f broken only = ⊎_elim
     (λ m. subst (λ (e : End). Finds {X = Module} module_tree (VAccepts bytes) (IsUnreadModule bytes) (Err e)) (sym m) (found_memory module_tree (VAccepts bytes) (IsUnreadModule bytes)))
     (λ r. subst (λ (e : End). Finds {X = Module} module_tree (VAccepts bytes) (IsUnreadModule bytes) (Err e)) (sym r.0)
-    (found_refused module_tree (VAccepts bytes) (IsUnreadModule bytes) (refusals.Verilog f) (f, r.1, refl) (λ m here. memory_is_no_refusal _ (ap unread_end (sym (only m here)) ∙ r.0))))
+    (found_refused module_tree (VAccepts bytes) (IsUnreadModule bytes) (refusals.Verilog f) (verilog_refusal f (λ e. memory_is_no_refusal _ (ap unread_end (sym e) ∙ r.0))) (f, r.1, refl) (λ m here. memory_is_no_refusal _ (ap unread_end (sym (only m here)) ∙ r.0))))
     (unread_is bytes f broken)

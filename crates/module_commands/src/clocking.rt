@@ -4,27 +4,25 @@ ghost use Rattle.lisa_engine.specs.Images.{IsImage};
 ghost use Rattle.verilog_text.specs.Trees.{module_tree};
 ghost use Rattle.verilog_text.specs.Clockable.{IsClockable};
 ghost use Rattle.lisa_outcomes.specs.Ends.{Ends};
-ghost use Rattle.lisa_outcomes.specs.RunViews.{names_of, bytes_of};
+ghost use Rattle.lisa_outcomes.specs.RunViews.{bytes_of};
 ghost use Rattle.lisa_outcomes.specs.Stages.{Finds};
 ghost use Rattle.lisa_outcomes.specs.Outcomes.{After};
 ghost use Rattle.engine_commands.specs.Machines.{machine_of, schedule_bytes};
 ghost use Rattle.engine_commands.specs.Tasks.{takes_input, IsHeard, GivesUnder, HasFailed};
 ghost use Rattle.module_commands.specs.Designs.{IsClock, IsNoClock};
 ghost use Rattle.module_commands.specs.DesignViews.{design_of};
-ghost use Rattle.module_commands.specs.Clocks.{module_limit, GivesClock, GivesClocked, IsTold, IsCutDesign, IsCutClock, IsStopped};
+ghost use Rattle.module_commands.specs.Clocks.{GivesClock, IsCutDesign, IsCutClock};
 ghost use Rattle.module_commands.specs.Unread.{unmade_end};
 
 use crate::designs::read_parts;
 use crate::parts::Parts;
 use engine_commands::{Task, do_task};
 use lisa_engine::{Engine, MakeFault};
-use lisa_io::{Files, Flush, Source};
+use lisa_io::{Flush, Source};
 use lisa_object::ImageFault;
-use lisa_outcomes::{End, Refusal, RunBytes, RunNames, load_run};
+use lisa_outcomes::{End, Refusal, RunBytes};
 use std::alloc::Global;
 use verilog_clock::Clock;
-
-const MODULE_LIMIT: u64 = 134_217_728;
 
 // The end of a command whose clock wasn't made.
 fn unmade(fault: MakeFault) -> End
@@ -68,6 +66,7 @@ fn do_with_parts<I: Source, O: Flush>(
         (HasFailed task (I.faults input.old) (I.faults input.new) × IsCutDesign (design_of parts.now) schedule.now (I.left input.old) (I.left input.new) (O.written out.old) (O.written out.new))
         (O.written out.old) (O.written out.new) (O.faults out.old) (O.faults out.new) result }
     ensures input { takes_input task ≡ false → (I.left input.new ≡ I.left input.old) × (I.faults input.new ≡ I.faults input.old) }
+    ensures later { I.faults input.old ≤ I.faults input.new }
 {
     match clock_of(alloc, parts) {
         Ok(clock) => do_task(alloc, clock, task, schedule, input, out),
@@ -76,19 +75,20 @@ fn do_with_parts<I: Source, O: Flush>(
 }
 
 // The bytes of a schedule; one that is left out has none.
-fn schedule_text(bytes: &RunBytes) -> &[u8]
+fn schedule_text<'a>(bytes: &RunBytes<'a>) -> &'a [u8]
     ensures { result.now ≡ schedule_bytes (bytes_of bytes.now).schedule }
 {
-    match &bytes.schedule {
+    match bytes.schedule {
         Some(schedule) => schedule,
         None => &[],
     }
 }
 
-// A task over the clock of what the bytes spell.
-fn do_with_bytes<I: Source, O: Flush>(
+/// Does a task over the clock of a module, which the first of a run's files spells, with an image and a schedule where these aren't left
+/// out.
+pub fn do_with_module<I: Source, O: Flush>(
     alloc: Global,
-    bytes: &RunBytes,
+    bytes: &RunBytes<'_>,
     task: Task,
     input: &mut I,
     out: &mut O,
@@ -100,29 +100,10 @@ fn do_with_bytes<I: Source, O: Flush>(
         (HasFailed task (I.faults input.old) (I.faults input.new) × IsCutClock (bytes_of bytes.now) (I.left input.old) (I.left input.new) (O.written out.old) (O.written out.new))
         (O.written out.old) (O.written out.new) (O.faults out.old) (O.faults out.new) result }
     ensures input { takes_input task ≡ false → (I.left input.new ≡ I.left input.old) × (I.faults input.new ≡ I.faults input.old) }
+    ensures later { I.faults input.old ≤ I.faults input.new }
 {
     match read_parts(alloc, bytes) {
         Ok(parts) => do_with_parts(alloc, &parts, task, schedule_text(bytes), input, out),
-        Err(end) => Err(end),
-    }
-}
-
-/// Does a task over the clock of a module, whose file is named first, with an image and a schedule where these aren't left out.
-pub fn do_with_module<F: Files, I: Source, O: Flush>(
-    alloc: Global,
-    names: RunNames<'_>,
-    task: Task,
-    files: &mut F,
-    input: &mut I,
-    out: &mut O,
-) -> Result<(), End>
-    ensures ends { Ends (IsTold (F.held files.old) (I.left input.old) task) (GivesClocked task (names_of names.entry))
-        (IsStopped task (names_of names.entry) (F.held files.old) (F.faults files.old) (F.faults files.new) (I.left input.old) (I.left input.new) (I.faults input.old) (I.faults input.new) (O.written out.old) (O.written out.new))
-        (O.written out.old) (O.written out.new) (O.faults out.old) (O.faults out.new) result }
-    ensures input { takes_input task ≡ false → (I.left input.new ≡ I.left input.old) × (I.faults input.new ≡ I.faults input.old) }
-{
-    match load_run(alloc, files, names, MODULE_LIMIT) {
-        Ok(bytes) => do_with_bytes(alloc, &bytes, task, input, out),
         Err(end) => Err(end),
     }
 }

@@ -55,14 +55,14 @@ fn memories(alloc: Global, image: Option<Stamped>) -> Image
 }
 
 /// The module and the image of a run.
-pub fn read_parts(alloc: Global, bytes: &RunBytes) -> Result<Parts, End>
+pub fn read_parts(alloc: Global, bytes: &RunBytes<'_>) -> Result<Parts, End>
     requires main { length (bytes_of bytes.now).main < 2 ^ 32 }
     requires image { IfSome (bytes_of bytes.now).image (λ image. length image < 2 ^ 32) }
     ensures finds { Finds design_of (IsDesign (bytes_of bytes.now)) (IsNoDesign (bytes_of bytes.now)) result }
     ensures clockable { IfOk result (λ parts. IsClockable (module_tree parts.clocked)) }
     ensures kept { IfOk result (λ parts. IsImage parts.image) }
 {
-    let clocked = match module_of(alloc, &bytes.main) {
+    let clocked = match module_of(alloc, bytes.main) {
         Ok(clocked) => clocked,
         Err(end) => return Err(end),
     };

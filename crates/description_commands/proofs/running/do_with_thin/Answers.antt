@@ -1,5 +1,6 @@
 use Rattle.description_commands.specs.ThinView.{thin_of}
-use Rattle.description_commands.proofs.ThinTasks.{thin_ends, wanting_ends}
+use Rattle.lisa_outcomes.proofs.Endings.{wanting_ends}
+use Rattle.description_commands.proofs.ThinTasks.{thin_ends}
 use Rattle.description_commands.proofs.running.do_with_thin.Goals as goal
 
 pub returns-in-Ok-clause-ends : goal.returns-in-Ok-clause-ends

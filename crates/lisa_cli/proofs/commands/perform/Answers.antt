@@ -1,24 +1,25 @@
-use Rattle.lisa_outcomes.specs.Outcomes.{Given, FileMap}
-use Rattle.lisa_outcomes.proofs.Endings.{ends_within}
-use Rattle.description_commands.specs.Descriptions.{AfterDescription, Formats}
-use Rattle.description_commands.specs.Checks.{Checks}
-use Rattle.description_commands.specs.Tasks.{GivesDescription}
-use Rattle.lisa_outcomes.specs.RunViews.{names_of}
-use Rattle.module_commands.specs.Clocks.{GivesClocked}
+use Rattle.std.proofs.Common.{List, ℕ}
+use Rattle.lisa_io.proofs.Known.{appends_none}
+use Rattle.lisa_outcomes.specs.Outcomes.{Given}
+use Rattle.lisa_outcomes.specs.FileViews.{all_bytes}
+use Rattle.lisa_outcomes.proofs.Endings.{ends_within, wanting_ends}
+use Rattle.lisa_outcomes.proofs.Files.{after_files, no_files}
+use Rattle.lisa_cli.specs.Asked.{request_of}
+use Rattle.lisa_cli.specs.Gives.{GivesOver}
+use Rattle.lisa_cli.specs.Worlds.{input_failed, file_failed}
 use Rattle.lisa_cli.proofs.commands.perform.Goals as goal
 
-pub returns-in-Format-clause-ends : goal.returns-in-Format-clause-ends
-returns-in-Format-clause-ends g c =
-    rw c.in-Format.is (ends_within {T = Unit {0}} {W = FileMap} {V = Given} _ _ (λ files. AfterDescription files c.in-Format.description.now Formats) _ _ (λ given. given.files) _ _ _ _ _ (λ given known. known.files) (λ b. b) c.format_file.ensures)
+pub returns-in-Err-clause-ends : goal.returns-in-Err-clause-ends
+returns-in-Err-clause-ends g c = wanting_ends {T = Unit {0}} _ _ _ (g.O.Sink.written c.args.out.now) (g.O.Sink.faults c.args.out.now)
 
-pub returns-in-Check-clause-ends : goal.returns-in-Check-clause-ends
-returns-in-Check-clause-ends g c =
-    rw c.in-Check.is (ends_within {T = Unit {0}} {W = FileMap} {V = Given} _ _ (λ files. AfterDescription files c.in-Check.description.now Checks) _ _ (λ given. given.files) _ _ _ _ _ (λ given known. known.files) (λ b. b) c.check_file.ensures)
+pub returns-in-Ok-load_files-clause-ends : goal.returns-in-Ok-load_files-clause-ends
+returns-in-Ok-load_files-clause-ends g c =
+    after_files {T = Unit {0}} {W = Given} _ (λ given. given.files) _ _ _ (all_bytes c.in-Ok-load_files.all) (λ given bytes. GivesOver (request_of c.args.command.now) bytes given.input) _ _ _ _ _
+    (λ given told. (rw c.in-Ok.ensures at (rw c.deref.ensures.value at c.in-Ok-load_files.ensures.loads.bytes)) given.files told.files)
+    (λ b. input_failed b.0 (λ files held. (all_bytes c.in-Ok-load_files.all, (rw c.in-Ok.ensures at (rw c.deref.ensures.value at c.in-Ok-load_files.ensures.loads.bytes)) files held, b.1)))
+    (ends_within {W = List ℕ} {V = Given} _ _ _ _ _ (λ given. given.input) _ _ _ _ _ (λ given told. told.lines) (λ b. b) (rw c.deref-2.ensures.value at c.perform_with.ensures.ends))
 
-pub returns-in-Simulate-clause-ends : goal.returns-in-Simulate-clause-ends
-returns-in-Simulate-clause-ends g c =
-    rw c.in-Simulate.is (ends_within {T = Unit {0}} {W = Given} {V = Given} _ _ (GivesDescription c.in-Simulate.task c.in-Simulate.description.now) _ _ (λ given. given) _ _ _ _ _ (λ given known. record { files = known.files; input = known.lines }) (λ b. b) c.do_with_description.ensures.ends)
-
-pub returns-in-Clock-clause-ends : goal.returns-in-Clock-clause-ends
-returns-in-Clock-clause-ends g c =
-    rw c.in-Clock.is (ends_within {T = Unit {0}} {W = Given} {V = Given} _ _ (GivesClocked c.in-Clock.task (names_of c.in-Clock.names)) _ _ (λ given. given) _ _ _ _ _ (λ given known. record { files = known.files; input = known.lines }) (λ b. b) c.do_with_module.ensures.ends)
+pub returns-in-Err-load_files-clause-ends : goal.returns-in-Err-load_files-clause-ends
+returns-in-Err-load_files-clause-ends g c =
+    no_files {T = Unit {0}} {W = Given} all_bytes _ _ (λ given. given.files) _ _ (λ given bytes. GivesOver (request_of c.args.command.now) bytes given.input) (g.O.Sink.written c.args.out.now) (g.O.Sink.faults c.args.out.now) _ _ _
+    (λ given told. told.files) (rw c.in-Ok.ensures at (rw c.deref.ensures.value at c.in-Err-load_files.ensures.loads)) (λ failed. file_failed failed (appends_none (g.O.Sink.written c.args.out.now)))

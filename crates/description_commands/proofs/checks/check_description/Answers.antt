@@ -1,7 +1,7 @@
 use Rattle.lisa_tree.specs.Descriptions.{description_tree}
 use Rattle.description_commands.specs.Checks.{Checks}
 use Rattle.lisa_outcomes.proofs.Stages.{passed_replies, stopped_replies}
-use Rattle.description_commands.proofs.checks.check_bytes.Goals as goal
+use Rattle.description_commands.proofs.checks.check_description.Goals as goal
 
 pub check_tree-requires : goal.check_tree-requires
 check_tree-requires g c = record { bytes = c.args.bytes.now; spells = c.in-Ok.ensures.found }

@@ -1,0 +1,15 @@
+-- A session that is cut off stays so where nothing more is put.
+use Rattle.std.proofs.Common.{List, ℕ, Option}
+use Rattle.std.specs.Io.KnownBytes.{Keeps}
+use Rattle.lisa_io.proofs.Known.{appends_kept}
+use Rattle.lisa_debug.specs.Courses.{Course}
+use Rattle.engine_commands.specs.Machines.{Machine}
+use Rattle.engine_commands.specs.Sessions.{IsCutOff}
+use Rattle.engine_commands.specs.Tasks.{IsCutUnder}
+
+pub cut_off_kept : (course : Course) (left rest before after sent : Option (List ℕ)) → Keeps after sent → IsCutOff course left rest before after → IsCutOff course left rest before sent
+cut_off_kept course left rest before after sent keeps off =
+    record { taken = off.taken; consumed = off.consumed; goes_on = record { on = off.goes_on.on; all = appends_kept _ _ _ _ off.goes_on.all keeps } }
+
+pub cut_under_kept : (m : Machine) (schedule : List ℕ) (left rest before after sent : Option (List ℕ)) → Keeps after sent → IsCutUnder m schedule left rest before after → IsCutUnder m schedule left rest before sent
+cut_under_kept m schedule left rest before after sent keeps cut = (cut.0, cut.1, cut_off_kept _ left rest before after sent keeps cut.2)

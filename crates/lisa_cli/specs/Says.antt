@@ -1,0 +1,39 @@
+-- What each status has on the second stream.
+use Rattle.std.specs.Prelude.{ℕ, List, [], codes, Bool, true, false}
+use Rattle.lisa_outcomes.specs.declared.status.Refusal.{Refusal}
+use Rattle.lisa_outcomes.specs.declared.status.Refusal.TheVariants as refusals
+use Rattle.lisa_outcomes.specs.declared.status.Status.{Status}
+use Rattle.lisa_outcomes.specs.declared.status.Status.TheVariants as statuses
+use Rattle.lisa_cli.specs.Lines.{Line, line_text}
+use Rattle.lisa_cli.specs.DescriptionLines.{description_line}
+use Rattle.lisa_cli.specs.OwnLines.{file_line, input_line, later_line}
+use Rattle.lisa_cli.specs.ModuleLines.{verilog_line, image_line, schedule_line}
+
+abbrev pub refusal_line : Refusal → Line
+refusal_line (refusals.File fault) = file_line fault
+refusal_line (refusals.Input fault) = input_line fault
+refusal_line (refusals.Description fault) = description_line fault
+refusal_line (refusals.Later fault) = later_line fault
+refusal_line (refusals.Verilog fault) = verilog_line fault
+refusal_line (refusals.Image fault) = image_line fault
+refusal_line (refusals.Schedule fault) = schedule_line fault
+
+abbrev pub usage_text : List ℕ
+usage_text = codes "usage: lisa check|fmt|verilog|run|trace|clock|clocktrace|asm|link|dis|debug|vdebug|gen|soak ..\n"
+
+abbrev pub status_text : Status → List ℕ
+status_text statuses.Done = []
+status_text (statuses.Refused refusal) = line_text (refusal_line refusal)
+status_text statuses.Usage = usage_text
+status_text statuses.ReadFault = codes "lisa: read fault\n"
+status_text statuses.WriteFault = []
+status_text statuses.NoMemory = codes "lisa: out of memory\n"
+
+-- it has a line there
+abbrev pub has_line : Status → Bool
+has_line statuses.Done = false
+has_line (statuses.Refused refusal) = true
+has_line statuses.Usage = true
+has_line statuses.ReadFault = true
+has_line statuses.WriteFault = false
+has_line statuses.NoMemory = true

@@ -1,0 +1,123 @@
+-- A fault that is no want of memory makes a refusal.
+use Rattle.std.proofs.Common.{◌≡◌, ◌≢◌, List, ℕ}
+use Rattle.lisa_engine.specs.declared.schedule.ScheduleFault.{ScheduleFault}
+use Rattle.lisa_engine.specs.declared.schedule.ScheduleFault.TheVariants as schedules
+use Rattle.lisa_object.specs.declared.faults.ImageFault.{ImageFault}
+use Rattle.lisa_object.specs.declared.faults.ImageFault.TheVariants as images
+use Rattle.lisa_tree.specs.declared.faults.DescFault.{DescFault}
+use Rattle.lisa_tree.specs.declared.faults.DescFault.TheVariants as descriptions
+use Rattle.verilog_text.specs.declared.faults.VerilogFault.{VerilogFault}
+use Rattle.verilog_text.specs.declared.faults.VerilogFault.TheVariants as verilogs
+use Rattle.lisa_outcomes.specs.declared.status.Refusal.TheVariants as refusals
+use Rattle.lisa_outcomes.specs.declared.status.FileFault.{FileFault}
+use Rattle.lisa_outcomes.specs.declared.status.FileFault.TheVariants as file_faults
+use Rattle.lisa_outcomes.specs.declared.status.InputFault.{InputFault}
+use Rattle.lisa_outcomes.specs.declared.status.InputFault.TheVariants as input_faults
+use Rattle.lisa_outcomes.specs.declared.status.LaterFault.{LaterFault}
+use Rattle.lisa_outcomes.specs.declared.status.LaterFault.TheVariants as laters
+use Rattle.lisa_outcomes.specs.Refusals.{IsRefusal}
+
+same_file : (a b : FileFault) → refusals.File a ≡ refusals.File b → a ≡ b
+same_file a b e = cc
+
+pub file_refusal : (fault : FileFault) → fault ≢ file_faults.NoMemory → IsRefusal (refusals.File fault)
+file_refusal fault other = record {
+  file = λ e. other (same_file _ _ e);
+  input = λ e. cc;
+  description = λ e. cc;
+  verilog = λ e. cc;
+  image = λ e. cc;
+  schedule = λ e. cc;
+  later = λ e. cc;
+}
+
+same_input : (a b : InputFault) → refusals.Input a ≡ refusals.Input b → a ≡ b
+same_input a b e = cc
+
+pub input_refusal : (fault : InputFault) → fault ≢ input_faults.NoMemory → IsRefusal (refusals.Input fault)
+input_refusal fault other = record {
+  file = λ e. cc;
+  input = λ e. other (same_input _ _ e);
+  description = λ e. cc;
+  verilog = λ e. cc;
+  image = λ e. cc;
+  schedule = λ e. cc;
+  later = λ e. cc;
+}
+
+same_description : (a b : DescFault) → refusals.Description a ≡ refusals.Description b → a ≡ b
+same_description a b e = cc
+
+pub description_refusal : (fault : DescFault) → fault ≢ descriptions.NoMemory → IsRefusal (refusals.Description fault)
+description_refusal fault other = record {
+  file = λ e. cc;
+  input = λ e. cc;
+  description = λ e. other (same_description _ _ e);
+  verilog = λ e. cc;
+  image = λ e. cc;
+  schedule = λ e. cc;
+  later = λ e. cc;
+}
+
+same_verilog : (a b : VerilogFault) → refusals.Verilog a ≡ refusals.Verilog b → a ≡ b
+same_verilog a b e = cc
+
+pub verilog_refusal : (fault : VerilogFault) → fault ≢ verilogs.NoMemory → IsRefusal (refusals.Verilog fault)
+verilog_refusal fault other = record {
+  file = λ e. cc;
+  input = λ e. cc;
+  description = λ e. cc;
+  verilog = λ e. other (same_verilog _ _ e);
+  image = λ e. cc;
+  schedule = λ e. cc;
+  later = λ e. cc;
+}
+
+same_image : (a b : ImageFault) → refusals.Image a ≡ refusals.Image b → a ≡ b
+same_image a b e = cc
+
+pub image_refusal : (fault : ImageFault) → fault ≢ images.NoMemory → IsRefusal (refusals.Image fault)
+image_refusal fault other = record {
+  file = λ e. cc;
+  input = λ e. cc;
+  description = λ e. cc;
+  verilog = λ e. cc;
+  image = λ e. other (same_image _ _ e);
+  schedule = λ e. cc;
+  later = λ e. cc;
+}
+
+same_schedule : (a b : ScheduleFault) → refusals.Schedule a ≡ refusals.Schedule b → a ≡ b
+same_schedule a b e = cc
+
+pub schedule_refusal : (fault : ScheduleFault) → fault ≢ schedules.NoMemory → IsRefusal (refusals.Schedule fault)
+schedule_refusal fault other = record {
+  file = λ e. cc;
+  input = λ e. cc;
+  description = λ e. cc;
+  verilog = λ e. cc;
+  image = λ e. cc;
+  schedule = λ e. other (same_schedule _ _ e);
+  later = λ e. cc;
+}
+
+same_later : (a b : LaterFault) → refusals.Later a ≡ refusals.Later b → a ≡ b
+same_later a b e = cc
+
+pub later_refusal : (fault : LaterFault) → fault ≢ laters.NoMemory → IsRefusal (refusals.Later fault)
+later_refusal fault other = record {
+  file = λ e. cc;
+  input = λ e. cc;
+  description = λ e. cc;
+  verilog = λ e. cc;
+  image = λ e. cc;
+  schedule = λ e. cc;
+  later = λ e. other (same_later _ _ e);
+}
+
+-- a file that is too long makes one
+pub too_long_refusal : (name : List ℕ) → IsRefusal (refusals.File (file_faults.TooLong name))
+too_long_refusal name = file_refusal (file_faults.TooLong name) other
+  where
+    other : file_faults.TooLong name ≡ file_faults.NoMemory → ⊥
+    other e = cc

@@ -1,0 +1,21 @@
+-- What a refusal never holds.
+use Rattle.std.specs.Prelude.{◌≢◌}
+use Rattle.lisa_engine.specs.declared.schedule.ScheduleFault.TheVariants as schedules
+use Rattle.lisa_object.specs.declared.faults.ImageFault.TheVariants as images
+use Rattle.lisa_tree.specs.declared.faults.DescFault.TheVariants as descriptions
+use Rattle.verilog_text.specs.declared.faults.VerilogFault.TheVariants as verilogs
+use Rattle.lisa_outcomes.specs.declared.status.Refusal.{Refusal}
+use Rattle.lisa_outcomes.specs.declared.status.Refusal.TheVariants as refusals
+use Rattle.lisa_outcomes.specs.declared.status.FileFault.TheVariants as file_faults
+use Rattle.lisa_outcomes.specs.declared.status.InputFault.TheVariants as input_faults
+use Rattle.lisa_outcomes.specs.declared.status.LaterFault.TheVariants as laters
+
+-- it is no want of memory, in whatever area
+pub record IsRefusal (refusal : Refusal) : Type 0 where
+  pub file : refusal ≢ refusals.File file_faults.NoMemory
+  pub input : refusal ≢ refusals.Input input_faults.NoMemory
+  pub description : refusal ≢ refusals.Description descriptions.NoMemory
+  pub verilog : refusal ≢ refusals.Verilog verilogs.NoMemory
+  pub image : refusal ≢ refusals.Image images.NoMemory
+  pub schedule : refusal ≢ refusals.Schedule schedules.NoMemory
+  pub later : refusal ≢ refusals.Later laters.NoMemory
