@@ -3,6 +3,7 @@
 
 mod commands;
 mod fault_lines;
+mod laws;
 mod lines;
 mod module_lines;
 mod requests;
@@ -10,6 +11,7 @@ mod sending;
 mod telling;
 mod top;
 
+pub use laws::words_ask_for_one;
 pub use lisa_outcomes::{End, FileFault, InputFault, LaterFault, Refusal, Status};
 pub use telling::tell_no_memory;
 pub use top::lisa;
