@@ -1,11 +1,11 @@
 -- What is due in a stage, one after another.
-use Rattle.std.proofs.Common.{◌≡◌, ℕ, zero, suc, ◌<◌, ◌≤◌, Bool, true, false, List, [], ◌∷◌, length, Option, Some, refl, sym, ap, ◌∙◌, subst, arith}
-use Rattle.std.specs.Prelude.{slice_get}
-use Rattle.std.specs.List.{fold}
+use Rattle.std.proofs.Common.{◌≡◌, ℕ, zero, suc, ◌<◌, ◌≤◌, Bool, true, false, not, ◌&&◌, List, [], ◌∷◌, length, Option, Some, refl, sym, ap, ◌∙◌, subst, arith}
+use Rattle.std.specs.Prelude.{map, slice_get}
+use Rattle.std.specs.List.{filter, fold}
 use Rattle.std.proofs.lemmas.Bool.{cond-true, cond-false, both_ways, false_from_ne_true}
-use Rattle.pipeline_time.specs.Cores.{Core, above_of}
+use Rattle.pipeline_time.specs.Cores.{Core, above_of, all_nodes}
 use Rattle.pipeline_time.specs.Running.{Running, word_below, run_occurrence}
-use Rattle.pipeline_time.specs.Edges.{is_due, run_due}
+use Rattle.pipeline_time.specs.Edges.{Standing, is_held, is_flushed, is_free, waiting, is_due, run_due, turn}
 use Rattle.lisa_activation.specs.declared.kept.Queues.{Queues}
 use Rattle.lisa_activation.specs.Queued.{is_due as is_queued}
 use Rattle.pipeline_runs.specs.declared.tree.Occurrence.{Occurrence}
@@ -132,3 +132,18 @@ module _ {R M : Type 0} (core : Core R M) where
       let w = subst (λ (c : Core R M). WaitAs c queues' stage word words occurrences) (sym same_core) (waits_after queues queues' stage word words occurrences same waits) in
       let seen = subst (λ (c : Core R M). Represents moment after slot bits (fold (run_due c words) (run_occurrence core (word_below o.0.past word) (node_of o.0) now) (due_from c words stage (suc n) occurrences))) same_core (rest o.0 o.1 w) in
       subst (λ (m : Running M). Represents moment after slot bits m) (next_due queues stage word from n words occurrences o.0 now waits low is least o.1) seen
+
+  -- the turn of a stage, by whether it is free
+  free_as : (moment : M) (now : Running M) (level : ℕ) (b : Bool) → moment ≡ now.moment → (not (is_held (core.stalled moment) level) && not (is_flushed (core.flushed moment) level)) ≡ b → is_free core now level ≡ b
+  free_as moment now level b same e = subst (λ m. (not (is_held (core.stalled m) level) && not (is_flushed (core.flushed m) level)) ≡ b) same e
+
+  pub turn_free : (stands : Standing) (stage : ℕ) (now : Running M) (moment : M) (occurrences : List Occurrence) → moment ≡ now.moment → (not (is_held (core.stalled moment) (suc stage)) && not (is_flushed (core.flushed moment) (suc stage))) ≡ true → map node_of occurrences ≡ all_nodes core → fold (run_due core (waiting core stands (suc stage) now)) now (due_from core (waiting core stands (suc stage) now) stage 0 occurrences) ≡ turn core stands (suc stage) now
+  turn_free stands stage now moment occurrences same is nodes =
+      let words = waiting core stands (suc stage) now in
+      ap (λ xs. fold (run_due core words) now (filter (is_due core words (suc stage)) xs)) nodes
+      ∙ sym (cond-true (is_free core now (suc stage)) (fold (run_due core words) now (filter (is_due core words (suc stage)) (all_nodes core))) now (free_as moment now (suc stage) true same is))
+
+  pub turn_busy : (stands : Standing) (stage : ℕ) (now : Running M) (moment : M) → moment ≡ now.moment → (not (is_held (core.stalled moment) (suc stage)) && not (is_flushed (core.flushed moment) (suc stage))) ≡ false → now ≡ turn core stands (suc stage) now
+  turn_busy stands stage now moment same is =
+      let words = waiting core stands (suc stage) now in
+      sym (cond-false (is_free core now (suc stage)) (fold (run_due core words) now (filter (is_due core words (suc stage)) (all_nodes core))) now (free_as moment now (suc stage) false same is))

@@ -15,7 +15,7 @@ abbrev pub item_of : Occurrence → Acts
 item_of o = item_at o.number o.level o.past o.own
 
 abbrev pub node_of : Occurrence → Node
-node_of o = node_at 0 o.number o.level o.past o.own
+node_of o = node_at o.above o.number o.level o.past o.own
 
 module _ {R M : Type 0} (core : Core R M) where
   -- those that are due from a number on

@@ -1,6 +1,8 @@
 //! What operations do in an edge.
 
-ghost use Rattle.std.specs.Prelude.{◌≡◌, ℕ, ◌∷◌, List, Bool, true, false};
+ghost use Rattle.std.specs.Prelude.{◌≡◌, ℕ, suc, ◌<◌, ◌∷◌, List, Bool, true, false};
+ghost use Rattle.activation_bits.specs.Members.{has};
+ghost use Rattle.pipeline_time.specs.Edges.{is_held, is_flushed};
 ghost use Rattle.pipeline_time.specs.Cores.{Core, is_past};
 ghost use Rattle.pipeline_runs.specs.Runs.{has_run};
 
@@ -45,6 +47,13 @@ pub trait Behaves {
     /// The word that the root takes.
     fn fetch(&self) -> u64
         ensures { result ≡ (core self.now).fetch (moment self.now) };
+
+    /// The stages that are held and flushed so far, the first at bit 0.
+    fn held(&self) -> u8
+        ensures { (stage : ℕ) → stage < 8 → has result stage ≡ is_held ((core self.now).stalled (moment self.now)) (suc stage) };
+
+    fn flushed(&self) -> u8
+        ensures { (stage : ℕ) → stage < 8 → has result stage ≡ is_flushed ((core self.now).flushed (moment self.now)) (suc stage) };
 
     /// Whether some instruction has the word.
     fn decodes(&self, word: u64) -> bool

@@ -9,4 +9,4 @@ mod turns;
 pub use behaves::{Behaves, Edge};
 pub use runs::{run, run_occurrence};
 pub use tree::{Occurrence, Tree};
-pub use turns::turn_from;
+pub use turns::{turn, turn_from};

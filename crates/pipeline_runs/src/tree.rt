@@ -14,6 +14,8 @@ pub enum Tree {
 #[derive(Drop)]
 pub struct Occurrence {
     pub number: u32,
+    /// The level of its activator, and its own.
+    pub above: u8,
     pub level: u8,
     pub past: bool,
     pub own: Tree,

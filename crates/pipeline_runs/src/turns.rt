@@ -1,8 +1,9 @@
 //! The turn of a stage.
 
 ghost use Rattle.std.specs.List.{fold};
-ghost use Rattle.std.specs.Prelude.{◌≡◌, ℕ, suc, ◌<◌, Bool, true, Option, Some, slice_get};
-ghost use Rattle.pipeline_time.specs.Edges.{run_due};
+ghost use Rattle.std.specs.Prelude.{◌≡◌, ℕ, suc, ◌<◌, Bool, true, not, ◌&&◌, Option, Some, slice_get, map};
+ghost use Rattle.pipeline_time.specs.Cores.{all_nodes};
+ghost use Rattle.pipeline_time.specs.Edges.{Standing, is_held, is_flushed, waiting, run_due, turn};
 ghost use Rattle.pipeline_time.specs.Running.{Running, run_occurrence, word_below};
 ghost use Rattle.lisa_activation.specs.Queued.{first_above, is_due};
 ghost use Rattle.pipeline_runs.specs.Runs.{Represents};
@@ -12,6 +13,7 @@ ghost use Rattle.pipeline_runs.specs.declared.tree.Occurrence.{Occurrence};
 use crate::behaves::{Behaves, Edge};
 use crate::runs::run_occurrence;
 use crate::tree::Occurrence;
+use activation_bits::has_bit;
 
 fn word_below(past: bool, word: u64) -> u64
     ensures { result ≡ word_below past word }
@@ -55,5 +57,23 @@ pub fn turn_from<B: Behaves>(
     if let Some(number) = edge.queues.due(stage, after) {
         run_one(stage, word, number, occurrences, edge);
         turn_from(stage, word, Some(number), occurrences, edge);
+    }
+}
+
+fn is_free<B: Behaves>(store: &B, stage: u32) -> bool
+    requires { stage < 8 }
+    ensures { result ≡ (not (is_held ((B.core store.now).stalled (B.moment store.now)) (suc stage)) && not (is_flushed ((B.core store.now).flushed (B.moment store.now)) (suc stage))) }
+{
+    !has_bit(u64::from(store.held()), stage) && !has_bit(u64::from(store.flushed()), stage)
+}
+
+/// The turn of a stage: what is due there runs, unless the stage is held or flushed.
+pub fn turn<B: Behaves>(stage: u32, word: u64, occurrences: &[Occurrence], edge: &mut Edge<B>)
+    requires stage { stage < 8 }
+    requires due { AreDue (B.core edge.old.store) edge.old.queues (B.ran edge.old.store) stage word 0 occurrences.now }
+    ensures { (bits : ℕ → ℕ → Bool) (now : Running B.Moment) (stands : Standing) → Represents (B.moment edge.old.store) edge.old.queues edge.old.slot bits now → map node_of occurrences.now ≡ all_nodes (B.core edge.old.store) → WaitAs (B.core edge.old.store) edge.old.queues stage word (waiting (B.core edge.old.store) stands (suc stage) now) occurrences.now → Represents (B.moment edge.new.store) edge.new.queues edge.new.slot bits (turn (B.core edge.old.store) stands (suc stage) now) }
+{
+    if is_free(&edge.store, stage) {
+        turn_from(stage, word, None, occurrences, edge);
     }
 }
