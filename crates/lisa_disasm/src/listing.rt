@@ -137,7 +137,7 @@ pub fn write_listing<O: Sink>(
     image: &Image,
     out: &mut O,
 ) -> Result<(), TraceEnd>
-    requires tools { (d : DescriptionTree) × IsCodingOf d coding.now × IsSyntaxOf d syntax.now }
+    requires tools { (d : DescriptionTree) × AreFormsOf d forms.now × IsCodingOf d coding.now × IsSyntaxOf d syntax.now }
     ensures listing { (d : DescriptionTree) → AreFormsOf d forms.now → IsCodingOf d coding.now → IsSyntaxOf d syntax.now
         → (text : List ℕ) × IsListing d image.now text × PutsUnless (O.written out.old) (O.written out.new) (O.faults out.old) (O.faults out.new) result text }
 {
