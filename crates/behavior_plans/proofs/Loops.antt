@@ -8,7 +8,7 @@ use Rattle.behavior_plans.specs.Acts.{ActTrees, Then, act_tree, act_trees}
 use Rattle.behavior_plans.specs.Holdings.{Holdings}
 use Rattle.behavior_plans.specs.declared.store.Store.{Store}
 use Rattle.behavior_plans.specs.Effects.{act_effect, acts_effect, act_writes, acts_writes}
-use Rattle.behavior_plans.specs.Stores.{holdings_of, untouched, Leaves}
+use Rattle.behavior_plans.specs.Stores.{holdings_of, untouched, AreThere, Leaves}
 
 -- what is left to run takes the store to the same end, within the touches that there may be
 pub record Midway (start now : Store) (left end : Holdings) (writes_left writes : ℕ) : Type 0 where
@@ -16,6 +16,7 @@ pub record Midway (start now : Store) (left end : Holdings) (writes_left writes 
   pub untouched_same : start.count + writes ≤ length start.touched.items → untouched now ≡ untouched start
   pub touches : now.count + writes_left ≤ start.count + writes
   pub room : length now.touched.items ≡ length start.touched.items
+  pub places : AreThere start → AreThere now
 
 pub leaves_as : {old new : Store} {a b : Holdings} {v w : ℕ} → a ≡ b → v ≡ w → Leaves old new a v → Leaves old new b w
 leaves_as {old = old} {new = new} {b = b} {v = v} h k is = subst (λ n. Leaves old new b n) k (subst (λ (x : Holdings). Leaves old new x v) h is)
@@ -27,6 +28,7 @@ leaves_more h is = record {
   untouched_same = λ fits. is.untouched_same (omega (arith, h, fits));
   touches = omega (arith, h, is.touches);
   room = is.room;
+  places = is.places;
 }
 
 -- behind what notes nothing
@@ -36,6 +38,7 @@ leaves_behind x y = record {
   untouched_same = λ fits. y.untouched_same (omega (arith, fits, x.touches, x.room)) ∙ x.untouched_same (omega (arith, fits));
   touches = omega (arith, x.touches, y.touches);
   room = y.room ∙ x.room;
+  places = λ there. y.places (x.places there);
 }
 
 acts_split : (all : List Act) (i : ℕ) (a : Act) → i < length all → a ≡ get_or all i a → act_trees (drop i all) ≡ Then (act_tree a) (act_trees (drop (i + 1) all))
@@ -53,6 +56,7 @@ act_left all i a start now new end writes h item is leaves =
       untouched_same = λ fits. leaves.untouched_same (omega (arith, count, is.touches, is.room, fits)) ∙ is.untouched_same fits;
       touches = omega (arith, count, is.touches, leaves.touches);
       room = leaves.room ∙ is.room;
+      places = λ there. leaves.places (is.places there);
     }
 
 one_less : (n k : ℕ) → k < n → n - k ≡ suc (n - (k + 1))
@@ -72,4 +76,5 @@ turn_left turn b n k w start now new end h is leaves =
       untouched_same = λ fits. leaves.untouched_same (omega (arith, count, is.touches, is.room, fits)) ∙ is.untouched_same fits;
       touches = omega (arith, count, is.touches, leaves.touches);
       room = leaves.room ∙ is.room;
+      places = λ there. leaves.places (is.places there);
     }

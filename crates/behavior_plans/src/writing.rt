@@ -58,6 +58,7 @@ fn put_register(store: &mut Store, place: u32, given: Whole)
 #[tactic(auto, using(std::proofs::lemmas::List::take_more_set))]
 fn note(touched: &mut Vec<Touch>, count: &mut usize, touch: Touch)
     ensures noted { count.old + 1 ≤ length touched.old.items → take count.new touched.new.items ≡ take count.old touched.old.items ++ touch ∷ [] }
+    ensures full { length touched.old.items ≤ count.old → take count.new touched.new.items ≡ take count.old touched.old.items }
     ensures count { count.new ≤ count.old + 1 }
     ensures room { length touched.new.items ≡ length touched.old.items }
 {
