@@ -1,10 +1,7 @@
--- The texts of the fields of the code.
-use Rattle.std.proofs.Common.{◌≡◌, refl, ap, List, ℕ, [], ◌∷◌, ◌++◌, map}
-use Rattle.std.specs.List.{flat_map}
-use Rattle.lisa_cli.specs.declared.lines.Field.{Field}
-use Rattle.lisa_cli.specs.Lines.{field_text, fields_text}
-use Rattle.lisa_cli.specs.LineViews.{field_of}
+-- The texts of fields.
+use Rattle.std.proofs.Common.{◌≡◌, ◌∙◌, ap, List, ℕ, ◌++◌}
+use Rattle.std.proofs.lemmas.Grind.{flat_map-append}
+use Rattle.lisa_cli.specs.Lines.{Field, field_text, fields_text}
 
-pub same_fields : (fields : List Field) → flat_map (λ (field : Field). field_text (field_of field)) fields ≡ fields_text (map field_of fields)
-same_fields [] = refl
-same_fields (field ∷ rest) = ap (λ (t : List ℕ). field_text (field_of field) ++ t) (same_fields rest)
+pub three_fields : (a b c : List Field) → fields_text (a ++ (b ++ c)) ≡ fields_text a ++ (fields_text b ++ fields_text c)
+three_fields a b c = flat_map-append field_text a (b ++ c) ∙ ap (λ (t : List ℕ). fields_text a ++ t) (flat_map-append field_text b c)

@@ -1,16 +1,24 @@
--- The fields of the code as plain ones.
+-- The lines of the code as plain ones.
+use Rattle.std.specs.Prelude.{List, [], ◌∷◌, ◌++◌, Option, Some, None}
 use Rattle.lisa_cli.specs.declared.lines.Value.TheVariants as values
 use Rattle.lisa_cli.specs.declared.lines.Value.{Value as LineValue}
 use Rattle.lisa_cli.specs.declared.lines.Field.{Field as LineField}
-use Rattle.lisa_cli.specs.Lines.{Value, Bare, Quoted, Decimal, Signed, Hexadecimal, Digest, Field}
+use Rattle.lisa_cli.specs.declared.lines.Line.{Line as LineLine}
+use Rattle.lisa_cli.specs.Lines.{Value, Bare, Quoted, Decimal, Hexadecimal, Digest, Field, Line}
 
 abbrev pub value_of : LineValue → Value
 value_of (values.Bare text) = Bare text.now
 value_of (values.Quoted text) = Quoted text.now
 value_of (values.Decimal value) = Decimal value
-value_of (values.Signed value) = Signed value
 value_of (values.Hexadecimal value) = Hexadecimal value
 value_of (values.Digest bytes) = Digest bytes.now
 
 abbrev pub field_of : LineField → Field
 field_of field = record { label = field.label.now; value = value_of field.value }
+
+abbrev pub fields_of : Option LineField → List Field
+fields_of None = []
+fields_of (Some field) = field_of field ∷ []
+
+abbrev pub line_of : LineLine → Line
+line_of line = record { head = line.head.now; fields = fields_of line.first ++ (fields_of line.second ++ fields_of line.third) }

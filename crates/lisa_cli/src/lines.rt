@@ -1,12 +1,11 @@
 //! The line that a refusal has on the second stream.
-ghost use Rattle.std.specs.Prelude.{◌≡◌, ◌++◌, codes, map};
-ghost use Rattle.std.specs.List.{flat_map};
+ghost use Rattle.std.specs.Prelude.{◌≡◌, ◌++◌, ◌∷◌, [], codes};
 ghost use Rattle.lisa_io.specs.Contents.{Puts};
-ghost use Rattle.lisa_cli.specs.Lines.{line_text, field_text, value_text, line, name, text, number, integer, word, digest};
-ghost use Rattle.lisa_cli.specs.LineViews.{field_of, value_of};
+ghost use Rattle.lisa_cli.specs.Lines.{line_text, fields_text, field_text, value_text, line, name, text, number, word, digest};
+ghost use Rattle.lisa_cli.specs.LineViews.{line_of, fields_of, field_of, value_of};
 ghost use Rattle.std.specs.Prelude.{false, decimal as decimal_digits};
 ghost use Rattle.std.specs.Prelude.{◌<◌};
-ghost use Rattle.std.specs.Fmt.{digits as hex_digits, digit_glyph, signed_decimal};
+ghost use Rattle.std.specs.Fmt.{digits as hex_digits, digit_glyph};
 ghost use Rattle.lisa_object.specs.Texts.{byte_digits, digest_digits};
 
 use lisa_io::{Failed, Sink, put_all};
@@ -18,7 +17,6 @@ pub enum Value<'a> {
     Bare(&'a [u8]),
     Quoted(&'a [u8]),
     Decimal(u64),
-    Signed(i128),
     Hexadecimal(u64),
     Digest(&'a [u8]),
 }
@@ -28,6 +26,15 @@ pub enum Value<'a> {
 pub struct Field<'a> {
     pub label: &'a [u8],
     pub value: Value<'a>,
+}
+
+/// The area, number and name of a fault, and its fields, of which there are at most three.
+#[derive(Clone, Copy)]
+pub struct Line<'a> {
+    pub head: &'a [u8],
+    pub first: Option<Field<'a>>,
+    pub second: Option<Field<'a>>,
+    pub third: Option<Field<'a>>,
 }
 
 /// A field with a name.
@@ -80,13 +87,51 @@ pub fn digest_field<'a>(label: &'a [u8], bytes: &'a [u8]) -> Field<'a>
     }
 }
 
-/// A field with an integer, which may be negative.
-pub fn integer_field(label: &[u8], value: i128) -> Field<'_>
-    ensures { field_of result ≡ integer label.now value }
+/// A line without fields.
+pub fn line0(head: &[u8]) -> Line<'_>
+    ensures { line_of result ≡ line head.now [] }
 {
-    Field {
-        label,
-        value: Value::Signed(value),
+    Line {
+        head,
+        first: None,
+        second: None,
+        third: None,
+    }
+}
+
+/// A line of one field.
+pub fn line1<'a>(head: &'a [u8], first: Field<'a>) -> Line<'a>
+    ensures { line_of result ≡ line head.now (field_of first.entry ∷ []) }
+{
+    Line {
+        head,
+        first: Some(first),
+        second: None,
+        third: None,
+    }
+}
+
+/// A line of two fields.
+pub fn line2<'a>(head: &'a [u8], first: Field<'a>, second: Field<'a>) -> Line<'a>
+    ensures { line_of result ≡ line head.now (field_of first.entry ∷ field_of second.entry ∷ []) }
+{
+    Line {
+        head,
+        first: Some(first),
+        second: Some(second),
+        third: None,
+    }
+}
+
+/// A line of three fields.
+pub fn line3<'a>(head: &'a [u8], first: Field<'a>, second: Field<'a>, third: Field<'a>) -> Line<'a>
+    ensures { line_of result ≡ line head.now (field_of first.entry ∷ field_of second.entry ∷ field_of third.entry ∷ []) }
+{
+    Line {
+        head,
+        first: Some(first),
+        second: Some(second),
+        third: Some(third),
     }
 }
 
@@ -98,7 +143,6 @@ fn put_value<E: Sink>(err: &mut E, value: &Value<'_>) -> Result<(), Failed>
         Value::Bare(text) => put_all(err, text),
         Value::Quoted(text) => put_quoted(err, text),
         Value::Decimal(value) => put_decimal(err, *value),
-        Value::Signed(value) => put_integer(err, *value),
         Value::Hexadecimal(value) => put_word(err, *value),
         Value::Digest(bytes) => put_digest(err, bytes),
     }
@@ -154,30 +198,17 @@ fn put_digest<E: Sink>(err: &mut E, bytes: &[u8]) -> Result<(), Failed>
     Ok(())
 }
 
-// A number of any size.
-fn put_wide<E: Sink>(err: &mut E, value: u128) -> Result<(), Failed>
-    ensures { Puts (E.written err.old) (E.written err.new) (E.faults err.old) (E.faults err.new) result (decimal_digits value) }
+// A field, where there is one.
+fn put_field<E: Sink>(err: &mut E, field: &Option<Field<'_>>) -> Result<(), Failed>
+    ensures { Puts (E.written err.old) (E.written err.new) (E.faults err.old) (E.faults err.new) result (fields_text (fields_of field.now)) }
 {
-    if value < 10 {
-        return put_all(err, &[48 + value as u8]);
-    }
-    put_wide(err, value / 10)?;
-    put_all(err, &[48 + (value % 10) as u8])
+    let Some(field) = field else {
+        return Ok(());
+    };
+    put_one_field(err, field)
 }
 
-// An integer, with `-` before a negative one.
-fn put_integer<E: Sink>(err: &mut E, value: i128) -> Result<(), Failed>
-    ensures { Puts (E.written err.old) (E.written err.new) (E.faults err.old) (E.faults err.new) result (signed_decimal value) }
-{
-    if value >= 0 {
-        return put_wide(err, value.unsigned_abs());
-    }
-    put_all(err, b"-")?;
-    put_wide(err, value.unsigned_abs())
-}
-
-// A field behind a blank.
-fn put_field<E: Sink>(err: &mut E, field: &Field<'_>) -> Result<(), Failed>
+fn put_one_field<E: Sink>(err: &mut E, field: &Field<'_>) -> Result<(), Failed>
     ensures { Puts (E.written err.old) (E.written err.new) (E.faults err.old) (E.faults err.new) result (field_text (field_of field.now)) }
 {
     put_all(err, b" ")?;
@@ -187,21 +218,21 @@ fn put_field<E: Sink>(err: &mut E, field: &Field<'_>) -> Result<(), Failed>
 }
 
 // The fields, in order.
-fn put_fields<E: Sink>(err: &mut E, fields: &[Field<'_>]) -> Result<(), Failed>
-    ensures { Puts (E.written err.old) (E.written err.new) (E.faults err.old) (E.faults err.new) result (flat_map (λ field. field_text (field_of field)) fields.now) }
+fn put_fields<E: Sink>(err: &mut E, line: &Line<'_>) -> Result<(), Failed>
+    ensures { Puts (E.written err.old) (E.written err.new) (E.faults err.old) (E.faults err.new) result
+        (fields_text (fields_of line.now.first) ++ (fields_text (fields_of line.now.second) ++ fields_text (fields_of line.now.third))) }
 {
-    for place in 0..fields.len() {
-        put_field(err, &fields[place])?;
-    }
-    Ok(())
+    put_field(err, &line.first)?;
+    put_field(err, &line.second)?;
+    put_field(err, &line.third)
 }
 
-/// Writes the line of a refusal: the area, number and name of its fault, and the fields in order.
-pub fn put_line<E: Sink>(err: &mut E, head: &[u8], fields: &[Field<'_>]) -> Result<(), Failed>
-    ensures { Puts (E.written err.old) (E.written err.new) (E.faults err.old) (E.faults err.new) result (line_text (line head.now (map field_of fields.now))) }
+/// Writes the line.
+pub fn put_line<E: Sink>(err: &mut E, line: &Line<'_>) -> Result<(), Failed>
+    ensures { Puts (E.written err.old) (E.written err.new) (E.faults err.old) (E.faults err.new) result (line_text (line_of line.now)) }
 {
     put_all(err, b"lisa: ")?;
-    put_all(err, head)?;
-    put_fields(err, fields)?;
+    put_all(err, line.head)?;
+    put_fields(err, line)?;
     put_all(err, b"\n")
 }

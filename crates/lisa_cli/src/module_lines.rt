@@ -1,167 +1,111 @@
 //! The lines of the faults of a module, an image and a schedule.
-ghost use Rattle.lisa_io.specs.Contents.{Puts};
-ghost use Rattle.lisa_cli.specs.Lines.{line_text};
+ghost use Rattle.std.specs.Prelude.{◌≡◌};
+ghost use Rattle.lisa_cli.specs.LineViews.{line_of};
 ghost use Rattle.lisa_cli.specs.ModuleLines.{verilog_line, image_line, schedule_line};
 
-use crate::lines::{digest_field, name_field, number_field, put_line};
+use crate::lines::{Line, digest_field, line0, line1, line2, line3, name_field, number_field};
 use lisa_engine::ScheduleFault;
-use lisa_io::{Failed, Sink};
 use lisa_object::ImageFault;
 use verilog_text::VerilogFault;
 
-/// Writes the line of a module's fault.
-pub fn put_verilog_line<E: Sink>(err: &mut E, fault: &VerilogFault) -> Result<(), Failed>
-    ensures { Puts (E.written err.old) (E.written err.new) (E.faults err.old) (E.faults err.new) result (line_text (verilog_line fault.now)) }
+/// The line of a module's fault.
+pub fn verilog_line(fault: &VerilogFault) -> Line<'_>
+    ensures { line_of result ≡ verilog_line fault.now }
 {
     match fault {
         VerilogFault::BadByte { at } => {
-            put_line(
-                err,
-                b"verilog 1 BadByte",
-                &[number_field(b"at", *at as u64)],
-            )
+            line1(b"verilog 1 BadByte", number_field(b"at", *at as u64))
         }
         VerilogFault::TooDeep { at } => {
-            put_line(
-                err,
-                b"verilog 2 TooDeep",
-                &[number_field(b"at", *at as u64)],
-            )
+            line1(b"verilog 2 TooDeep", number_field(b"at", *at as u64))
         }
         VerilogFault::NotInSubset { at } => {
-            put_line(
-                err,
-                b"verilog 3 NotInSubset",
-                &[number_field(b"at", *at as u64)],
-            )
+            line1(b"verilog 3 NotInSubset", number_field(b"at", *at as u64))
         }
-        VerilogFault::DuplicateName { name } => put_line(
-            err,
+        VerilogFault::DuplicateName { name } => line1(
             b"verilog 4 DuplicateName",
-            &[name_field(b"name", name.as_bytes())],
+            name_field(b"name", name.as_bytes()),
         ),
-        VerilogFault::UsedBeforeDeclared { name } => put_line(
-            err,
+        VerilogFault::UsedBeforeDeclared { name } => line1(
             b"verilog 5 UsedBeforeDeclared",
-            &[name_field(b"name", name.as_bytes())],
+            name_field(b"name", name.as_bytes()),
         ),
         VerilogFault::WrongUse { name } => {
-            put_line(
-                err,
-                b"verilog 6 WrongUse",
-                &[name_field(b"name", name.as_bytes())],
-            )
+            line1(b"verilog 6 WrongUse", name_field(b"name", name.as_bytes()))
         }
         VerilogFault::NoInitial { name } => {
-            put_line(
-                err,
-                b"verilog 7 NoInitial",
-                &[name_field(b"name", name.as_bytes())],
-            )
+            line1(b"verilog 7 NoInitial", name_field(b"name", name.as_bytes()))
         }
         VerilogFault::IndexWidth {
             name,
             width,
             needed,
-        } => put_line(
-            err,
+        } => line3(
             b"verilog 8 IndexWidth",
-            &[
-                name_field(b"name", name.as_bytes()),
-                number_field(b"width", *width as u64),
-                number_field(b"needed", *needed as u64),
-            ],
+            name_field(b"name", name.as_bytes()),
+            number_field(b"width", *width as u64),
+            number_field(b"needed", *needed as u64),
         ),
         VerilogFault::TooWide { at } => {
-            put_line(
-                err,
-                b"verilog 9 TooWide",
-                &[number_field(b"at", *at as u64)],
-            )
+            line1(b"verilog 9 TooWide", number_field(b"at", *at as u64))
         }
-        VerilogFault::TwoDrivers { name } => put_line(
-            err,
+        VerilogFault::TwoDrivers { name } => line1(
             b"verilog 10 TwoDrivers",
-            &[name_field(b"name", name.as_bytes())],
+            name_field(b"name", name.as_bytes()),
         ),
-        VerilogFault::TooMany { what, count, limit } => put_line(
-            err,
+        VerilogFault::TooMany { what, count, limit } => line3(
             b"verilog 11 TooMany",
-            &[
-                name_field(b"what", what.as_bytes()),
-                number_field(b"count", *count),
-                number_field(b"limit", *limit),
-            ],
+            name_field(b"what", what.as_bytes()),
+            number_field(b"count", *count),
+            number_field(b"limit", *limit),
         ),
-        VerilogFault::NoMemory => put_line(err, b"", &[]),
+        VerilogFault::NoMemory => line0(b""),
     }
 }
 
-/// Writes the line of an image's fault.
-pub fn put_image_line<E: Sink>(err: &mut E, fault: &ImageFault) -> Result<(), Failed>
-    ensures { Puts (E.written err.old) (E.written err.new) (E.faults err.old) (E.faults err.new) result (line_text (image_line fault.now)) }
+/// The line of an image's fault.
+pub fn image_line(fault: &ImageFault) -> Line<'_>
+    ensures { line_of result ≡ image_line fault.now }
 {
     match fault {
         ImageFault::NotAnImage { line } => {
-            put_line(
-                err,
-                b"image 1 NotAnImage",
-                &[number_field(b"line", *line as u64)],
-            )
+            line1(b"image 1 NotAnImage", number_field(b"line", *line as u64))
         }
-        ImageFault::OtherDescription { kept, expected } => put_line(
-            err,
+        ImageFault::OtherDescription { kept, expected } => line2(
             b"image 2 OtherDescription",
-            &[
-                digest_field(b"kept", kept),
-                digest_field(b"expected", expected),
-            ],
+            digest_field(b"kept", kept),
+            digest_field(b"expected", expected),
         ),
-        ImageFault::NoSuchMemory { name } => put_line(
-            err,
+        ImageFault::NoSuchMemory { name } => line1(
             b"image 3 NoSuchMemory",
-            &[name_field(b"name", name.as_bytes())],
+            name_field(b"name", name.as_bytes()),
         ),
-        ImageFault::NoMemory => put_line(err, b"", &[]),
+        ImageFault::NoMemory => line0(b""),
     }
 }
 
-/// Writes the line of a schedule's fault.
-pub fn put_schedule_line<E: Sink>(err: &mut E, fault: &ScheduleFault) -> Result<(), Failed>
-    ensures { Puts (E.written err.old) (E.written err.new) (E.faults err.old) (E.faults err.new) result (line_text (schedule_line fault.now)) }
+/// The line of a schedule's fault.
+pub fn schedule_line(fault: &ScheduleFault) -> Line<'_>
+    ensures { line_of result ≡ schedule_line fault.now }
 {
     match fault {
         ScheduleFault::BadLine { line } => {
-            put_line(
-                err,
-                b"schedule 1 BadLine",
-                &[number_field(b"line", *line as u64)],
-            )
+            line1(b"schedule 1 BadLine", number_field(b"line", *line as u64))
         }
-        ScheduleFault::UnknownPin { line, name } => put_line(
-            err,
+        ScheduleFault::UnknownPin { line, name } => line2(
             b"schedule 2 UnknownPin",
-            &[
-                number_field(b"line", *line as u64),
-                name_field(b"name", name.as_bytes()),
-            ],
+            number_field(b"line", *line as u64),
+            name_field(b"name", name.as_bytes()),
         ),
         ScheduleFault::NotRising { line } => {
-            put_line(
-                err,
-                b"schedule 3 NotRising",
-                &[number_field(b"line", *line as u64)],
-            )
+            line1(b"schedule 3 NotRising", number_field(b"line", *line as u64))
         }
-        ScheduleFault::PinRange { line, name, value } => put_line(
-            err,
+        ScheduleFault::PinRange { line, name, value } => line3(
             b"schedule 4 PinRange",
-            &[
-                number_field(b"line", *line as u64),
-                name_field(b"name", name.as_bytes()),
-                number_field(b"value", *value),
-            ],
+            number_field(b"line", *line as u64),
+            name_field(b"name", name.as_bytes()),
+            number_field(b"value", *value),
         ),
-        ScheduleFault::NoMemory => put_line(err, b"", &[]),
+        ScheduleFault::NoMemory => line0(b""),
     }
 }

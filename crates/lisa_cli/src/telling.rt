@@ -1,13 +1,14 @@
 //! The line that a status has on the second stream.
 ghost use Rattle.std.specs.Prelude.{◌≡◌, true, IsErr};
 ghost use Rattle.lisa_io.specs.Contents.{Puts};
-ghost use Rattle.lisa_cli.specs.Lines.{line_text};
+ghost use Rattle.lisa_cli.specs.LineViews.{line_of};
 ghost use Rattle.lisa_cli.specs.Says.{refusal_line, status_text, has_line};
 ghost use Rattle.lisa_cli.specs.Told.{IsTold};
 ghost use Rattle.lisa_outcomes.specs.declared.status.Status.TheVariants as statuses;
 
-use crate::fault_lines::{put_description_line, put_file_line, put_input_line, put_later_line};
-use crate::module_lines::{put_image_line, put_schedule_line, put_verilog_line};
+use crate::fault_lines::{description_line, file_line, input_line, later_line};
+use crate::lines::{Line, put_line};
+use crate::module_lines::{image_line, schedule_line, verilog_line};
 use lisa_io::{Failed, Sink, put_all};
 use lisa_outcomes::{Refusal, Status};
 
@@ -15,17 +16,17 @@ const USAGE: &[u8] =
     b"usage: lisa check|fmt|verilog|run|trace|clock|clocktrace|asm|link|dis|debug|vdebug|gen|soak ..\n";
 
 // The line of a refusal.
-fn put_refusal<E: Sink>(refusal: &Refusal, err: &mut E) -> Result<(), Failed>
-    ensures { Puts (E.written err.old) (E.written err.new) (E.faults err.old) (E.faults err.new) result (line_text (refusal_line refusal.now)) }
+fn refusal_line(refusal: &Refusal) -> Line<'_>
+    ensures { line_of result ≡ refusal_line refusal.now }
 {
     match refusal {
-        Refusal::File(fault) => put_file_line(err, fault),
-        Refusal::Input(fault) => put_input_line(err, fault),
-        Refusal::Description(fault) => put_description_line(err, fault),
-        Refusal::Verilog(fault) => put_verilog_line(err, fault),
-        Refusal::Image(fault) => put_image_line(err, fault),
-        Refusal::Schedule(fault) => put_schedule_line(err, fault),
-        Refusal::Later(fault) => put_later_line(err, fault),
+        Refusal::File(fault) => file_line(fault),
+        Refusal::Input(fault) => input_line(fault),
+        Refusal::Description(fault) => description_line(fault),
+        Refusal::Verilog(fault) => verilog_line(fault),
+        Refusal::Image(fault) => image_line(fault),
+        Refusal::Schedule(fault) => schedule_line(fault),
+        Refusal::Later(fault) => later_line(fault),
     }
 }
 
@@ -36,7 +37,7 @@ fn put_status<E: Sink>(status: &Status, err: &mut E) -> Result<(), Failed>
 {
     match status {
         Status::Done | Status::WriteFault => Ok(()),
-        Status::Refused(refusal) => put_refusal(refusal, err),
+        Status::Refused(refusal) => put_line(err, &refusal_line(refusal)),
         Status::Usage => put_all(err, USAGE),
         Status::ReadFault => put_all(err, b"lisa: read fault\n"),
         Status::NoMemory => put_all(err, b"lisa: out of memory\n"),

@@ -8,16 +8,16 @@ pub returns-in-Format-clause-ends : goal.returns-in-Format-clause-ends
 returns-in-Format-clause-ends g c = rw c.in-Format.is (replies_end {T = Unit {0}} {W = List ℕ} _ _ _ _ _ _ _ _ (rw c.file_at.ensures at c.format_description.ensures))
 
 pub returns-in-Check-clause-ends : goal.returns-in-Check-clause-ends
-returns-in-Check-clause-ends g c = rw c.in-Check.is (replies_end {T = Unit {0}} {W = List ℕ} _ _ _ _ _ _ _ _ (rw c.file_at.ensures at c.check_description.ensures))
+returns-in-Check-clause-ends g c = rw c.in-Check.is (replies_end {T = Unit {0}} {W = List ℕ} _ _ _ _ _ _ _ _ (rw c.file_at-in-Check.ensures at c.check_description.ensures))
 
 pub returns-in-Simulate-clause-ends : goal.returns-in-Simulate-clause-ends
-returns-in-Simulate-clause-ends g c = rw c.in-Simulate.is (rw c.file_at.ensures at c.do_with_description.ensures.ends)
+returns-in-Simulate-clause-ends g c = rw c.in-Simulate.is (rw c.file_at-in-Simulate.ensures at c.do_with_description.ensures.ends)
 
-pub do_with_module-requires-image : goal.do_with_module-requires-image
-do_with_module-requires-image g c = rw c.run_bytes.ensures (image_short (names_of c.in-Clock.names) _ c.requires)
+pub do_with_module-requires-clause-image : goal.do_with_module-requires-clause-image
+do_with_module-requires-clause-image g c = rw c.run_bytes.ensures (image_short (names_of c.in-Clock.names) _ c.requires)
 
-pub do_with_module-requires-schedule : goal.do_with_module-requires-schedule
-do_with_module-requires-schedule g c = rw c.run_bytes.ensures (schedule_short (names_of c.in-Clock.names) _ c.requires)
+pub do_with_module-requires-clause-schedule : goal.do_with_module-requires-clause-schedule
+do_with_module-requires-clause-schedule g c = rw c.run_bytes.ensures (schedule_short (names_of c.in-Clock.names) _ c.requires)
 
 pub returns-in-Clock-clause-ends : goal.returns-in-Clock-clause-ends
 returns-in-Clock-clause-ends g c = rw c.in-Clock.is (rw c.run_bytes.ensures at c.do_with_module.ensures.ends)

@@ -1,15 +1,12 @@
-use Rattle.std.proofs.Common.{◌+◌, arith}
-use Rattle.lisa_io.proofs.Known.{puts_exit, puts_early, puts_more}
-use Rattle.lisa_cli.specs.Lines.{field_text}
-use Rattle.lisa_cli.specs.LineViews.{field_of}
+use Rattle.lisa_io.proofs.Known.{puts_then, puts_stop, puts_exit}
 use Rattle.lisa_cli.proofs.lines.put_fields.Goals as goal
 
 pub returns-in_err-put_field : goal.returns-in_err-put_field
-returns-in_err-put_field g c =
-    puts_exit _ _ c.from_residual.ensures.1
-    (puts_early (λ field. field_text (field_of field)) _ (c.loop-place.place + 1) _ _ _ _ _
-    (puts_more (λ field. field_text (field_of field)) c.args.fields.now c.loop-place.place _ _ _ _ _ _ _ _ _ (omega arith) c.loop-place.invariant c.in_err-put_field.ensures))
+returns-in_err-put_field g c = puts_exit _ _ c.from_residual.ensures.1 (puts_stop _ c.in_err-put_field.ensures)
 
-pub loop-place-preserved : goal.loop-place-preserved
-loop-place-preserved g c =
-    puts_more (λ field. field_text (field_of field)) c.args.fields.now c.loop-place.place _ _ _ _ _ _ _ _ _ (omega arith) c.loop-place.invariant c.in_ok-put_field.ensures
+pub returns-in_err-put_field-2 : goal.returns-in_err-put_field-2
+returns-in_err-put_field-2 g c =
+    puts_exit _ _ c.from_residual-in_err-put_field-2.ensures.1 (puts_then c.in_ok-put_field.ensures (puts_stop _ c.in_err-put_field-2.ensures))
+
+pub returns : goal.returns
+returns g c = puts_then c.in_ok-put_field.ensures (puts_then c.in_ok-put_field-2.ensures c.put_field-3.ensures)

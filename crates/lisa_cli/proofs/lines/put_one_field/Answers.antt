@@ -1,5 +1,5 @@
 use Rattle.lisa_io.proofs.Known.{puts_then, puts_stop, puts_exit}
-use Rattle.lisa_cli.proofs.lines.put_field.Goals as goal
+use Rattle.lisa_cli.proofs.lines.put_one_field.Goals as goal
 
 pub returns-in_err-put_all-2 : goal.returns-in_err-put_all-2
 returns-in_err-put_all-2 g c =
