@@ -1,7 +1,5 @@
 use Rattle.std.proofs.Common.{List, ℕ}
 use Rattle.lisa_outcomes.proofs.Endings.{replies_end}
-use Rattle.lisa_outcomes.specs.RunViews.{names_of}
-use Rattle.lisa_cli.proofs.RunShort.{image_short, schedule_short}
 use Rattle.lisa_cli.proofs.commands.perform_with.Goals as goal
 
 pub returns-in-Format-clause-ends : goal.returns-in-Format-clause-ends
@@ -12,12 +10,6 @@ returns-in-Check-clause-ends g c = rw c.in-Check.is (replies_end {T = Unit {0}} 
 
 pub returns-in-Simulate-clause-ends : goal.returns-in-Simulate-clause-ends
 returns-in-Simulate-clause-ends g c = rw c.in-Simulate.is (rw c.file_at-in-Simulate.ensures at c.do_with_description.ensures.ends)
-
-pub do_with_module-requires-clause-image : goal.do_with_module-requires-clause-image
-do_with_module-requires-clause-image g c = rw c.run_bytes.ensures (image_short (names_of c.in-Clock.names) _ c.requires)
-
-pub do_with_module-requires-clause-schedule : goal.do_with_module-requires-clause-schedule
-do_with_module-requires-clause-schedule g c = rw c.run_bytes.ensures (schedule_short (names_of c.in-Clock.names) _ c.requires)
 
 pub returns-in-Clock-clause-ends : goal.returns-in-Clock-clause-ends
 returns-in-Clock-clause-ends g c = rw c.in-Clock.is (rw c.run_bytes.ensures at c.do_with_module.ensures.ends)
