@@ -162,6 +162,7 @@ fn a_call_fails(rt: HostRuntime) -> Result<(), Fail> {
 }
 
 // What the program answers, prints and says.
+#[derive(Drop)]
 struct Seen {
     status: &'static str,
     printed: Vec<u8>,
