@@ -170,7 +170,7 @@ struct Seen {
 }
 
 // What is seen where these calls fail.
-fn seen(alloc: Global, asked: &str, failing: [&[u64]; 4]) -> Result<Seen, Fail> {
+fn watch_run(alloc: Global, asked: &str, failing: [&[u64]; 4]) -> Result<Seen, Fail> {
     let mut input = MemSource::new(LINES.to_vec(alloc)?, failing[1].to_vec(alloc)?);
     let mut out = sink(alloc, failing[2])?;
     let mut err = sink(alloc, failing[3])?;
@@ -216,10 +216,10 @@ fn fails_well(alloc: Global, asked: &str, whole: &Seen, call: u64) -> Result<boo
     let once = [call];
     let once = once.as_slice();
     let none = [].as_slice();
-    let file = seen(alloc, asked, [once, none, none, none])?;
-    let input = seen(alloc, asked, [none, once, none, none])?;
-    let out = seen(alloc, asked, [none, none, once, none])?;
-    let err = seen(alloc, asked, [none, none, none, once])?;
+    let file = watch_run(alloc, asked, [once, none, none, none])?;
+    let input = watch_run(alloc, asked, [none, once, none, none])?;
+    let out = watch_run(alloc, asked, [none, none, once, none])?;
+    let err = watch_run(alloc, asked, [none, none, none, once])?;
     Ok(
         (is_same(whole, &file) || is_unread(whole, &file) && file.printed.is_empty())
             && (is_same(whole, &input) || is_unread(whole, &input))
@@ -249,7 +249,7 @@ const COMMANDS: [&str; 14] = [
 #[test]
 fn each_call_fails(rt: HostRuntime) -> Result<(), Fail> {
     for asked in COMMANDS {
-        let whole = seen(rt.alloc(), asked, NONE)?;
+        let whole = watch_run(rt.alloc(), asked, NONE)?;
         for call in 1..24 {
             assert!(rt;
                 fails_well(rt.alloc(), asked, &whole, call)?,
