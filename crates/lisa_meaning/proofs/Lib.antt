@@ -1,5 +1,7 @@
 pub mod Words
 pub mod Nodes
+pub mod Onward
+pub mod Roots
 pub mod Running
 pub mod Slots
 pub mod Stored

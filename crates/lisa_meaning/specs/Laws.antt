@@ -1,12 +1,13 @@
 -- What holds of the meaning of descriptions.
-use Rattle.std.specs.Prelude.{ℕ, suc, ◌≡◌, Bool, List, [], ◌∷◌, map}
+use Rattle.std.specs.Prelude.{ℕ, suc, ◌≡◌, ◌<◌, ◌≤◌, Bool, true, ◌||◌, List, [], ◌∷◌, Some, map, slice_get}
+use Rattle.std.specs.List.{AllByRecursion}
 use Rattle.lisa_tree.specs.Descriptions.{DescriptionTree}
 use Rattle.activation_trees.specs.declared.parts.Occurrence.{Occurrence}
 use Rattle.activation_trees.specs.Unfolding.{occurrences}
 use Rattle.pipeline_time.specs.Acts.{Node}
-use Rattle.pipeline_time.specs.Cores.{all_nodes}
+use Rattle.pipeline_time.specs.Cores.{Core, all_nodes}
 use Rattle.lisa_meaning.specs.Trees.{level_of_stage}
-use Rattle.lisa_meaning.specs.Cores.{core_of}
+use Rattle.lisa_meaning.specs.Cores.{is_root_at, core_of}
 
 -- an occurrence as both lists have it: its number, the level of its activator, its own, and whether it is past the root
 pub record Listed : Type 0 where
@@ -29,3 +30,35 @@ listed_from k (x ∷ rest) = occurrence_listed k x ∷ listed_from (suc k) rest
 -- The nodes of the tree are the occurrences, in their order.
 abbrev pub TreesAreOccurrences : DescriptionTree → Type 0
 TreesAreOccurrences d = map node_listed (all_nodes (core_of d)) ≡ listed_from 0 (occurrences d)
+
+-- ---- what time asks of them
+
+-- it runs in no earlier stage than its activator, and in one of the stages or in none
+pub record IsOnward {R M : Type 0} (core : Core R M) (node : Node) : Type 0 where
+  pub ordered : node.above ≤ node.level
+  pub within : node.level ≤ core.stages
+
+abbrev pub LevelsGoForward : DescriptionTree → Type 0
+LevelsGoForward d = AllByRecursion (IsOnward (core_of d)) (all_nodes (core_of d))
+
+-- only an instruction chooses what is past the root
+abbrev pub IsChosenDecoded : {R M : Type 0} → Core R M → Node → Type 0
+IsChosenDecoded core node = node.past ≡ true → (word : ℕ) → core.chooses node.number word ≡ true → core.decodes word ≡ true
+
+abbrev pub InstructionsChoose : DescriptionTree → Type 0
+InstructionsChoose d = AllByRecursion (IsChosenDecoded (core_of d)) (all_nodes (core_of d))
+
+-- the occurrence of this number is the root, or is past it
+abbrev pub IsInside : DescriptionTree → ℕ → Type 0
+IsInside d p = (y : Occurrence) × (slice_get (occurrences d) p ≡ Some y) × ((y.past_root || is_root_at d p) ≡ true)
+
+-- past the root stands only what the root activates, and what is activated there
+abbrev pub PastIsInside : DescriptionTree → Type 0
+PastIsInside d = (k : ℕ) (x : Occurrence) → slice_get (occurrences d) k ≡ Some x → x.past_root ≡ true → (p : ℕ) × (x.parent ≡ Some p) × IsInside d p
+
+-- One occurrence may be the root, and the level of the root is its level, where there are stages.
+pub record RootIsOne {R M : Type 0} (core : Core R M) : Type 0 where
+  pub number : ℕ
+  pub one : (k : ℕ) → core.is_root k ≡ true → k ≡ number
+  pub level_is : AllByRecursion (λ node. core.is_root node.number ≡ true → 0 < core.stages → core.root_level ≡ Some node.level) (all_nodes core)
+  pub within : (level : ℕ) → core.root_level ≡ Some level → (0 < core.stages) × (level ≤ core.stages)

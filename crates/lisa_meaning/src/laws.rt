@@ -5,6 +5,7 @@ ghost use Rattle.lisa_tree.specs.Descriptions.{DescriptionTree};
 ghost use Rattle.lisa_engine.specs.Memory.{Memory};
 ghost use Rattle.lisa_engine.specs.Images.{IsImage, missing_memory};
 ghost use Rattle.lisa_engine.specs.Shape.{IsShaped};
+ghost use Rattle.lisa_forms.specs.Verdicts.{HasForms};
 ghost use Rattle.lisa_machine.specs.Verdicts.{IsAccepted};
 ghost use Rattle.machine_parts.specs.Parts.{arrays_of};
 ghost use Rattle.instruction_forms.specs.Widths.{HasWidth};
@@ -20,7 +21,7 @@ ghost use Rattle.pipeline_time.specs.Laws.{
 ghost use Rattle.lisa_meaning.specs.Scenes.{form_with};
 ghost use Rattle.lisa_meaning.specs.Cores.{core_of};
 ghost use Rattle.lisa_meaning.specs.States.{state_of};
-ghost use Rattle.lisa_meaning.specs.Laws.{TreesAreOccurrences};
+ghost use Rattle.lisa_meaning.specs.Laws.{TreesAreOccurrences, LevelsGoForward, InstructionsChoose, PastIsInside, RootIsOne};
 
 /// Items run in listed order: one that the word's instruction doesn't choose does nothing, one of its activator's stage or of none runs at
 /// once, one of a later stage is recorded, and of an `if` the items of one branch run.
@@ -35,6 +36,27 @@ pub fn items_run_in_order()
 /// activators' stages.
 pub fn trees_are_occurrences()
     ensures { (d : DescriptionTree) → IsAccepted d → TreesAreOccurrences d }
+{}
+
+/// No occurrence of an accepted description runs in an earlier stage than its activator, and each runs in one of the pipeline's stages or in
+/// none.
+pub fn levels_go_forward()
+    ensures { (d : DescriptionTree) → IsAccepted d → LevelsGoForward d }
+{}
+
+/// Of the occurrences past the root a word chooses none unless an instruction has the word.
+pub fn instructions_choose()
+    ensures { (d : DescriptionTree) → IsAccepted d → InstructionsChoose d }
+{}
+
+/// What is past the root is activated by the root, or by what is past it.
+pub fn past_is_inside()
+    ensures { (d : DescriptionTree) → PastIsInside d }
+{}
+
+/// An accepted description with forms has one occurrence of the root at most. Where it has one and a pipeline, that one's stage is the root's.
+pub fn root_is_one()
+    ensures { (d : DescriptionTree) → IsAccepted d → HasForms d → RootIsOne (core_of d) }
 {}
 
 /// A word is decoded as the first plain form that has it, so no other plain form has it.
