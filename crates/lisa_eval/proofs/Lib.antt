@@ -1,0 +1,4 @@
+pub mod Wrapping
+pub mod Widths
+pub mod Slots
+pub mod Terms

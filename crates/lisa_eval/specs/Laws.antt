@@ -1,0 +1,25 @@
+-- What holds of resolved expressions.
+use Rattle.std.specs.Prelude.{◌≡◌, IfSome}
+use Rattle.lisa_words.specs.declared.words.Kind.{Kind}
+use Rattle.lisa_tree.specs.Expressions.{ExprTree}
+use Rattle.lisa_tree.specs.Descriptions.{DescriptionTree}
+use Rattle.description_places.specs.Scopes.{Scope}
+use Rattle.typed_values.specs.Effects.{whole}
+use Rattle.lisa_meaning.specs.Scenes.{Scene, running}
+use Rattle.lisa_meaning.specs.Moments.{Moment}
+use Rattle.lisa_meaning.specs.Values.{reader_of, value_of}
+use Rattle.behavior_plans.specs.Holdings.{Holdings}
+use Rattle.behavior_plans.specs.Terms.{TermTree}
+use Rattle.behavior_plans.specs.Values.{term_value, term_whole}
+use Rattle.lisa_eval.specs.Resolving.{resolved_term}
+use Rattle.lisa_eval.specs.Holding.{Holds}
+
+-- the term has the expression's value, with its kind and width, and gives a place of any kind what the expression gives it
+pub record IsMeant (d : DescriptionTree) (scene : Scene) (m : Moment) (h : Holdings) (e : ExprTree) (t : TermTree) : Type 0 where
+  pub value : term_value h t ≡ value_of d scene m e
+  pub whole : (kind : Kind) → term_whole h t kind ≡ whole (reader_of d scene m) e kind
+
+-- Over a store that holds the moment, an expression that is resolved has the value that is meant.
+abbrev pub TermsAreMeant : DescriptionTree → Type 0
+TermsAreMeant d =
+    (scene : Scene) (m : Moment) (scope : Scope) (h : Holdings) (e : ExprTree) → Holds d scene m scope h → IfSome (resolved_term d (running scene) scope e) (IsMeant d scene m h e)
