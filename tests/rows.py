@@ -443,6 +443,8 @@ row("an instruction that is too short", {"C": swap(C, ("0b00 0bx[6]", "0b00 0bx[
 row("a field that the text lacks", {"C": swap(C, ('SYNTAX { "BR" off=#S }', 'SYNTAX { "BR" }'))},
     step("check C", err="lisa: description 20 NotWritten operation=br name=off\n"))
 F = SAMPLES["f.lisa"]
+row("check of the pipeline of five stages", {"X": example("five.lisa")}, step("check X", counts(7, 2, 6, 17)))
+row("check of instructions of MIPS I", {"X": example("mips.lisa")}, step("check X", counts(59, 48, 76, 126)))
 row("two texts that differ", {"F": swap(F, ('SYNTAX { "R1" }', 'SYNTAX { "R16" }'))}, step("check F", counts(4, 2, 1, 1)))
 row("a number that stands apart", {"F": swap(F, ('"R" ~ n=#U', '"R" n=#U'), ('SYNTAX { "R1" }', 'SYNTAX { "R" "16" }'))},
     step("check F", counts(4, 2, 1, 1)))
