@@ -2,6 +2,7 @@ pub mod Words
 pub mod Nodes
 pub mod Onward
 pub mod Roots
+pub mod Sounds
 pub mod Running
 pub mod Slots
 pub mod Stored

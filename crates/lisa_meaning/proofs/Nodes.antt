@@ -61,7 +61,7 @@ listed_counted n (x ∷ xs) = ap suc (listed_counted (suc n) xs)
 abbrev pub AreListed : ℕ → ℕ → Acts → List Occurrence → Type 0
 AreListed above from acts xs = map node_listed (nodes above acts) ≡ listed_from from xs
 
-listed_size : (above from : ℕ) (acts : Acts) (xs : List Occurrence) → AreListed above from acts xs → size acts ≡ length xs
+pub listed_size : (above from : ℕ) (acts : Acts) (xs : List Occurrence) → AreListed above from acts xs → size acts ≡ length xs
 listed_size above from acts xs e =
     let a = nodes_counted above acts in
     let b = length-map (nodes above acts) node_listed in
@@ -79,19 +79,19 @@ joined above from a b xs ys first second =
 -- ---- what an activator activates
 
 module _ (d : DescriptionTree) (o : ℕ) where
-  abbrev Named : List (List ℕ) → List Activated
+  abbrev pub Named : List (List ℕ) → List Activated
   Named names = activated_by d (starts_named d o names)
 
-  abbrev One : List ℕ → List Activated
+  abbrev pub One : List ℕ → List Activated
   One n = activated_by d (option_to_list (start_of d o n))
 
-  named_one : (n : List ℕ) (rest : List (List ℕ)) → Named (n ∷ rest) ≡ One n ++ Named rest
+  pub named_one : (n : List ℕ) (rest : List (List ℕ)) → Named (n ∷ rest) ≡ One n ++ Named rest
   named_one n rest = elim (start_of d o n) as (λ s. activated_by d (option_to_list s ++ starts_named d o rest) ≡ activated_by d (option_to_list s) ++ Named rest) [
     | None ↦ refl
     | Some s ↦ ap (λ (l : List Activated). l ++ Named rest) (sym (append-nil (alternatives d s)))
   ]
 
-  named_two : (xs ys : List (List ℕ)) → Named (xs ++ ys) ≡ Named xs ++ Named ys
+  pub named_two : (xs ys : List (List ℕ)) → Named (xs ++ ys) ≡ Named xs ++ Named ys
   named_two [] ys = refl
   named_two (n ∷ xs) ys =
       named_one n (xs ++ ys)
@@ -100,18 +100,18 @@ module _ (d : DescriptionTree) (o : ℕ) where
       ∙ ap (λ (l : List Activated). l ++ Named ys) (sym (named_one n xs))
 
 -- what is below each occurrence is listed so
-abbrev IsBelow : (ℕ → Occurrence → Acts) → (ℕ → Occurrence → List Occurrence) → Type 0
+abbrev pub IsBelow : (ℕ → Occurrence → Acts) → (ℕ → Occurrence → List Occurrence) → Type 0
 IsBelow below tree = (from : ℕ) (x : Occurrence) → map node_listed (nodes (level_of_stage x.stage) (below from x)) ≡ listed_from (suc from) (tree from x)
 
 module _ (a : Activator) (tree : ℕ → Occurrence → List Occurrence) (is_below : IsBelow a.below tree) where
   -- an occurrence, and then its tree
-  abbrev Grown : ℕ → Occurrence → List Occurrence
+  abbrev pub Grown : ℕ → Occurrence → List Occurrence
   Grown from x = x ∷ tree from x
 
-  abbrev Above : ℕ
+  abbrev pub Above : ℕ
   Above = level_of_stage a.occurrence.stage
 
-  abbrev Children : List Activated → List Occurrence
+  abbrev pub Children : List Activated → List Occurrence
   Children ones = map (child a.description a.number a.occurrence) ones
 
   row_listed : (from : ℕ) (ones : List Activated) → AreListed Above from (row a from ones) (in_turn Grown from (Children ones))
@@ -142,17 +142,17 @@ module _ (a : Activator) (tree : ℕ → Occurrence → List Occurrence) (is_bel
       ∙ ap (listed_from from) (sym (in_turn_append Grown (Children xs) (Children ys) from))
       ∙ ap (λ (l : List Occurrence). listed_from from (in_turn Grown from l)) (sym (map-append (child a.description a.number a.occurrence) xs ys))
 
-  abbrev Of : List (List ℕ) → List Activated
+  abbrev pub Of : List (List ℕ) → List Activated
   Of names = Named a.description a.occurrence.operation names
 
   together : (xs ys : List (List ℕ)) → Of xs ++ Of ys ≡ Of (xs ++ ys)
   together xs ys = sym (named_two a.description a.occurrence.operation xs ys)
 
-  abbrev AreNamed : ℕ → Acts → List (List ℕ) → Type 0
+  abbrev pub AreNamed : ℕ → Acts → List (List ℕ) → Type 0
   AreNamed from acts names = AreListed Above from acts (in_turn Grown from (Children (Of names)))
 
   mutual
-    item_listed : (from test : ℕ) (item : ActTree) → AreNamed from (item_acts a from test item) (act_names item)
+    pub item_listed : (from test : ℕ) (item : ActTree) → AreNamed from (item_acts a from test item) (act_names item)
     item_listed from test (items.Start n) =
         let ones = One a.description a.occurrence.operation n in
         row_listed from ones ∙ ap (λ (l : List Activated). listed_from from (in_turn Grown from (Children l))) (sym (named_one a.description a.occurrence.operation n [] ∙ append-nil ones))
@@ -165,7 +165,7 @@ module _ (a : Activator) (tree : ℕ → Occurrence → List Occurrence) (is_bel
         ∙ in_two from f g (Of (acts_names chosen)) (Of (acts_names other)) (items_listed from (suc test) chosen) (items_listed (from + size f) (suc test + items_tests chosen) other)
         ∙ ap (λ (l : List Activated). listed_from from (in_turn Grown from (Children l))) (together (acts_names chosen) (acts_names other))
 
-    items_listed : (from test : ℕ) (all : ActTrees) → AreNamed from (items_acts a from test all) (acts_names all)
+    pub items_listed : (from test : ℕ) (all : ActTrees) → AreNamed from (items_acts a from test all) (acts_names all)
     items_listed from test items.End = refl
     items_listed from test (items.Then item rest) =
         let f = item_acts a from test item in
@@ -183,7 +183,7 @@ module _ (a : Activator) (tree : ℕ → Occurrence → List Occurrence) (is_bel
 
 module _ (d : DescriptionTree) where
   -- what is below an occurrence, so many levels deep
-  abbrev Tree : ℕ → ℕ → Occurrence → List Occurrence
+  abbrev pub Tree : ℕ → ℕ → Occurrence → List Occurrence
   Tree levels number x = in_turn (unfolded levels d) (suc number) (children d number x)
 
   empty : (number : ℕ) (xs : List Occurrence) → in_turn (unfolded 0 d) number xs ≡ []

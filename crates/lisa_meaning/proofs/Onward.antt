@@ -114,7 +114,7 @@ module _ (d : DescriptionTree) where
   decoded k word None e = e
   decoded k word (Some f) e = refl
 
-  by_instruction : (k word : ℕ) (x : Occurrence) → slice_get (occurrences d) k ≡ Some x → x.past_root ≡ true → chooses d k word ≡ true → decodes d word ≡ true
+  pub by_instruction : (k word : ℕ) (x : Occurrence) → slice_get (occurrences d) k ≡ Some x → x.past_root ≡ true → chooses d k word ≡ true → decodes d word ≡ true
   by_instruction k word x is past e = decoded k word (form_with d word) (sym (rw is (rw past refl)) ∙ e)
 
   pub chosen_decoded : TreesAreOccurrences d → InstructionsChoose d
@@ -122,7 +122,7 @@ module _ (d : DescriptionTree) where
 
   -- ---- what is past the root
 
-  root_named : (n : List ℕ) (o : ℕ) → names_instructions n (coding_in (sections_at d o)) ≡ true → is_root d o ≡ true
+  pub root_named : (n : List ℕ) (o : ℕ) → names_instructions n (coding_in (sections_at d o)) ≡ true → is_root d o ≡ true
   root_named n o e = by (coding_in (sections_at d o)) refl e
     where
       by : (r : Option CodingTree) → coding_in (sections_at d o) ≡ r → names_instructions n r ≡ true → is_root d o ≡ true
@@ -135,7 +135,7 @@ module _ (d : DescriptionTree) where
       let h = has_name d y.operation is.0 a is.1 in
       ap (λ (r : Option Occurrence). option_map_or (λ (z : Occurrence). is_root d z.operation) r false) at ∙ root_named h.name y.operation (sym h.named.by_root ∙ by_root)
 
-  either : (a b c : Bool) → (b ≡ true → c ≡ true) → (a || b) ≡ true → (a || c) ≡ true
+  pub either : (a b c : Bool) → (b ≡ true → c ≡ true) → (a || b) ≡ true → (a || c) ≡ true
   either true b c f e = refl
   either false b c f e = f e
 

@@ -31,7 +31,7 @@ none_there f None e = refl
 none_there f (Some x) e = absurd (cc e)
 
 module _ (d : DescriptionTree) where
-  none_is_twice : HasForms d → first_root_twice d ≡ None
+  pub none_is_twice : HasForms d → first_root_twice d ≡ None
   none_is_twice h =
       let a : from_writings d None = (passed (from_writings d) h).1 in
       let b : from_roots d None = (passed (from_roots d) a).1 in
@@ -180,7 +180,7 @@ module _ (d : DescriptionTree) where
         let most : k < j → ⊥ = none_before k j y x f e h g in
         omega (arith, least, most)
 
-    level_there : (k : ℕ) (x : Occurrence) → slice_get (occurrences d) k ≡ Some x → is_root_at d k ≡ true → 0 < length (stages d) → root_level d ≡ Some (level_of_stage x.stage)
+    pub level_there : (k : ℕ) (x : Occurrence) → slice_get (occurrences d) k ≡ Some x → is_root_at d k ≡ true → 0 < length (stages d) → root_level d ≡ Some (level_of_stage x.stage)
     level_there k x is root some =
         let r = root_there k root in
         let same : r.0 ≡ x = same_Some r.0 x (sym r.1 ∙ is) in

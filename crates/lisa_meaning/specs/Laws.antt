@@ -6,8 +6,10 @@ use Rattle.activation_trees.specs.declared.parts.Occurrence.{Occurrence}
 use Rattle.activation_trees.specs.Unfolding.{occurrences}
 use Rattle.pipeline_time.specs.Acts.{Node}
 use Rattle.pipeline_time.specs.Cores.{Core, all_nodes}
+use Rattle.pipeline_time.specs.Sound.{NamesEarlier}
+use Rattle.lisa_meaning.specs.Moments.{Moment}
 use Rattle.lisa_meaning.specs.Trees.{level_of_stage}
-use Rattle.lisa_meaning.specs.Cores.{is_root_at, core_of}
+use Rattle.lisa_meaning.specs.Cores.{is_root_at, behave, core_of}
 
 -- an occurrence as both lists have it: its number, the level of its activator, its own, and whether it is past the root
 pub record Listed : Type 0 where
@@ -62,3 +64,11 @@ pub record RootIsOne {R M : Type 0} (core : Core R M) : Type 0 where
   pub one : (k : ℕ) → core.is_root k ≡ true → k ≡ number
   pub level_is : AllByRecursion (λ node. core.is_root node.number ≡ true → 0 < core.stages → core.root_level ≡ Some node.level) (all_nodes core)
   pub within : (level : ℕ) → core.root_level ≡ Some level → (0 < core.stages) × (level ≤ core.stages)
+
+-- the stages that the BEHAVIOR of an occurrence stalls, and those that it flushes, are earlier than the one in which it runs
+pub record ControlsEarlier (d : DescriptionTree) (k : ℕ) (x : Occurrence) : Type 0 where
+  pub stalls : (word : ℕ) (m : Moment) → NamesEarlier (level_of_stage x.stage) m.stalled (behave d k word m).stalled
+  pub flushes : (word : ℕ) (m : Moment) → NamesEarlier (level_of_stage x.stage) m.flushed (behave d k word m).flushed
+
+abbrev pub ControlsGoBack : DescriptionTree → Type 0
+ControlsGoBack d = (k : ℕ) (x : Occurrence) → slice_get (occurrences d) k ≡ Some x → ControlsEarlier d k x

@@ -18,10 +18,11 @@ ghost use Rattle.pipeline_time.specs.Laws.{
   OtherLevelIsRecorded,
   OneBranchRuns,
 };
+ghost use Rattle.pipeline_time.specs.Sound.{IsSound};
 ghost use Rattle.lisa_meaning.specs.Scenes.{form_with};
 ghost use Rattle.lisa_meaning.specs.Cores.{core_of};
 ghost use Rattle.lisa_meaning.specs.States.{state_of};
-ghost use Rattle.lisa_meaning.specs.Laws.{TreesAreOccurrences, LevelsGoForward, InstructionsChoose, PastIsInside, RootIsOne};
+ghost use Rattle.lisa_meaning.specs.Laws.{TreesAreOccurrences, LevelsGoForward, InstructionsChoose, PastIsInside, RootIsOne, ControlsGoBack};
 
 /// Items run in listed order: one that the word's instruction doesn't choose does nothing, one of its activator's stage or of none runs at
 /// once, one of a later stage is recorded, and of an `if` the items of one branch run.
@@ -57,6 +58,12 @@ pub fn past_is_inside()
 /// An accepted description with forms has one occurrence of the root at most. Where it has one and a pipeline, that one's stage is the root's.
 pub fn root_is_one()
     ensures { (d : DescriptionTree) → IsAccepted d → HasForms d → RootIsOne (core_of d) }
+{}
+
+/// Where behaviours stall and flush only earlier stages than their own, an accepted description with forms has all that time asks of it, and so
+/// all laws of `pipeline_time` hold of it.
+pub fn cores_are_sound_where_controls_go_back()
+    ensures { (d : DescriptionTree) → IsAccepted d → HasForms d → ControlsGoBack d → IsSound (core_of d) }
 {}
 
 /// A word is decoded as the first plain form that has it, so no other plain form has it.
