@@ -2,3 +2,5 @@ pub mod Wrapping
 pub mod Widths
 pub mod Slots
 pub mod Terms
+pub mod Registers
+pub mod Assigned

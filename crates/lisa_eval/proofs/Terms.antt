@@ -1,8 +1,7 @@
 -- Resolved expressions have the values that are meant.
-use Rattle.std.proofs.Common.{◌≡◌, ◌<◌, ◌%◌, ◌-◌, ◌^◌, ◌∙◌, ℕ, zero, suc, Bool, true, false, not, List, [], ◌∷◌, Option, None, Some, IfSome, get_or, refl, sym, ap, subst}
-use Rattle.std.specs.Prelude.{slice_get, option_map, bit_and}
+use Rattle.std.proofs.Common.{◌≡◌, ◌%◌, ◌-◌, ◌∙◌, ℕ, Bool, not, List, [], Option, None, Some, IfSome, get_or, refl, sym, ap, subst}
+use Rattle.std.specs.Prelude.{slice_get, option_map}
 use Rattle.std.specs.Map.{lookup}
-use Rattle.lisa_words.specs.declared.words.Kind.{Kind}
 use Rattle.operators.specs.declared.binary.Operator.{Operator}
 use Rattle.lisa_tree.specs.declared.tokens.Shape.{Shape}
 use Rattle.lisa_tree.specs.Expressions as exprs
@@ -18,20 +17,20 @@ use Rattle.description_names.specs.Meanings.{meaning}
 use Rattle.description_places.specs.Literals as plain
 use Rattle.description_places.specs.Scopes.{Scope}
 use Rattle.lisa_machine.specs.Verdicts.{IsAccepted}
-use Rattle.typed_values.specs.Words.{TypedWord, typed, as_shape, truth, is_zero}
+use Rattle.typed_values.specs.Words.{TypedWord, as_shape, truth, is_zero}
 use Rattle.typed_values.specs.Operators.{operand, chosen}
-use Rattle.typed_values.specs.Expressions.{Reader, value, made_of, complement}
+use Rattle.typed_values.specs.Expressions.{value, made_of, complement}
 use Rattle.typed_values.specs.Effects.{whole, whole_of}
 use Rattle.reset_values.specs.Effects.{local_or}
 use Rattle.description_sizes.specs.Texts.{levels}
 use Rattle.lisa_meaning.specs.Scenes.{Scene, at_path, running}
 use Rattle.lisa_meaning.specs.Moments.{Moment, bare, field_at}
-use Rattle.lisa_meaning.specs.Values.{Below, Array, resource_value, named_array, element_value, field_place, shape_at, shaped, shaped_field, boundary_value, stage_before, meant_value, value_within, reader_of, value_of}
-use Rattle.behavior_plans.specs.Holdings.{Holdings, word_at}
+use Rattle.lisa_meaning.specs.Values.{Below, Array, resource_value, named_array, element_value, field_place, shape_at, shaped_field, boundary_value, stage_before, meant_value, value_within, value_of}
+use Rattle.behavior_plans.specs.Holdings.{Holdings}
 use Rattle.behavior_plans.specs.Terms as terms
 use Rattle.behavior_plans.specs.Terms.{TermTree}
 use Rattle.behavior_plans.specs.Values.{literal, shaped_word, wrapped, term_value}
-use Rattle.lisa_eval.specs.Resolving.{local_slot, resource_term, meant_term, local_term, element_term, boundary_place, field_term, boundary_term, two_terms, choice_term, resolved_term}
+use Rattle.lisa_eval.specs.Resolving.{local_slot, resource_term, meant_term, local_term, element_term, field_term, boundary_term, two_terms, choice_term, resolved_term}
 use Rattle.lisa_eval.specs.Holding.{register_shape, pin_shape, Holds}
 use Rattle.lisa_eval.specs.Laws.{IsMeant, TermsAreMeant}
 use Rattle.lisa_eval.proofs.Wrapping.{wraps}

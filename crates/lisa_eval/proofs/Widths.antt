@@ -1,5 +1,5 @@
 -- Bits that fit a type are the word of that type, and an accepted description has widths and depths that fit.
-use Rattle.std.proofs.Common.{◌≡◌, ◌<◌, ◌≤◌, ◌%◌, ◌^◌, ◌∙◌, ℕ, zero, suc, Bool, true, false, cond, List, [], ◌∷◌, Option, None, Some, nat_lt, refl, ap, subst, arith, mod-eq_of_lt}
+use Rattle.std.proofs.Common.{◌≡◌, ◌<◌, ◌≤◌, ◌^◌, ◌∙◌, ℕ, zero, suc, Bool, true, false, cond, List, [], ◌∷◌, Option, None, Some, nat_lt, refl, ap, subst, arith, mod-eq_of_lt}
 use Rattle.std.specs.Prelude.{slice_get, option_map}
 use Rattle.std.specs.List.{AllByRecursion}
 use Rattle.std.proofs.lemmas.Bool.Decides.{nat_tests}
@@ -16,7 +16,7 @@ use Rattle.lisa_machine.specs.Verdicts.{IsAccepted}
 use Rattle.description_promises.specs.Resolving.{IsWidth, IsDepth, FitsResource}
 use Rattle.description_promises.proofs.Sound.{sound}
 use Rattle.description_promises.proofs.Resolved.{resource_fits}
-use Rattle.typed_values.specs.Words.{TypedWord, typed, fitted, word_width}
+use Rattle.typed_values.specs.Words.{typed, fitted, word_width}
 use Rattle.lisa_meaning.specs.Values.{Array, array_of, meant_array, shape_at, shaped}
 use Rattle.behavior_plans.specs.Values.{shaped_word}
 

@@ -7,6 +7,7 @@ use Rattle.graph_paths.specs.Paths.{is_in}
 use Rattle.description_places.specs.Scopes.{Scope}
 use Rattle.typed_values.specs.Words.{TypedWord}
 use Rattle.typed_values.specs.Effects.{Locals}
+use Rattle.machine_parts.specs.Parts.{registers_of}
 use Rattle.lisa_meaning.specs.Scenes.{Scene}
 use Rattle.lisa_meaning.specs.Moments.{Moment, field_at, written}
 use Rattle.lisa_meaning.specs.Values.{Array, register_place, pin_place, array_of, shape_at, shaped}
@@ -45,6 +46,9 @@ pub record HoldsLocals (scope : Scope) (locals : Locals) (slots : List TypedWord
 
 -- Registers and pins by their numbers among the resources, fields by boundary and place. Bits of cells and of fields are within their types.
 pub record Holds (d : DescriptionTree) (scene : Scene) (m : Moment) (scope : Scope) (h : Holdings) : Type 0 where
+  -- there are as many registers as the description has
+  pub stored : length m.memory.registers ≡ length (registers_of d)
+  pub room : length h.registers ≡ length (registers_of d)
   pub registers : HoldsWords d register_shape (register_place d) m.memory.registers h.registers
   pub kept : HoldsWords d register_shape (register_place d) m.kept h.kept
   pub pins : HoldsWords d pin_shape (pin_place d) m.pins h.pins

@@ -1,3 +1,4 @@
 pub mod Resolving
+pub mod Assigning
 pub mod Holding
 pub mod Laws
