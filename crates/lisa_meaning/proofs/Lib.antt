@@ -3,6 +3,7 @@ pub mod Nodes
 pub mod Onward
 pub mod Roots
 pub mod Sounds
+pub mod Added
 pub mod Running
 pub mod Slots
 pub mod Stored

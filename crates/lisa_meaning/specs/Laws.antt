@@ -72,3 +72,7 @@ pub record ControlsEarlier (d : DescriptionTree) (k : ℕ) (x : Occurrence) : Ty
 
 abbrev pub ControlsGoBack : DescriptionTree → Type 0
 ControlsGoBack d = (k : ℕ) (x : Occurrence) → slice_get (occurrences d) k ≡ Some x → ControlsEarlier d k x
+
+-- Behaviours take back no stall and no flush. What is named counts for no level.
+abbrev pub ControlsAreAdded : DescriptionTree → Type 0
+ControlsAreAdded d = (k word : ℕ) (m : Moment) → NamesEarlier 0 m.stalled (behave d k word m).stalled × NamesEarlier 0 m.flushed (behave d k word m).flushed

@@ -22,7 +22,7 @@ ghost use Rattle.pipeline_time.specs.Sound.{IsSound};
 ghost use Rattle.lisa_meaning.specs.Scenes.{form_with};
 ghost use Rattle.lisa_meaning.specs.Cores.{core_of};
 ghost use Rattle.lisa_meaning.specs.States.{state_of};
-ghost use Rattle.lisa_meaning.specs.Laws.{TreesAreOccurrences, LevelsGoForward, InstructionsChoose, PastIsInside, RootIsOne, ControlsGoBack};
+ghost use Rattle.lisa_meaning.specs.Laws.{TreesAreOccurrences, LevelsGoForward, InstructionsChoose, PastIsInside, RootIsOne, ControlsGoBack, ControlsAreAdded};
 
 /// Items run in listed order: one that the word's instruction doesn't choose does nothing, one of its activator's stage or of none runs at
 /// once, one of a later stage is recorded, and of an `if` the items of one branch run.
@@ -58,6 +58,11 @@ pub fn past_is_inside()
 /// An accepted description with forms has one occurrence of the root at most. Where it has one and a pipeline, that one's stage is the root's.
 pub fn root_is_one()
     ensures { (d : DescriptionTree) → IsAccepted d → HasForms d → RootIsOne (core_of d) }
+{}
+
+/// A behaviour only adds to the stages that are stalled, and to those that are flushed.
+pub fn controls_are_added()
+    ensures { (d : DescriptionTree) → ControlsAreAdded d }
 {}
 
 /// Where behaviours stall and flush only earlier stages than their own, an accepted description with forms has all that time asks of it, and so
