@@ -4,3 +4,4 @@ pub mod Slots
 pub mod Terms
 pub mod Registers
 pub mod Assigned
+pub mod Controls

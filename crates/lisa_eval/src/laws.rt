@@ -2,7 +2,7 @@
 
 ghost use Rattle.lisa_tree.specs.Descriptions.{DescriptionTree};
 ghost use Rattle.lisa_machine.specs.Verdicts.{IsAccepted};
-ghost use Rattle.lisa_eval.specs.Laws.{TermsAreMeant, NamesAreAssigned};
+ghost use Rattle.lisa_eval.specs.Laws.{TermsAreMeant, NamesAreAssigned, StallsAreHeld, FlushesAreHeld};
 
 /// In an accepted description an expression whose names are resolved to places has, over a store that holds a moment, the value that the
 /// expression means at that moment in its scene.
@@ -14,4 +14,10 @@ pub fn terms_are_meant()
 /// that assignment.
 pub fn names_are_assigned()
     ensures { (d : DescriptionTree) → NamesAreAssigned d }
+{}
+
+/// A store that holds a moment, and that a level is stalled or flushed besides, holds the moment in which that level is.
+pub fn controls_are_held()
+    ensures stalls { (d : DescriptionTree) → StallsAreHeld d }
+    ensures flushes { (d : DescriptionTree) → FlushesAreHeld d }
 {}

@@ -3,4 +3,4 @@
 
 mod laws;
 
-pub use laws::{names_are_assigned, terms_are_meant};
+pub use laws::{controls_are_held, names_are_assigned, terms_are_meant};
