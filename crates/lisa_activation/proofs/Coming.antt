@@ -98,6 +98,7 @@ coming shown level steps stage number = nat_lt 0 level && (nat_le level stage &&
 
 pub record Coming (shown : ℕ → ℕ → Bool) (before now : Queues) (steps : ℕ) : Type 0 where
   pub stand : (stage number : ℕ) → stage < 8 → number < count before → standing now stage number ≡ coming shown (above before number) steps stage number
+  pub none_beyond : (stage number : ℕ) → stage < 8 → count before ≤ number → standing now stage number ≡ false
   pub none_entered : (stage number : ℕ) → entered now stage number ≡ false
   pub none_first : (number : ℕ) → first now number ≡ false
   pub tables : HasTables before now
@@ -129,6 +130,8 @@ begun shown before now ended = record {
       ended.stand stage number within
       ∙ none_left (λ s. standing before s number) (λ s. runs_in before s number) (λ s. entered before s number) stage within
       ∙ far (nat_lt 0 (above before number)) (nat_le (above before number) stage) (nat_lt (stage + 8) 8) (shown (stage + 8) number) (le-ltb (stage + 8) 8 (omega arith));
+  none_beyond = λ stage number within beyond.
+      ended.stand stage number within ∙ none_left (λ s. standing before s number) (λ s. runs_in before s number) (λ s. entered before s number) stage within;
   none_entered = ended.none_entered;
   none_first = ended.none_first;
   tables = ended.tables;
@@ -197,9 +200,13 @@ not_first level x = grind arith
 inside_and : (b x : Bool) → b ≡ true → (b && x) ≡ x
 inside_and b x e = grind arith
 
+none_moves : (stood runs below x : Bool) → stood ≡ false → below ≡ false → ((stood && not runs) || (below && x)) ≡ false
+none_moves stood runs below x one two = grind arith
+
 pub one_step : (shown : ℕ → ℕ → Bool) (before now recorded after : Queues) (steps : ℕ) → IsShownBetween before shown → EnteredTo shown steps now recorded (count now) → IsFinished recorded after 0 0 → Coming shown before now (suc steps) → Coming shown before after steps
 one_step shown before now recorded after steps between all ended far = record {
   stand = stand;
+  none_beyond = none_beyond;
   none_entered = ended.none_entered;
   none_first = ended.none_first;
   tables = tables_both before recorded after so_far ended.tables;
@@ -223,6 +230,14 @@ one_step shown before now recorded after steps between all ended far = record {
         ∙ ap (λ l. comes shown l steps number && nat_eq (stage + 1) l) (far.tables.below number))
         ∙ step shown (above before number) steps stage number (runs_in before stage number) (λ is small. (between (stage + suc steps) number (ltb-true (stage + suc steps) 8 small) inside is).until_own stage (omega arith))
 
+    none_beyond : (stage number : ℕ) → stage < 8 → count before ≤ number → standing after stage number ≡ false
+    none_beyond zero number within beyond = ended.stand 0 number within ∙ not_held (standing recorded 0 number) (has 0 0) (not (has 0 0)) (has_none 0)
+    none_beyond (suc stage) number within beyond =
+        ended.stand (suc stage) number within
+        ∙ moves (λ s. standing recorded s number) (λ s. runs_in recorded s number) (λ s. entered recorded s number) stage
+        ∙ ap (λ e. (standing recorded stage number && not (runs_in recorded stage number)) || e) (all.recorded stage number (omega arith))
+        ∙ none_moves (standing recorded stage number) (runs_in recorded stage number) (nat_lt number (count now)) (comes shown (above now number) steps number && nat_eq (stage + 1) (above now number)) (all.same_standing stage number ∙ far.none_beyond stage number (omega arith) beyond) (le-ltb number (count now) (subst (λ n. n ≤ number) (sym far.tables.as_many) beyond))
+
 pub one_end : (shown : ℕ → ℕ → Bool) (before now recorded after : Queues) (steps i : ℕ) → i + 1 ≡ steps → IsShownBetween before shown → EnteredTo shown i now recorded (count now) → IsFinished recorded after 0 0 → Coming shown before now steps → Coming shown before after i
 one_end shown before now recorded after steps i e between all ended far =
     let at : steps ≡ suc i = omega arith in
@@ -235,6 +250,7 @@ all_come shown before now steps e between far = record {
       ∙ ap (λ s. coming shown (above before number) s stage number) e
       ∙ ap (λ n. nat_lt 0 (above before number) && (nat_le (above before number) stage && (nat_lt n 8 && shown n number))) (add_none stage)
       ∙ of stage number within inside (shown stage number) refl;
+  none_beyond = far.none_beyond;
   none_entered = far.none_entered;
   none_first = far.none_first;
   tables = far.tables;

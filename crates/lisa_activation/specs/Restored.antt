@@ -16,9 +16,10 @@ pub record IsBetween (queues : Queues) (stage number : ℕ) : Type 0 where
 abbrev pub IsShownBetween : Queues → (ℕ → ℕ → Bool) → Type 0
 IsShownBetween queues shown = (stage number : ℕ) → stage < 8 → number < count queues → shown stage number ≡ true → IsBetween queues stage number
 
--- what is shown stands, and nothing was recorded
+-- what is shown stands and nothing else, and nothing was recorded
 pub record IsRestored (before after : Queues) (shown : ℕ → ℕ → Bool) : Type 0 where
   pub stand : (stage number : ℕ) → stage < 8 → number < count before → standing after stage number ≡ shown stage number
+  pub none_beyond : (stage number : ℕ) → stage < 8 → count before ≤ number → standing after stage number ≡ false
   pub none_entered : (stage number : ℕ) → entered after stage number ≡ false
   pub none_first : (number : ℕ) → first after number ≡ false
   pub tables : HasTables before after

@@ -2,18 +2,16 @@
 use Rattle.std.proofs.Common.{◌≡◌, ℕ, zero, suc, ◌<◌, ◌≤◌, Bool, true, false, not, ◌&&◌, List, [], ◌∷◌, length, Option, Some, refl, sym, ap, ◌∙◌, subst, arith}
 use Rattle.std.specs.Prelude.{map, slice_get}
 use Rattle.std.specs.List.{filter, fold}
-use Rattle.std.proofs.lemmas.Bool.{cond-true, cond-false, both_ways, false_from_ne_true}
-use Rattle.pipeline_time.specs.Cores.{Core, above_of, all_nodes}
+use Rattle.std.proofs.lemmas.Bool.{cond-true, cond-false}
+use Rattle.pipeline_time.specs.Cores.{Core, all_nodes}
 use Rattle.pipeline_time.specs.Running.{Running, word_below, run_occurrence}
 use Rattle.pipeline_time.specs.Edges.{Standing, is_held, is_flushed, is_free, waiting, is_due, run_due, turn}
 use Rattle.lisa_activation.specs.declared.kept.Queues.{Queues}
 use Rattle.lisa_activation.specs.Queued.{is_due as is_queued}
 use Rattle.pipeline_runs.specs.declared.tree.Occurrence.{Occurrence}
-use Rattle.pipeline_runs.specs.Runs.{occurs, item_at, node_at, Represents, AreItems, IsReady, Stays}
-use Rattle.pipeline_runs.specs.Turns.{item_of, node_of, due_from, AreDue, WaitAs}
-
-some_same : (o p : Occurrence) → Some o ≡ Some p → o ≡ p
-some_same o p e = cc
+use Rattle.pipeline_runs.specs.Runs.{node_of, Represents}
+use Rattle.pipeline_runs.specs.Turns.{due_from, WaitAs}
+use Rattle.pipeline_runs.proofs.Tables.{none_some, some_same, at_within}
 
 module _ {R M : Type 0} (core : Core R M) (words : ℕ → Option ℕ) (stage : ℕ) where
   pub skip : (xs : List Occurrence) (k n : ℕ) → k ≤ n → ((i : ℕ) (o : Occurrence) → k ≤ i → i < n → slice_get xs i ≡ Some o → is_due core words (suc stage) (node_of o) ≡ false) → due_from core words stage k xs ≡ due_from core words stage n xs
@@ -29,12 +27,9 @@ module _ {R M : Type 0} (core : Core R M) (words : ℕ → Option ℕ) (stage : 
   skip (x ∷ xs) (suc k) (suc n) low none = skip xs k n (omega arith) (λ i o a b e. none (suc i) o (omega arith) (omega arith) e)
 
   pub next : (xs : List Occurrence) (n : ℕ) (o : Occurrence) → slice_get xs n ≡ Some o → is_due core words (suc stage) (node_of o) ≡ true → due_from core words stage n xs ≡ node_of o ∷ due_from core words stage (suc n) xs
-  next [] n o e is = absurd (none_some e)
-    where
-      none_some : slice_get [] n ≡ Some o → ⊥
-      none_some e = cc
+  next [] n o e is = absurd (none_some o e)
   next (x ∷ xs) zero o e is =
-      let same : x ≡ o = cc in
+      let same : x ≡ o = some_same x o e in
       cond-true (is_due core words (suc stage) (node_of x)) (node_of x ∷ due_from core words stage 0 xs) (due_from core words stage 0 xs) (subst (λ y. is_due core words (suc stage) (node_of y) ≡ true) (sym same) is)
       ∙ ap (λ y. node_of y ∷ due_from core words stage 0 xs) same
   next (x ∷ xs) (suc n) o e is = next xs n o e is
@@ -53,82 +48,26 @@ module _ {R M : Type 0} (core : Core R M) where
       ap (fold (run_due core words) now) (sym (none core words stage occurrences from (λ i o low e. (waits i o e).0 ∙ free i low)))
 
   -- the next one, and those after it
-  pub next_due : (queues : Queues) (stage word from n : ℕ) (words : ℕ → Option ℕ) (occurrences : List Occurrence) (o : Occurrence) (now : Running M) → WaitAs core queues stage word words occurrences → from ≤ n → is_queued queues stage n ≡ true → ((i : ℕ) → from ≤ i → i < n → is_queued queues stage i ≡ false) → slice_get occurrences n ≡ Some o → fold (run_due core words) (run_occurrence core (word_below o.past word) (node_of o) now) (due_from core words stage (suc n) occurrences) ≡ fold (run_due core words) now (due_from core words stage from occurrences)
+  next_due : (queues : Queues) (stage word from n : ℕ) (words : ℕ → Option ℕ) (occurrences : List Occurrence) (o : Occurrence) (now : Running M) → WaitAs core queues stage word words occurrences → from ≤ n → is_queued queues stage n ≡ true → ((i : ℕ) → from ≤ i → i < n → is_queued queues stage i ≡ false) → slice_get occurrences n ≡ Some o → fold (run_due core words) (run_occurrence core (word_below o.past word) (node_of o) now) (due_from core words stage (suc n) occurrences) ≡ fold (run_due core words) now (due_from core words stage from occurrences)
   next_due queues stage word from n words occurrences o now waits low is least e =
       let w = waits n o e in
       ap (λ v. fold (run_due core words) (run_occurrence core v (node_of o) now) (due_from core words stage (suc n) occurrences)) (sym (w.1 is))
       ∙ ap (fold (run_due core words) now)
       (sym (skip core words stage occurrences from n low (λ i p a b f. (waits i p f).0 ∙ least i a b) ∙ next core words stage occurrences n o e (w.0 ∙ is)))
 
-  -- what is due after one has run
-  pub due_after : (core' : Core R M) (queues queues' : Queues) (ran ran' : List ℕ) (stage word from n : ℕ) (occurrences : List Occurrence) (o : Occurrence) → AreDue core queues ran stage word from occurrences → from ≤ n → is_queued queues stage n ≡ true → slice_get occurrences n ≡ Some o → Stays core core' queues queues' ran ran' (item_of o) → ((number : ℕ) → is_queued queues' stage number ≡ is_queued queues stage number) → AreDue core' queues' ran' stage word (suc n) occurrences
-  due_after core' queues queues' ran ran' stage word from n occurrences o due low is e stays same = record {
-    within = λ m so. due.within m (sym (same m) ∙ so);
-    numbered = due.numbered;
-    level = λ m p f so. due.level m p f (sym (same m) ∙ so);
-    ready = λ m p above f so.
-        let was = sym (same m) ∙ so in
-        let r = due.ready m p (omega arith) f was in
-        subst (λ (c : Core R M). IsReady c queues' ran' (above_of c p.number) (item_of p)) (sym stays.same_core)
-        (record {
-          tables = stays.tables r.tables;
-          items = subst (λ many. AreItems core many (above_of core p.number) (item_of p)) (sym stays.same_count) r.items;
-          clear = λ k in_p.
-              stays.same_ran k (false_from_ne_true (occurs k (item_of o)) (λ in_o. both_ways (occurs k (item_of p)) (due.apart n m o p above e f is was k in_o) in_p))
-              ∙ r.clear k in_p;
-        });
-    chosen = λ m p f so past. subst (λ (c : Core R M). c.chooses p.number word ≡ true) (sym stays.same_core) (due.chosen m p f (sym (same m) ∙ so) past);
-    apart = λ a b p q lower f g so so'. due.apart a b p q lower f g (sym (same a) ∙ so) (sym (same b) ∙ so');
-  }
-
-  module _ (queues : Queues) (ran : List ℕ) (stage word n : ℕ) (occurrences : List Occurrence) (o : Occurrence) (due : AreDue core queues ran stage word n occurrences) (is : is_queued queues stage n ≡ true) (e : slice_get occurrences n ≡ Some o) where
-    pub ready_at : IsReady core queues ran (above_of core n) (item_at n o.level o.past o.own)
-    ready_at = subst (λ m. IsReady core queues ran (above_of core m) (item_at m o.level o.past o.own)) (due.numbered n o e) (due.ready n o (omega arith) e is)
-
-    pub chosen_at : (own : ℕ) → own ≡ word_below o.past word → o.past ≡ true → core.chooses n own ≡ true
-    chosen_at own same past =
-        subst (λ m. core.chooses m own ≡ true) (due.numbered n o e)
-        (subst (λ w. core.chooses o.number w ≡ true) (sym (same ∙ ap (λ p. word_below p word) past)) (due.chosen n o e is past))
-
-    pub runs_at : (moment : M) (after : Queues) (slot : Option ℕ) (bits : ℕ → ℕ → Bool) (now : Running M) (above own : ℕ) → own ≡ word_below o.past word → Represents moment after slot bits (run_occurrence core own (node_at above n o.level o.past o.own) now) → Represents moment after slot bits (run_occurrence core (word_below o.past word) (node_of o) now)
-    runs_at moment after slot bits now above own same seen =
-        subst (λ w. Represents moment after slot bits (run_occurrence core w (node_of o) now)) same
-        (subst (λ m. Represents moment after slot bits (run_occurrence core own (node_at above m o.level o.past o.own) now)) (sym (due.numbered n o e)) seen)
-
-    pub due_next : (core' : Core R M) (queues' : Queues) (ran' : List ℕ) → Stays core core' queues queues' ran ran' (item_at n o.level o.past o.own) → ((number : ℕ) → is_queued queues' stage number ≡ is_queued queues stage number) → AreDue core' queues' ran' stage word (suc n) occurrences
-    due_next core' queues' ran' stays same =
-        due_after core' queues queues' ran ran' stage word n n occurrences o due (omega arith) is e
-        (subst (λ m. Stays core core' queues queues' ran ran' (item_at m o.level o.past o.own)) (sym (due.numbered n o e)) stays) same
-
-    pub level_at : 0 < o.level
-    level_at = omega (arith, due.level n o e is)
-
-  pub due_later : (queues : Queues) (ran : List ℕ) (stage word from n : ℕ) (occurrences : List Occurrence) → from ≤ n → AreDue core queues ran stage word from occurrences → AreDue core queues ran stage word n occurrences
-  due_later queues ran stage word from n occurrences low due = record {
-    within = due.within;
-    numbered = due.numbered;
-    level = due.level;
-    ready = λ m o above e is. due.ready m o (omega arith) e is;
-    chosen = due.chosen;
-    apart = due.apart;
-  }
-
-  pub waits_after : (queues queues' : Queues) (stage word : ℕ) (words : ℕ → Option ℕ) (occurrences : List Occurrence) → ((number : ℕ) → is_queued queues' stage number ≡ is_queued queues stage number) → WaitAs core queues stage word words occurrences → WaitAs core queues' stage word words occurrences
+  waits_after : (queues queues' : Queues) (stage word : ℕ) (words : ℕ → Option ℕ) (occurrences : List Occurrence) → ((number : ℕ) → is_queued queues' stage number ≡ is_queued queues stage number) → WaitAs core queues stage word words occurrences → WaitAs core queues' stage word words occurrences
   waits_after queues queues' stage word words occurrences same waits n o e =
       let w = waits n o e in (w.0 ∙ sym (same n), λ is. w.1 (sym (same n) ∙ is))
 
   -- one occurrence read twice
-  pub same_item : (word : ℕ) (moment : M) (after : Queues) (slot : Option ℕ) (bits : ℕ → ℕ → Bool) (now : Running M) (n : ℕ) (occurrences : List Occurrence) (o p : Occurrence) → slice_get occurrences n ≡ Some o → slice_get occurrences n ≡ Some p → Represents moment after slot bits (run_occurrence core (word_below o.past word) (node_of o) now) → Represents moment after slot bits (run_occurrence core (word_below p.past word) (node_of p) now)
-  same_item word moment after slot bits now n occurrences o p e f seen = subst (λ (q : Occurrence). Represents moment after slot bits (run_occurrence core (word_below q.past word) (node_of q) now)) (some_same o p (sym e ∙ f)) seen
-
-  found : {X : Type 0} (xs : List X) (n : ℕ) → n < length xs → (x : X) × (slice_get xs n ≡ Some x)
-  found [] n low = absurd (omega arith)
-  found (x ∷ xs) zero low = (x, refl)
-  found (x ∷ xs) (suc n) low = found xs n (omega arith)
+  pub same_item : (word own : ℕ) (moment : M) (after : Queues) (slot : Option ℕ) (bits : ℕ → ℕ → Bool) (now : Running M) (n : ℕ) (occurrences : List Occurrence) (o p : Occurrence) → slice_get occurrences n ≡ Some o → slice_get occurrences n ≡ Some p → own ≡ word_below o.past word → Represents moment after slot bits (run_occurrence core own (node_of o) now) → Represents moment after slot bits (run_occurrence core (word_below p.past word) (node_of p) now)
+  same_item word own moment after slot bits now n occurrences o p e f is seen =
+      subst (λ (q : Occurrence). Represents moment after slot bits (run_occurrence core (word_below q.past word) (node_of q) now)) (some_same o p (sym e ∙ f))
+      (subst (λ w. Represents moment after slot bits (run_occurrence core w (node_of o) now)) is seen)
 
   pub turned : (core' : Core R M) (queues queues' : Queues) (moment : M) (after : Queues) (slot : Option ℕ) (bits : ℕ → ℕ → Bool) (stage word from n : ℕ) (words : ℕ → Option ℕ) (occurrences : List Occurrence) (now : Running M) → n < length occurrences → WaitAs core queues stage word words occurrences → from ≤ n → is_queued queues stage n ≡ true → ((i : ℕ) → from ≤ i → i < n → is_queued queues stage i ≡ false) → core' ≡ core → ((number : ℕ) → is_queued queues' stage number ≡ is_queued queues stage number) → ((o : Occurrence) → slice_get occurrences n ≡ Some o → WaitAs core' queues' stage word words occurrences → Represents moment after slot bits (fold (run_due core' words) (run_occurrence core (word_below o.past word) (node_of o) now) (due_from core' words stage (suc n) occurrences))) → Represents moment after slot bits (fold (run_due core words) now (due_from core words stage from occurrences))
   turned core' queues queues' moment after slot bits stage word from n words occurrences now within waits low is least same_core same rest =
-      let o = found occurrences n within in
+      let o = at_within occurrences n within in
       let w = subst (λ (c : Core R M). WaitAs c queues' stage word words occurrences) (sym same_core) (waits_after queues queues' stage word words occurrences same waits) in
       let seen = subst (λ (c : Core R M). Represents moment after slot bits (fold (run_due c words) (run_occurrence core (word_below o.0.past word) (node_of o.0) now) (due_from c words stage (suc n) occurrences))) same_core (rest o.0 o.1 w) in
       subst (λ (m : Running M). Represents moment after slot bits m) (next_due queues stage word from n words occurrences o.0 now waits low is least o.1) seen

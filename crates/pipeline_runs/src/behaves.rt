@@ -1,10 +1,9 @@
 //! What operations do in an edge.
 
-ghost use Rattle.std.specs.Prelude.{◌≡◌, ℕ, suc, ◌<◌, ◌∷◌, List, Bool, true, false};
+ghost use Rattle.std.specs.Prelude.{◌≡◌, ℕ, suc, ◌<◌};
 ghost use Rattle.activation_bits.specs.Members.{has};
 ghost use Rattle.pipeline_time.specs.Edges.{is_held, is_flushed};
-ghost use Rattle.pipeline_time.specs.Cores.{Core, is_past};
-ghost use Rattle.pipeline_runs.specs.Runs.{has_run};
+ghost use Rattle.pipeline_time.specs.Cores.{Core};
 
 use lisa_activation::Queues;
 
@@ -18,19 +17,25 @@ pub trait Behaves {
     /// The description, as far as time goes.
     ghost core: { Self → Core Lasting Moment };
 
+    /// What lasts, between edges.
+    ghost lasting: { Self → Lasting };
+
     /// How far the edge has come.
     ghost moment: { Self → Moment };
 
-    /// The occurrences that ran in the edge, newest first.
-    ghost ran: { Self → List ℕ };
+    /// Begins an edge, with the values of the pins.
+    fn begin(&mut self, pins: &[u64])
+        ensures moment { moment self.new ≡ (core self.old).begin pins.now (lasting self.old) }
+        ensures core { core self.new ≡ core self.old };
 
-    /// Does the BEHAVIOR of an occurrence with a word. It ran no time before in the edge, and past the root the word's instruction chooses
-    /// it.
+    /// Does the BEHAVIOR of an occurrence with a word.
     fn behave(&mut self, number: u32, word: u64)
-        requires fresh { has_run number (ran self.old) ≡ false }
-        requires chosen { is_past (core self.old) number ≡ true → (core self.old).chooses number word ≡ true }
         ensures moment { moment self.new ≡ (core self.old).behave number word (moment self.old) }
-        ensures ran { ran self.new ≡ number ∷ ran self.old }
+        ensures core { core self.new ≡ core self.old };
+
+    /// Ends an edge.
+    fn close(&mut self)
+        ensures lasting { lasting self.new ≡ (core self.old).close (moment self.old) }
         ensures core { core self.new ≡ core self.old };
 
     /// Whether the condition of an `if` holds: whose, its place among that one's, and the word.
@@ -61,6 +66,7 @@ pub trait Behaves {
 }
 
 /// How far an edge has come.
+#[derive(Drop)]
 pub struct Edge<B> {
     pub store: B,
     pub queues: Queues,

@@ -2,11 +2,19 @@
 #![tactic(auto)]
 
 mod behaves;
+mod edges;
+mod ends;
+mod makes;
+mod pipeline;
+mod plan;
+mod restores;
 mod runs;
 mod tree;
 mod turns;
 
 pub use behaves::{Behaves, Edge};
+pub use pipeline::Pipeline;
+pub use plan::Plan;
 pub use runs::{run, run_occurrence};
 pub use tree::{Occurrence, Tree};
 pub use turns::{turn, turn_from};

@@ -1,14 +1,14 @@
 //! Runs items.
 
-ghost use Rattle.std.specs.Prelude.{◌≡◌, ℕ, ◌<◌, Bool, true, false, ◌&&◌, if◌then◌else◌};
-ghost use Rattle.pipeline_time.specs.Cores.{is_past, above_of};
+ghost use Rattle.std.specs.Prelude.{◌≡◌, ℕ, ◌<◌, Bool, ◌&&◌, if◌then◌else◌};
+ghost use Rattle.pipeline_time.specs.Cores.{above_of};
 ghost use Rattle.pipeline_time.specs.Running.{Running, word_below, behavior, activate, run, run_occurrence};
 ghost use Rattle.lisa_activation.specs.Queued.{count, is_due};
 ghost use Rattle.lisa_activation.specs.Shown.{AreQueuesOf};
-ghost use Rattle.pipeline_runs.specs.Runs.{acts_of, node_at, item_at, has_run, Represents, IsReady, Stays, StaysBut};
+ghost use Rattle.pipeline_runs.specs.Runs.{acts_of, node_of, Represents, IsReady, Stays};
 
 use crate::behaves::{Behaves, Edge};
-use crate::tree::Tree;
+use crate::tree::{Occurrence, Tree};
 
 // The word with which an occurrence runs: the root takes its own.
 fn own_word<B: Behaves>(store: &B, number: u32, past: bool, word: u64) -> u64
@@ -32,10 +32,9 @@ fn takes<B: Behaves>(store: &B, number: u32, word: u64) -> bool
 
 // The BEHAVIOR of an occurrence that has this word.
 fn behave_once<B: Behaves>(number: u32, word: u64, edge: &mut Edge<B>)
-    requires fresh { has_run number (B.ran edge.old.store) ≡ false }
-    requires chosen { is_past (B.core edge.old.store) number ≡ true → (B.core edge.old.store).chooses number word ≡ true }
     ensures runs { (bits : ℕ → ℕ → Bool) (now : Running B.Moment) → Represents (B.moment edge.old.store) edge.old.queues edge.old.slot bits now → Represents (B.moment edge.new.store) edge.new.queues edge.new.slot bits (behavior (B.core edge.old.store) number word now) }
-    ensures stays { StaysBut (B.core edge.old.store) (B.core edge.new.store) edge.old.queues edge.new.queues (B.ran edge.old.store) (B.ran edge.new.store) number }
+    ensures queues { edge.new.queues ≡ edge.old.queues }
+    ensures core { B.core edge.new.store ≡ B.core edge.old.store }
 {
     edge.store.behave(number, word);
     if takes(&edge.store, number, word) {
@@ -60,9 +59,9 @@ fn record<B: Behaves>(here: u8, number: u32, edge: &mut Edge<B>)
 /// Runs the items under an activator that runs at a level with a word, in listed order: what runs at that level at once, and what runs at
 /// another one is recorded.
 pub fn run<B: Behaves>(here: u8, word: u64, acts: &Tree, edge: &mut Edge<B>)
-    requires { IsReady (B.core edge.old.store) edge.old.queues (B.ran edge.old.store) here (acts_of acts.now) }
+    requires { IsReady (B.core edge.old.store) edge.old.queues here (acts_of acts.now) }
     ensures runs { (bits : ℕ → ℕ → Bool) (now : Running B.Moment) → Represents (B.moment edge.old.store) edge.old.queues edge.old.slot bits now → Represents (B.moment edge.new.store) edge.new.queues edge.new.slot bits (run (B.core edge.old.store) here word (acts_of acts.now) now) }
-    ensures stays { Stays (B.core edge.old.store) (B.core edge.new.store) edge.old.queues edge.new.queues (B.ran edge.old.store) (B.ran edge.new.store) (acts_of acts.now) }
+    ensures stays { Stays (B.core edge.old.store) (B.core edge.new.store) edge.old.queues edge.new.queues }
     ensures due { 0 < here → (stage other : ℕ) → is_due edge.new.queues stage other ≡ is_due edge.old.queues stage other }
 {
     match acts {
@@ -93,21 +92,13 @@ pub fn run<B: Behaves>(here: u8, word: u64, acts: &Tree, edge: &mut Edge<B>)
 }
 
 /// Runs an occurrence that was activated with a word: its BEHAVIOR, and then its items.
-pub fn run_occurrence<B: Behaves>(
-    number: u32,
-    level: u8,
-    past: bool,
-    word: u64,
-    own: &Tree,
-    edge: &mut Edge<B>,
-)
-    requires ready { IsReady (B.core edge.old.store) edge.old.queues (B.ran edge.old.store) (above_of (B.core edge.old.store) number) (item_at number level past own.now) }
-    requires chosen { past ≡ true → (B.core edge.old.store).chooses number word ≡ true }
-    ensures runs { (bits : ℕ → ℕ → Bool) (now : Running B.Moment) → Represents (B.moment edge.old.store) edge.old.queues edge.old.slot bits now → Represents (B.moment edge.new.store) edge.new.queues edge.new.slot bits (run_occurrence (B.core edge.old.store) word (node_at (above_of (B.core edge.old.store) number) number level past own.now) now) }
-    ensures stays { Stays (B.core edge.old.store) (B.core edge.new.store) edge.old.queues edge.new.queues (B.ran edge.old.store) (B.ran edge.new.store) (item_at number level past own.now) }
-    ensures due { 0 < level → (stage other : ℕ) → is_due edge.new.queues stage other ≡ is_due edge.old.queues stage other }
+pub fn run_occurrence<B: Behaves>(occurrence: &Occurrence, word: u64, edge: &mut Edge<B>)
+    requires { IsReady (B.core edge.old.store) edge.old.queues occurrence.now.level (acts_of occurrence.now.own) }
+    ensures runs { (bits : ℕ → ℕ → Bool) (now : Running B.Moment) → Represents (B.moment edge.old.store) edge.old.queues edge.old.slot bits now → Represents (B.moment edge.new.store) edge.new.queues edge.new.slot bits (run_occurrence (B.core edge.old.store) word (node_of occurrence.now) now) }
+    ensures stays { Stays (B.core edge.old.store) (B.core edge.new.store) edge.old.queues edge.new.queues }
+    ensures due { 0 < occurrence.now.level → (stage other : ℕ) → is_due edge.new.queues stage other ≡ is_due edge.old.queues stage other }
 {
-    let mine = own_word(&edge.store, number, past, word);
-    behave_once(number, mine, edge);
-    run(level, mine, own, edge);
+    let mine = own_word(&edge.store, occurrence.number, occurrence.past, word);
+    behave_once(occurrence.number, mine, edge);
+    run(occurrence.level, mine, &occurrence.own, edge);
 }

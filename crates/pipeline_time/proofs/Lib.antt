@@ -9,6 +9,7 @@ pub mod Steps
 pub mod Falls
 pub mod Once
 pub mod Counts
+pub mod Behind
 pub mod Held
 pub mod Disjoint
 pub mod Due

@@ -6,7 +6,7 @@ use Rattle.pipeline_time.specs.Acts.{Acts, Act, When, Node, nodes, size}
 use Rattle.pipeline_time.specs.Cores.{Core, main_node, all_nodes, node_of, level_of, above_of, is_past, slot_level}
 use Rattle.pipeline_time.specs.Running.{Running, word_below, activate, run, run_occurrence}
 use Rattle.pipeline_time.specs.Edges.{Standing, is_held, is_flushed, waiting, is_due, turn, turns, start}
-use Rattle.pipeline_time.specs.Journal.{Log, Entry, place, is_at, journal, slots, stands, stage_word}
+use Rattle.pipeline_time.specs.Journal.{Log, Entry, place, is_at, standing, journal, slots, stands, stage_word}
 use Rattle.pipeline_time.specs.States.{edge_of, after}
 use Rattle.pipeline_time.specs.Bits.{Hardware, bits_stand, next_hardware, hardware_after, shown}
 
@@ -110,6 +110,13 @@ module _ {R M : Type 0} (core : Core R M) where
       (first : R) (entries : List (List ℕ)) (level : ℕ)
       → ((slot : Entry) → Contains (slots core (after core first entries).past) slot → is_at level (place (after core first entries).past slot) ≡ true → stage_word core (after core first entries).past level ≡ slot.word)
       × (count_standing (after core first entries).past level (slots core (after core first entries).past) ≡ 0 → stage_word core (after core first entries).past level ≡ 0)
+
+  -- A slot stands in stages behind the one in which slots are made. Without a root none does.
+  abbrev pub SlotsStandBehind : Type 0
+  SlotsStandBehind =
+      (first : R) (entries : List (List ℕ)) (level : ℕ)
+      → is_some (standing (after core first entries).past level (slots core (after core first entries).past)) ≡ true
+      → (is_some core.root_level ≡ true) × (slot_level core < level) × (level ≤ core.stages)
 
   -- What stands past the root has the word of its stage; it is an instruction's, which chooses the occurrence.
   abbrev pub PastIsChosen : Type 0

@@ -16,6 +16,7 @@ ghost use Rattle.pipeline_time.specs.Laws.{
   OneStands,
   StandsBetween,
   SlotsAreWords,
+  SlotsStandBehind,
   PastIsChosen,
   DueIsChosen,
   BitsStand,
@@ -66,6 +67,11 @@ pub fn one_stands<R, M>()
 /// The word of a stage is that of its slot, or 0.
 pub fn slots_are_words<R, M>()
     ensures { (core : Core R M) → IsSound core → SlotsAreWords core }
+{}
+
+/// A slot stands in stages behind the one in which slots are made, and without a root none does.
+pub fn slots_stand_behind<R, M>()
+    ensures { (core : Core R M) → SlotsStandBehind core }
 {}
 
 /// What stands past the root has its stage's word, which decodes, and is what the word's instruction chooses; and so what is due past the
