@@ -8,7 +8,9 @@ use Rattle.std.proofs.lemmas.Option.{slice_get-map, slice_get-get_or, same_Some}
 use Rattle.instruction_trees.specs.Trees.{In, here, there}
 use Rattle.instruction_trees.specs.Forms.{Distinct, none, more}
 use Rattle.instruction_trees.proofs.Listing.{in_left, in_right, in_append, distinct_append, in_map, from_map, distinct_map, in_flat, from_flat, distinct_flat}
-use Rattle.item_layouts.specs.Layouts.{ItemPlace, Register, Field, Word, Bit, Layout, ItemValues, register_places, boundary_places, field_places, words_from, word_places, stage_places, bit_places, item_places, HasPlace, same_place, place_of, value_at, item_values}
+use Rattle.item_layouts.specs.declared.place.ItemPlace.{ItemPlace}
+use Rattle.item_layouts.specs.declared.place.ItemPlace.TheVariants.{Register, Field, Word, Bit}
+use Rattle.item_layouts.specs.Layouts.{Layout, ItemValues, register_places, boundary_places, field_places, words_from, word_places, stage_places, bit_places, item_places, HasPlace, same_place, place_of, value_at, item_values}
 
 -- ---- ranges and filters
 

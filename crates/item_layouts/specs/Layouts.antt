@@ -1,14 +1,8 @@
 -- What stands where among the items of a machine.
 use Rattle.std.specs.Prelude.{ℕ, ◌≡◌, ◌+◌, ◌-◌, ◌<◌, ◌≤◌, Bool, true, false, ◌&&◌, List, [], ◌++◌, Option, None, Some, cond, filter, map, nat_eq, position}
 use Rattle.std.specs.List.{flat_map, range_with_len}
-
--- A register, by its number among registers; a field of the boundary behind the stage of a number; the word of a stage; the bit of an
--- occurrence in a stage.
-pub data ItemPlace : Type 0 where
-  Register : ℕ → ItemPlace
-  Field : (boundary field : ℕ) → ItemPlace
-  Word : (stage : ℕ) → ItemPlace
-  Bit : (stage occurrence : ℕ) → ItemPlace
+use Rattle.item_layouts.specs.declared.place.ItemPlace.{ItemPlace}
+use Rattle.item_layouts.specs.declared.place.ItemPlace.TheVariants.{Register, Field, Word, Bit}
 
 -- how many there are of each
 pub record Layout : Type 0 where

@@ -1,7 +1,8 @@
 //! Laws on the places of items. Each is the contract of a function that does nothing.
 
 ghost use Rattle.std.specs.Prelude.{◌≡◌, ◌↔◌, ℕ, Some, length, slice_get};
-ghost use Rattle.item_layouts.specs.Layouts.{ItemPlace, Layout, ItemValues, item_places, item_values, value_at, place_of, HasPlace};
+ghost use Rattle.item_layouts.specs.declared.place.ItemPlace.{ItemPlace};
+ghost use Rattle.item_layouts.specs.Layouts.{Layout, ItemValues, item_places, item_values, value_at, place_of, HasPlace};
 
 /// Each place that there is stands among the places, once, and `place_of` tells its number.
 pub fn places_have_numbers()

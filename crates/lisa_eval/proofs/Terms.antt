@@ -19,8 +19,8 @@ use Rattle.description_places.specs.Scopes.{Scope}
 use Rattle.lisa_machine.specs.Verdicts.{IsAccepted}
 use Rattle.typed_values.specs.Words.{TypedWord, as_shape, truth, is_zero}
 use Rattle.typed_values.specs.Operators.{operand, chosen}
-use Rattle.typed_values.specs.Expressions.{value, made_of, complement}
-use Rattle.typed_values.specs.Effects.{whole, whole_of}
+use Rattle.typed_values.specs.Expressions.{made_of, complement}
+use Rattle.typed_values.specs.Effects.{whole_of}
 use Rattle.reset_values.specs.Effects.{local_or}
 use Rattle.description_sizes.specs.Texts.{levels}
 use Rattle.lisa_meaning.specs.Scenes.{Scene, at_path, running}

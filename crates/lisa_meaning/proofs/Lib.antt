@@ -4,10 +4,17 @@ pub mod Onward
 pub mod Roots
 pub mod Sounds
 pub mod Added
+pub mod Walks
+pub mod Above
+pub mod Paths
+pub mod Back
+pub mod Sufficing
 pub mod Running
 pub mod Slots
 pub mod Stored
 pub mod Listing
 pub mod Shaped
 pub mod Shown
+pub mod Showing
+pub mod Itemed
 pub mod Sample

@@ -17,7 +17,9 @@ use Rattle.activation_trees.specs.Items.{field_item, boundary_items, root_stage,
 use Rattle.coding_tables.specs.Instructions.{instruction_choice}
 use Rattle.instruction_forms.specs.Widths.{HasWidth}
 use Rattle.description_sizes.specs.Sizes.{items}
-use Rattle.item_layouts.specs.Layouts.{ItemPlace, Register, Field, Word, Bit, value_at, register_places, boundary_places, field_places, words_from, word_places, stage_places, bit_places, item_values}
+use Rattle.item_layouts.specs.declared.place.ItemPlace.{ItemPlace}
+use Rattle.item_layouts.specs.declared.place.ItemPlace.TheVariants.{Register, Field, Word, Bit}
+use Rattle.item_layouts.specs.Layouts.{value_at, register_places, boundary_places, field_places, words_from, word_places, stage_places, bit_places, item_values}
 use Rattle.pipeline_time.specs.Bits.{Hardware}
 use Rattle.lisa_meaning.specs.Moments.{Contents, field_at}
 use Rattle.lisa_meaning.specs.States.{first_word, layout_of, values_of}

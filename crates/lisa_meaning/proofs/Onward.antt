@@ -1,35 +1,34 @@
 -- Levels go forward, and what is past the root stays there.
-use Rattle.std.proofs.Common.{◌≡◌, ◌<◌, ◌≤◌, ◌+◌, ◌++◌, ◌||◌, ◌∙◌, ℕ, zero, suc, Bool, true, false, List, [], ◌∷◌, Option, None, Some, map, nat_eq, length, refl, sym, ap, subst, arith}
+use Rattle.std.proofs.Common.{◌≡◌, ◌≤◌, ◌+◌, ◌++◌, ◌||◌, ◌∙◌, ℕ, zero, suc, Bool, true, false, List, [], ◌∷◌, Option, None, Some, map, nat_eq, length, refl, sym, ap, subst, arith}
 use Rattle.std.specs.Prelude.{slice_get, option_map, is_some}
 use Rattle.std.specs.Option.{option_or, option_to_list, option_map_or, option_and_then}
 use Rattle.std.specs.List.{AllByRecursion}
-use Rattle.std.proofs.lemmas.Bool.{eq-eqb, or_cases}
+use Rattle.std.proofs.lemmas.Bool.{eq-eqb}
 use Rattle.lisa_tree.specs.Descriptions as trees
 use Rattle.lisa_tree.specs.Descriptions.{CodingTree, DescriptionTree}
 use Rattle.description_names.specs.Resources.{stages}
 use Rattle.description_names.specs.Operations.{own_stage, sections_at, coding_in, activation_in, is_root}
 use Rattle.coded_names.specs.Codings.{names_instructions}
 use Rattle.graph_paths.specs.Paths.{is_in}
-use Rattle.stage_checks.specs.Running.{started, choices_named, named_choices, activation_names, Activates, RunsIn}
+use Rattle.stage_checks.specs.Running.{started, choices_named, activation_names, Activates, RunsIn}
 use Rattle.description_promises.proofs.Entries.{Split, in_first, in_second, split}
 use Rattle.use_promises.proofs.Staged.{own_low}
 use Rattle.activation_trees.specs.declared.parts.Occurrence.{Occurrence}
-use Rattle.activation_trees.specs.Starting.{Activated, plain_named, plain_of, names_by, activating_names}
-use Rattle.activation_trees.specs.Unfolding.{occurrences, occurrence, child}
+use Rattle.activation_trees.specs.Starting.{Activated, plain_named, plain_of, names_by}
+use Rattle.activation_trees.specs.Unfolding.{occurrences}
 use Rattle.activation_trees.specs.Activators.{IsActivated, IsChild, IsMain, HasActivator}
-use Rattle.activation_trees.specs.Places.{IsNamed, HasName}
+use Rattle.activation_trees.specs.Places.{HasName}
 use Rattle.activation_trees.proofs.Levels.{all_map}
 use Rattle.activation_trees.proofs.Ordered.{has_name}
 use Rattle.activation_trees.proofs.Lying.{each_occurrence, runs, has_activator}
-use Rattle.instruction_forms.specs.Trees.{FormTree}
 use Rattle.lisa_forms.specs.Choosing.{numbered_form}
 use Rattle.pipeline_time.specs.Acts.{Node}
 use Rattle.pipeline_time.specs.Cores.{all_nodes}
 use Rattle.lisa_meaning.specs.Standings.{standing}
-use Rattle.lisa_meaning.specs.Scenes.{form_with, instruction_with}
+use Rattle.lisa_meaning.specs.Scenes.{form_with}
 use Rattle.lisa_meaning.specs.Trees.{level_of_stage}
 use Rattle.lisa_meaning.specs.Cores.{is_root_at, chooses, decodes, core_of}
-use Rattle.lisa_meaning.specs.Laws.{Listed, node_listed, occurrence_listed, listed_from, TreesAreOccurrences, IsOnward, LevelsGoForward, IsChosenDecoded, InstructionsChoose, IsInside, PastIsInside}
+use Rattle.lisa_meaning.specs.Laws.{Listed, node_listed, occurrence_listed, listed_from, TreesAreOccurrences, IsOnward, LevelsGoForward, InstructionsChoose, IsInside, PastIsInside}
 
 -- ---- what holds of each occurrence holds of each node
 

@@ -1,9 +1,9 @@
 -- One occurrence at most is the root.
-use Rattle.std.proofs.Common.{◌≡◌, ◌⊎◌, ◌<◌, ◌≤◌, ◌+◌, ◌&&◌, ◌||◌, ◌∙◌, ℕ, zero, suc, Bool, true, false, cond, List, [], ◌∷◌, Option, None, Some, nat_eq, nat_lt, length, refl, sym, ap, arith, inl, inr}
+use Rattle.std.proofs.Common.{◌≡◌, ◌<◌, ◌≤◌, ◌+◌, ◌&&◌, ◌||◌, ◌∙◌, ℕ, zero, suc, Bool, true, false, cond, List, [], ◌∷◌, Option, None, Some, nat_eq, nat_lt, length, refl, sym, ap, arith, inl, inr}
 use Rattle.std.specs.Prelude.{slice_get, option_map, ◌==◌}
 use Rattle.std.specs.Option.{option_map_or}
-use Rattle.std.specs.List.{AllByRecursion, find, filter}
-use Rattle.std.proofs.lemmas.Bool.{eq-eqb, eqb-true, ltb-false, or_cases}
+use Rattle.std.specs.List.{find, filter}
+use Rattle.std.proofs.lemmas.Bool.{eq-eqb, eqb-true, ltb-false}
 use Rattle.std.proofs.lemmas.Option.{slice_get_within, same_Some}
 use Rattle.lisa_tree.specs.Descriptions.{OperationTree, DescriptionTree}
 use Rattle.description_names.specs.Resources.{stages}
@@ -14,7 +14,6 @@ use Rattle.activation_trees.specs.Unfolding.{occurrences, occurrences_of}
 use Rattle.activation_trees.specs.Twice.{root_before, is_twice, first_from, first_root_twice}
 use Rattle.lisa_machine.specs.Verdicts.{Verdict, before}
 use Rattle.lisa_forms.specs.Verdicts.{HasForms, IsRootVerdict, root_twice, from_sizes, from_roots, from_writings}
-use Rattle.pipeline_time.specs.Cores.{all_nodes}
 use Rattle.lisa_meaning.specs.Trees.{level_of_stage}
 use Rattle.lisa_meaning.specs.Cores.{is_root_at, root_level, core_of}
 use Rattle.lisa_meaning.specs.Laws.{TreesAreOccurrences, RootIsOne}

@@ -1,5 +1,5 @@
 -- Where controls go back, a description's core is sound.
-use Rattle.std.proofs.Common.{◌≡◌, ◌<◌, ◌≤◌, ◌+◌, ◌++◌, ◌||◌, ◌∙◌, ℕ, zero, suc, Bool, true, false, List, [], ◌∷◌, Option, None, Some, map, length, refl, sym, ap, subst, arith, append-nil}
+use Rattle.std.proofs.Common.{◌≡◌, ◌≤◌, ◌+◌, ◌++◌, ◌||◌, ◌∙◌, ℕ, zero, suc, Bool, true, false, List, [], ◌∷◌, Option, None, Some, map, length, refl, sym, ap, subst, arith, append-nil}
 use Rattle.std.specs.Prelude.{slice_get, option_map}
 use Rattle.std.specs.Option.{option_map_or, option_or, option_to_list}
 use Rattle.std.specs.List.{AllByRecursion}
@@ -15,14 +15,13 @@ use Rattle.stage_checks.specs.Controls.{main_name}
 use Rattle.stage_checks.specs.Running.{Activates, RunsIn, started, act_names, acts_names, activation_names}
 use Rattle.description_promises.proofs.Entries.{get_left, get_right}
 use Rattle.activation_trees.specs.declared.parts.Occurrence.{Occurrence}
-use Rattle.activation_trees.specs.Starting.{Activated, activation, activated_by, start, start_of}
-use Rattle.activation_trees.specs.Unfolding.{occurrences, occurrence, child, children, in_turn, unfolded, whole, firsts}
+use Rattle.activation_trees.specs.Starting.{Activated, activation, activated_by, start}
+use Rattle.activation_trees.specs.Unfolding.{occurrences, occurrence, child, in_turn, whole, firsts}
 use Rattle.activation_trees.proofs.Levels.{in_turn_append}
 use Rattle.lisa_forms.specs.Verdicts.{HasForms}
 use Rattle.pipeline_time.specs.Acts.{Acts, Done, Act, When, size}
 use Rattle.pipeline_time.specs.Cores.{Core}
 use Rattle.pipeline_time.specs.Sound.{IsOccurrence, IsTree, IsSound}
-use Rattle.lisa_meaning.specs.Moments.{Contents, Moment}
 use Rattle.lisa_meaning.specs.Trees.{Activator, level_of_stage, followed, item_tests, items_tests, row, item_acts, items_acts, activation_acts, acts_within, main_acts, acts_of}
 use Rattle.lisa_meaning.specs.Cores.{is_root_at, core_of}
 use Rattle.lisa_meaning.specs.Laws.{TreesAreOccurrences, ControlsGoBack}

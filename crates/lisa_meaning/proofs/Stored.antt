@@ -1,9 +1,9 @@
 -- What registers, cells and fields hold is within their widths, whatever a BEHAVIOR does.
-use Rattle.std.proofs.Common.{◌≡◌, ◌<◌, ◌+◌, ◌-◌, ◌^◌, ◌&&◌, ◌||◌, ◌∙◌, ℕ, zero, suc, Bool, true, false, cond, List, [], ◌∷◌, Option, None, Some, length, map, get_or, set, take, nat_eq, refl, sym, ap, subst, arith}
-use Rattle.std.specs.Prelude.{find, filter_map, slice_get, option_map, unwrap_or}
-use Rattle.std.specs.List.{AllByRecursion, cons_option, range_with_len}
+use Rattle.std.proofs.Common.{◌≡◌, ◌<◌, ◌+◌, ◌-◌, ◌^◌, ◌||◌, ◌∙◌, ℕ, zero, suc, Bool, true, false, cond, List, [], ◌∷◌, Option, None, Some, length, map, get_or, set, take, nat_eq, refl, sym, ap, subst, arith}
+use Rattle.std.specs.Prelude.{filter_map, slice_get, unwrap_or}
+use Rattle.std.specs.List.{cons_option, range_with_len}
 use Rattle.std.specs.Map.{lookup}
-use Rattle.std.proofs.lemmas.Bool.{and_parts, eqb-true, eqb-false, cond_both}
+use Rattle.std.proofs.lemmas.Bool.{eqb-true, eqb-false, cond_both}
 use Rattle.std.proofs.lemmas.List.{length-set, get_or-set_same, get_or-set_other}
 use Rattle.std.proofs.lemmas.Nat.{pow_pos}
 use Rattle.std.proofs.lemmas.Option.{same_Some, slice_get-get_or}
@@ -30,7 +30,7 @@ use Rattle.machine_parts.specs.Parts.{item, array, array_in, arrays_of, register
 use Rattle.description_sizes.specs.Texts.{levels}
 use Rattle.pipeline_time.specs.Edges.{is_held, is_flushed}
 use Rattle.lisa_meaning.specs.Scenes.{Link, Scene, at_path, running, home, child_at_home, child}
-use Rattle.lisa_meaning.specs.Moments.{Contents, Out, Moment, with_locals, with_stall, with_flush, bare, begin_moment, field_at, field_before, written, closed_field, by_boundaries, close_moment}
+use Rattle.lisa_meaning.specs.Moments.{Contents, Moment, with_locals, with_stall, with_flush, bare, begin_moment, field_at, field_before, written, closed_field, by_boundaries, close_moment}
 use Rattle.lisa_meaning.specs.Values.{Array, register_place, array_of, meant_array, named_array, field_place, shape_at, expression_at, value_of}
 use Rattle.lisa_meaning.specs.Effects.{Given, bits_for, register_put, resource_put, element_put, out_with, out_put, PutBelow, put_below, meant_put, name_put, put, put_within, at_level, doing, behavior_at, body, run_within, run_behavior}
 
@@ -98,6 +98,19 @@ cells_set arrays cells p a index bits there fits all = record {
         (sym (get_or-set_other cells p k (set (get_or cells p []) index bits) [] (eqb-false k p e)))
         (all.depths k one low, λ j inside. all.within k j one low inside)
 
+-- what a list has at a place, once it got another value at one
+set_has : {X : Type 0} (P : X → Type 0) (xs : List X) (j k : ℕ) (x e : X) → P (get_or xs k e) → (k ≡ j → P x) → P (get_or (set xs j x) k e)
+set_has P [] j k x e old new = old
+set_has P (y ∷ ys) zero zero x e old new = new refl
+set_has P (y ∷ ys) zero (suc k) x e old new = old
+set_has P (y ∷ ys) (suc j) zero x e old new = old
+set_has P (y ∷ ys) (suc j) (suc k) x e old new = set_has P ys j k x e old (λ same. new (ap suc same))
+
+ranged : {X : Type 0} (P : X → Type 0) (g : ℕ → X) (a n i : ℕ) (e : X) → P e → P (g (a + i)) → P (get_or (map g (range_with_len a n)) i e)
+ranged P g a zero i e out inside = out
+ranged P g a (suc n) zero e out inside = subst (λ (j : ℕ). P (g j)) (let same : a + 0 ≡ a = omega arith in same) inside
+ranged P g a (suc n) (suc i) e out inside = ranged P g (a + 1) n i e out (subst (λ (j : ℕ). P (g j)) (let same : a + suc i ≡ a + 1 + i = omega arith in same) inside)
+
 -- ---- where resources stand
 
 placed : {P : Type 0} (part : ResourceTree → Option P) (rs : List ResourceTree) (k : ℕ) (r : ResourceTree) (p : P) → slice_get rs k ≡ Some r → part r ≡ Some p
@@ -122,12 +135,28 @@ module _ (d : DescriptionTree) where
     pub cells : AreCells (arrays_of d) c.cells
     pub fields : (s f : ℕ) → FieldFits f (field_at c.fields s f)
 
+  -- what a field got, where it got bits
+  abbrev pub OutFits : ℕ → Option ℕ → Type 0
+  OutFits f out = (bits : ℕ) → out ≡ Some bits → FieldFits f bits
+
   pub record IsStored (m : Moment) : Type 0 where
     pub memory : AreStored m.memory
-    pub outs : AllByRecursion (λ (out : Out). FieldFits out.field out.bits) m.outs
+    pub outs : (s f : ℕ) → OutFits f (written m.outs s f)
 
-  pub begins : (pins : List ℕ) (c : Contents) → AreStored c → IsStored (begin_moment pins c)
-  begins pins c stored = record { memory = stored; outs = tt }
+  -- each field of each boundary has what holds of the value there, and what isn't there what holds without one
+  all_boundaries : {T : Type 0} (P : ℕ → T → Type 0) (value : ℕ → ℕ → T) (e : T) → ((f : ℕ) → P f e) → ((s f : ℕ) → P f (value s f)) → (s f : ℕ) → P f (get_or (get_or (by_boundaries d value) s []) f e)
+  all_boundaries {T = T} P value e out each s f =
+      ranged (λ (row : List T). P f (get_or row f e)) (λ t. map (value t) (range_with_len 0 (length (fields d)))) 0 (length (stages d) - 1) s [] (out f)
+      (ranged (P f) (value (0 + s)) 0 (length (fields d)) f e (out f) (subst (λ (g : ℕ). P f (value (0 + s) g)) (let same : f ≡ 0 + f = omega arith in same) (each (0 + s) f)))
+
+  pub boundaries_fit : (value : ℕ → ℕ → ℕ) → ((s f : ℕ) → FieldFits f (value s f)) → (s f : ℕ) → FieldFits f (field_at (by_boundaries d value) s f)
+  boundaries_fit value each s f = all_boundaries FieldFits value 0 (λ g shape is. pow_pos shape.width) each s f
+
+  none_fits : (f : ℕ) → OutFits f None
+  none_fits f bits e = absurd (cc e)
+
+  pub begins : (pins : List ℕ) (c : Contents) → AreStored c → IsStored (begin_moment d pins c)
+  begins pins c stored = record { memory = stored; outs = all_boundaries OutFits (λ s f. None) None none_fits (λ s f. none_fits f) }
 
   locals_kept : (locals : Locals) (m : Moment) → IsStored m → IsStored (with_locals locals m)
   locals_kept locals m kept = record { memory = kept.memory; outs = kept.outs }
@@ -190,8 +219,15 @@ module _ (d : DescriptionTree) where
   out_kept s f None given m e kept = kept
   out_kept s f (Some shape) given m e kept = record {
     memory = kept.memory;
-    outs = (λ other is. subst (λ (x : Shape). bits_for shape given < 2 ^ x.width) (same_Some shape other (sym e ∙ is)) (fitted_within (given shape.kind) shape.width), kept.outs);
+    outs = λ t g.
+        set_has (λ (row : List (Option ℕ)). OutFits g (get_or row g None)) m.outs s t (set (get_or m.outs s []) f (Some (bits_for shape given))) [] (kept.outs t g)
+        (λ same. set_has (OutFits g) (get_or m.outs s []) f g (Some (bits_for shape given)) None (kept.outs s g) (new g));
   }
+    where
+      new : (g : ℕ) → g ≡ f → OutFits g (Some (bits_for shape given))
+      new g same bits is other at =
+          subst (λ (n : ℕ). n < 2 ^ other.width) (same_Some (bits_for shape given) bits is)
+          (subst (λ (x : Shape). bits_for shape given < 2 ^ x.width) (same_Some shape other (sym e ∙ ap (shape_at d) (sym same) ∙ at)) (fitted_within (given shape.kind) shape.width))
 
   outs_kept : (s f : Option ℕ) (given : Given) (m : Moment) → IsStored m → IsStored (out_put d s f given m)
   outs_kept None f given m kept = kept
@@ -268,14 +304,9 @@ module _ (d : DescriptionTree) where
 
   -- ---- an edge ends
 
-  written_fits : (outs : List Out) (s f other : ℕ) → AllByRecursion (λ (out : Out). FieldFits out.field out.bits) outs → FieldFits f other → FieldFits f (unwrap_or (written outs s f) other)
-  written_fits [] s f other all fits = fits
-  written_fits (out ∷ outs) s f other all fits = by (nat_eq out.boundary s && nat_eq out.field f) refl (written_fits outs s f other all.1 fits)
-    where
-      by : (b : Bool) → (nat_eq out.boundary s && nat_eq out.field f) ≡ b → FieldFits f (unwrap_or (written outs s f) other)
-          → FieldFits f (unwrap_or (option_map (λ (o : Out). o.bits) (cond b (Some out) (find (λ (o : Out). nat_eq o.boundary s && nat_eq o.field f) outs))) other)
-      by true e rest = subst (λ (g : ℕ). FieldFits g out.bits) (eqb-true out.field f (and_parts (nat_eq out.boundary s) (nat_eq out.field f) e).1) all.0
-      by false e rest = rest
+  written_fits : (f : ℕ) (out : Option ℕ) (other : ℕ) → OutFits f out → FieldFits f other → FieldFits f (unwrap_or out other)
+  written_fits f None other out fits = fits
+  written_fits f (Some bits) other out fits = out bits refl
 
   before_fits : (all : List (List ℕ)) (s f : ℕ) → ((t g : ℕ) → FieldFits g (field_at all t g)) → FieldFits f (field_before all s f)
   before_fits all zero f each = λ shape is. pow_pos shape.width
@@ -289,17 +320,7 @@ module _ (d : DescriptionTree) where
       cond_both (is_held m.stalled (suc (suc s))) old (cond lost 0 new) (FieldFits f) (λ held. kept.memory.fields s f)
       (λ open'.
       cond_both lost 0 new (FieldFits f) (λ is shape at. pow_pos shape.width)
-      (λ is. written_fits m.outs s f (field_before m.memory.fields s f) kept.outs (before_fits m.memory.fields s f kept.memory.fields)))
-
-  ranged : {X : Type 0} (P : X → Type 0) (g : ℕ → X) (a n i : ℕ) (e : X) → P e → P (g (a + i)) → P (get_or (map g (range_with_len a n)) i e)
-  ranged P g a zero i e out inside = out
-  ranged P g a (suc n) zero e out inside = subst (λ (j : ℕ). P (g j)) (let same : a + 0 ≡ a = omega arith in same) inside
-  ranged P g a (suc n) (suc i) e out inside = ranged P g (a + 1) n i e out (subst (λ (j : ℕ). P (g j)) (let same : a + suc i ≡ a + 1 + i = omega arith in same) inside)
-
-  pub boundaries_fit : (value : ℕ → ℕ → ℕ) → ((s f : ℕ) → FieldFits f (value s f)) → (s f : ℕ) → FieldFits f (field_at (by_boundaries d value) s f)
-  boundaries_fit value each s f =
-      ranged (λ (row : List ℕ). FieldFits f (get_or row f 0)) (λ t. map (value t) (range_with_len 0 (length (fields d)))) 0 (length (stages d) - 1) s [] (λ shape is. pow_pos shape.width)
-      (ranged (FieldFits f) (value (0 + s)) 0 (length (fields d)) f 0 (λ shape is. pow_pos shape.width) (subst (λ (g : ℕ). FieldFits f (value (0 + s) g)) (let same : f ≡ 0 + f = omega arith in same) (each (0 + s) f)))
+      (λ is. written_fits f (written m.outs s f) (field_before m.memory.fields s f) (kept.outs s f) (before_fits m.memory.fields s f kept.memory.fields)))
 
   pub closes : (m : Moment) → IsStored m → AreStored (close_moment d m)
   closes m kept = record {

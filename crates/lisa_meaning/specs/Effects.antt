@@ -59,7 +59,7 @@ element_put (Some a) index given m = cell_put a.place (index % a.depth) (bits_fo
 
 abbrev pub out_with : ℕ → ℕ → Option Shape → Given → Moment → Moment
 out_with s f None given m = m
-out_with s f (Some shape) given m = with_out (record { boundary = s; field = f; bits = bits_for shape given }) m
+out_with s f (Some shape) given m = with_out s f (bits_for shape given) m
 
 abbrev pub out_put : DescriptionTree → Option ℕ → Option ℕ → Given → Moment → Moment
 out_put d (Some s) (Some f) given m = out_with s f (shape_at d f) given m

@@ -1,13 +1,18 @@
 -- What holds of the meaning of descriptions.
 use Rattle.std.specs.Prelude.{ℕ, suc, ◌≡◌, ◌<◌, ◌≤◌, Bool, true, ◌||◌, List, [], ◌∷◌, Some, map, slice_get}
 use Rattle.std.specs.List.{AllByRecursion}
+use Rattle.lisa_tree.specs.Expressions.{ExprTree}
 use Rattle.lisa_tree.specs.Descriptions.{DescriptionTree}
 use Rattle.activation_trees.specs.declared.parts.Occurrence.{Occurrence}
 use Rattle.activation_trees.specs.Unfolding.{occurrences}
+use Rattle.description_sizes.specs.Texts.{levels}
 use Rattle.pipeline_time.specs.Acts.{Node}
 use Rattle.pipeline_time.specs.Cores.{Core, all_nodes}
 use Rattle.pipeline_time.specs.Sound.{NamesEarlier}
+use Rattle.lisa_meaning.specs.Scenes.{Scene, scene_of}
 use Rattle.lisa_meaning.specs.Moments.{Moment}
+use Rattle.lisa_meaning.specs.Values.{value_within, value_of}
+use Rattle.lisa_meaning.specs.Effects.{Given, put_within, run_within, run_behavior}
 use Rattle.lisa_meaning.specs.Trees.{level_of_stage}
 use Rattle.lisa_meaning.specs.Cores.{is_root_at, behave, core_of}
 
@@ -76,3 +81,13 @@ ControlsGoBack d = (k : ℕ) (x : Occurrence) → slice_get (occurrences d) k �
 -- Behaviours take back no stall and no flush. What is named counts for no level.
 abbrev pub ControlsAreAdded : DescriptionTree → Type 0
 ControlsAreAdded d = (k word : ℕ) (m : Moment) → NamesEarlier 0 m.stalled (behave d k word m).stalled × NamesEarlier 0 m.flushed (behave d k word m).flushed
+
+-- Where so many levels are allowed, more change nothing of what is read, assigned and run in a scene.
+pub record LevelsSuffice (d : DescriptionTree) (scene : Scene) : Type 0 where
+  pub values : (more : ℕ) (m : Moment) (e : ExprTree) → levels d ≤ more → value_within more d scene m e ≡ value_of d scene m e
+  pub puts : (more : ℕ) (m : Moment) (target : ExprTree) (given : Given) → levels d ≤ more → put_within more d scene target given m ≡ put_within (levels d) d scene target given m
+  pub runs : (more : ℕ) (m : Moment) → levels d ≤ more → run_within more d scene m ≡ run_behavior d scene m
+
+-- in the scene of each occurrence, whatever its word
+abbrev pub OccurrencesEnd : DescriptionTree → Type 0
+OccurrencesEnd d = (k word : ℕ) (x : Occurrence) → slice_get (occurrences d) k ≡ Some x → LevelsSuffice d (scene_of d k word)

@@ -7,3 +7,4 @@ pub mod Trees
 pub mod Cores
 pub mod States
 pub mod Laws
+pub mod Showing

@@ -22,7 +22,8 @@ ghost use Rattle.pipeline_time.specs.Sound.{IsSound};
 ghost use Rattle.lisa_meaning.specs.Scenes.{form_with};
 ghost use Rattle.lisa_meaning.specs.Cores.{core_of};
 ghost use Rattle.lisa_meaning.specs.States.{state_of};
-ghost use Rattle.lisa_meaning.specs.Laws.{TreesAreOccurrences, LevelsGoForward, InstructionsChoose, PastIsInside, RootIsOne, ControlsGoBack, ControlsAreAdded};
+ghost use Rattle.lisa_meaning.specs.Showing.{EdgesHaveItems, ItemsShowAll};
+ghost use Rattle.lisa_meaning.specs.Laws.{TreesAreOccurrences, LevelsGoForward, InstructionsChoose, PastIsInside, RootIsOne, ControlsGoBack, ControlsAreAdded, OccurrencesEnd};
 
 /// Items run in listed order: one that the word's instruction doesn't choose does nothing, one of its activator's stage or of none runs at
 /// once, one of a later stage is recorded, and of an `if` the items of one branch run.
@@ -65,10 +66,20 @@ pub fn controls_are_added()
     ensures { (d : DescriptionTree) → ControlsAreAdded d }
 {}
 
-/// Where behaviours stall and flush only earlier stages than their own, an accepted description with forms has all that time asks of it, and so
-/// all laws of `pipeline_time` hold of it.
-pub fn cores_are_sound_where_controls_go_back()
-    ensures { (d : DescriptionTree) → IsAccepted d → HasForms d → ControlsGoBack d → IsSound (core_of d) }
+/// In an accepted description the behaviour of an occurrence stalls and flushes only stages before the one in which it runs, whatever it calls.
+pub fn controls_go_back()
+    ensures { (d : DescriptionTree) → IsAccepted d → ControlsGoBack d }
+{}
+
+/// An accepted description with forms has all that time asks of it, and so all laws of `pipeline_time` hold of it.
+pub fn cores_are_sound()
+    ensures { (d : DescriptionTree) → IsAccepted d → HasForms d → IsSound (core_of d) }
+{}
+
+/// In an accepted description calls and children on the scene of an occurrence have no more levels than are allowed: more levels change nothing
+/// of what is read, assigned and run there.
+pub fn levels_suffice()
+    ensures { (d : DescriptionTree) → IsAccepted d → OccurrencesEnd d }
 {}
 
 /// A word is decoded as the first plain form that has it, so no other plain form has it.
@@ -80,4 +91,14 @@ pub fn words_are_decoded_once()
 /// width.
 pub fn states_are_shaped()
     ensures { (d : DescriptionTree) (width : Option ℕ) (image : List Memory) (entries : List (List ℕ)) → IsAccepted d → HasWidth d width → IsImage image → missing_memory (arrays_of d) image ≡ None → IsShaped (items d width) (arrays_of d) (state_of d image entries) }
+{}
+
+/// After any edges there are as many registers and fields as items of them, and each bit that is set and each word that isn't 0 has an item.
+pub fn edges_have_items()
+    ensures { (d : DescriptionTree) → IsAccepted d → IsSound (core_of d) → EdgesHaveItems d }
+{}
+
+/// Items and cells show all of such a state: two that show the same are the same.
+pub fn items_show_all()
+    ensures { (d : DescriptionTree) → ItemsShowAll d }
 {}

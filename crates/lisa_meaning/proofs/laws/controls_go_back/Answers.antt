@@ -1,0 +1,6 @@
+use Rattle.description_promises.proofs.Sound.{sound}
+use Rattle.lisa_meaning.proofs.Back.{controls_back}
+use Rattle.lisa_meaning.proofs.laws.controls_go_back.Goals as goal
+
+pub returns : goal.returns
+returns c d accepted = controls_back d (sound d accepted)

@@ -1,0 +1,6 @@
+use Rattle.description_promises.proofs.Sound.{sound}
+use Rattle.lisa_meaning.proofs.Sufficing.{occurrences_end}
+use Rattle.lisa_meaning.proofs.laws.levels_suffice.Goals as goal
+
+pub returns : goal.returns
+returns c d accepted = occurrences_end d (sound d accepted)
