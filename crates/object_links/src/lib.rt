@@ -12,6 +12,7 @@ mod widths;
 
 pub use faults::fault_before_values;
 pub use globals::{all_exported, double_export};
-pub use rooms::first_overfull;
+pub use names::{own_names, shared_names};
+pub use rooms::{count_of, first_overfull, line_enters, line_size};
 pub use sections::first_unknown;
 pub use uses::first_undefined;

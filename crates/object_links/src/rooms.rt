@@ -18,7 +18,8 @@ use lisa_object::{Object, ObjectLine};
 use lisa_words::{Name, NoMemory};
 use std::alloc::{AllocError, Global};
 
-fn line_size(line: &ObjectLine) -> u64
+/// How many cells a line has.
+pub fn line_size(line: &ObjectLine) -> u64
     ensures { result ≡ line_size (object_line_tree line.now) }
 {
     match line {
@@ -28,7 +29,8 @@ fn line_size(line: &ObjectLine) -> u64
     }
 }
 
-fn line_enters<'a>(here: Option<&'a Name>, line: &'a ObjectLine) -> Option<&'a Name>
+/// The memory that is entered behind a line.
+pub fn line_enters<'a>(here: Option<&'a Name>, line: &'a ObjectLine) -> Option<&'a Name>
     ensures { option_copied result ≡ line_enters (option_copied here.entry) (object_line_tree line.now) }
 {
     match line {
@@ -37,8 +39,8 @@ fn line_enters<'a>(here: Option<&'a Name>, line: &'a ObjectLine) -> Option<&'a N
     }
 }
 
-// How many cells a memory has so far.
-fn count_of(counts: &IndexMap<Name, u64>, name: &Name) -> u64
+/// How many cells a memory has so far.
+pub fn count_of(counts: &IndexMap<Name, u64>, name: &Name) -> u64
     ensures { result ≡ count_of counts.now name.now }
 {
     match counts.get(name) {

@@ -1,0 +1,9 @@
+pub mod FixBits
+pub mod ByLine
+pub mod Steps
+pub mod Noted
+pub mod Filled
+pub mod Within
+pub mod Images
+pub mod Shorts
+pub mod Linked

@@ -1,0 +1,4 @@
+pub mod Memories
+pub mod Tables
+pub mod LineValues
+pub mod Parts
