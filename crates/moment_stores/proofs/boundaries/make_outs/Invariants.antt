@@ -1,0 +1,8 @@
+-- The rows before.
+use Rattle.std.proofs.Common.{◌≡◌}
+use Rattle.std.specs.Prelude.{None, replicate}
+use Rattle.moment_stores.specs.Rows.{rows}
+use Rattle.moment_stores.proofs.boundaries.make_outs.Given as goal
+
+abbrev pub invariant-each : goal.invariant-each
+invariant-each l = rows l.all.items ≡ replicate l.i (replicate l.width None)
