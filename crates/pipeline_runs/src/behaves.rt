@@ -1,6 +1,6 @@
 //! What operations do in an edge.
 
-ghost use Rattle.std.specs.Prelude.{◌≡◌, ℕ, suc, ◌<◌};
+ghost use Rattle.std.specs.Prelude.{◌≡◌, ℕ, List, suc, ◌<◌};
 ghost use Rattle.activation_bits.specs.Members.{has};
 ghost use Rattle.pipeline_time.specs.Edges.{is_held, is_flushed};
 ghost use Rattle.pipeline_time.specs.Cores.{Core};
@@ -23,18 +23,32 @@ pub trait Behaves {
     /// How far the edge has come.
     ghost moment: { Self → Moment };
 
+    /// What an edge keeps beside that, and what it is when one begins.
+    ghost Kept: { Type 0 };
+
+    ghost kept: { Self → Kept };
+
+    ghost begun: { Self → Kept };
+
+    /// The values of pins with which an edge may begin.
+    ghost takes: { Self → List ℕ → Type 0 };
+
     /// Begins an edge, with the values of the pins.
     fn begin(&mut self, pins: &[u64])
+        requires { takes self.old pins.now }
+        ensures kept { kept self.new ≡ begun self.old }
         ensures moment { moment self.new ≡ (core self.old).begin pins.now (lasting self.old) }
         ensures core { core self.new ≡ core self.old };
 
     /// Does the BEHAVIOR of an occurrence with a word.
     fn behave(&mut self, number: u32, word: u64)
+        ensures kept { kept self.new ≡ kept self.old }
         ensures moment { moment self.new ≡ (core self.old).behave number word (moment self.old) }
         ensures core { core self.new ≡ core self.old };
 
     /// Ends an edge.
     fn close(&mut self)
+        ensures kept { kept self.new ≡ kept self.old }
         ensures lasting { lasting self.new ≡ (core self.old).close (moment self.old) }
         ensures core { core self.new ≡ core self.old };
 

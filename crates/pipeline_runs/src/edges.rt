@@ -33,10 +33,12 @@ pub(crate) fn word_from(plan: &Plan, words: &[u64; 8], slot: Option<u64>, stage:
 impl<B: Behaves> Pipeline<B> {
     // Begins an edge.
     pub(crate) fn begin(&mut self, pins: &[u64])
+        requires { B.takes self.old.edge.store pins.now }
         ensures runs { (hard : Hardware B.Lasting) → ShowsHardware (B.lasting self.old.edge.store) self.old.edge.queues self.old.words hard → Represents (B.moment self.new.edge.store) self.new.edge.queues self.new.edge.slot hard.bits (start (B.core self.old.edge.store) pins.now hard.memory) }
         ensures queues { self.new.edge.queues ≡ self.old.edge.queues }
         ensures words { self.new.words ≡ self.old.words }
         ensures core { B.core self.new.edge.store ≡ B.core self.old.edge.store }
+        ensures kept { B.kept self.new.edge.store ≡ B.begun self.old.edge.store }
     {
         self.edge.store.begin(pins);
         self.edge.slot = None;
@@ -49,6 +51,7 @@ pub(crate) fn run_main<B: Behaves>(plan: &Plan, edge: &mut Edge<B>)
     ensures runs { (bits : ℕ → ℕ → Bool) (now : Running B.Moment) → Represents (B.moment edge.old.store) edge.old.queues edge.old.slot bits now → Represents (B.moment edge.new.store) edge.new.queues edge.new.slot bits (run_occurrence (B.core edge.old.store) 0 (main_node (B.core edge.old.store)) now) }
     ensures equipped { IsEquipped (B.core edge.new.store) edge.new.queues plan.now }
     ensures core { B.core edge.new.store ≡ B.core edge.old.store }
+    ensures kept { B.kept edge.new.store ≡ B.kept edge.old.store }
 {
     let main = &plan.occurrences[0];
     run_occurrence(main, 0, edge);
@@ -61,6 +64,7 @@ pub(crate) fn turns<B: Behaves>(level: u32, plan: &Plan, words: &[u64; 8], edge:
     ensures runs { (first : B.Lasting) (entries : List (List ℕ)) (pins : List ℕ) (now : Running B.Moment) → HasCome (B.core edge.old.store) first entries pins words.now (B.moment edge.old.store) edge.old.queues edge.old.slot level now → HasCome (B.core edge.old.store) first entries pins words.now (B.moment edge.new.store) edge.new.queues edge.new.slot 0 (turns (B.core edge.old.store) (stands (B.core edge.old.store) (after (B.core edge.old.store) first entries).past) level now) }
     ensures equipped { IsEquipped (B.core edge.new.store) edge.new.queues plan.now }
     ensures core { B.core edge.new.store ≡ B.core edge.old.store }
+    ensures kept { B.kept edge.new.store ≡ B.kept edge.old.store }
 {
     if level > 0 {
         let stage = level - 1;
@@ -74,10 +78,12 @@ impl<B: Behaves> Pipeline<B> {
     /// One edge, with these values of the pins: `main`, the turns of the stages from the last one to the first, and its end. No memory is
     /// taken.
     pub fn run_edge(&mut self, plan: &Plan, pins: &[u64])
-        requires { IsEquipped (B.core self.old.edge.store) self.old.edge.queues plan.now }
+        requires pins { B.takes self.old.edge.store pins.now }
+        requires equipped { IsEquipped (B.core self.old.edge.store) self.old.edge.queues plan.now }
         ensures leads { (first : B.Lasting) (entries : List (List ℕ)) → ShowsHardware (B.lasting self.old.edge.store) self.old.edge.queues self.old.words (shown (B.core self.old.edge.store) (after (B.core self.old.edge.store) first entries)) → ShowsHardware (B.lasting self.new.edge.store) self.new.edge.queues self.new.words (shown (B.core self.old.edge.store) (after (B.core self.old.edge.store) first (entries ++ pins.now ∷ []))) }
         ensures equipped { IsEquipped (B.core self.new.edge.store) self.new.edge.queues plan.now }
         ensures core { B.core self.new.edge.store ≡ B.core self.old.edge.store }
+        ensures kept { B.kept self.new.edge.store ≡ B.begun self.old.edge.store }
     {
         self.begin(pins);
         run_main(plan, &mut self.edge);

@@ -83,6 +83,7 @@ impl<B: Behaves> Pipeline<B> {
         ensures shows { (bits : ℕ → ℕ → Bool) (levels : ℕ → ℕ) (now : Running B.Moment) → Represents (B.moment self.old.edge.store) self.old.edge.queues self.old.edge.slot bits now → AreWords self.old.words levels → NoneBelow bits levels now.made → ShowsHardware (B.lasting self.new.edge.store) self.new.edge.queues self.new.words (hardware_ended (B.core self.old.edge.store) bits levels now) }
         ensures tables { HasTables self.old.edge.queues self.new.edge.queues }
         ensures core { B.core self.new.edge.store ≡ B.core self.old.edge.store }
+        ensures kept { B.kept self.new.edge.store ≡ B.kept self.old.edge.store }
     {
         let held = self.edge.store.held();
         let flushed = self.edge.store.flushed();

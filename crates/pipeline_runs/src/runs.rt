@@ -35,6 +35,7 @@ fn behave_once<B: Behaves>(number: u32, word: u64, edge: &mut Edge<B>)
     ensures runs { (bits : ℕ → ℕ → Bool) (now : Running B.Moment) → Represents (B.moment edge.old.store) edge.old.queues edge.old.slot bits now → Represents (B.moment edge.new.store) edge.new.queues edge.new.slot bits (behavior (B.core edge.old.store) number word now) }
     ensures queues { edge.new.queues ≡ edge.old.queues }
     ensures core { B.core edge.new.store ≡ B.core edge.old.store }
+    ensures kept { B.kept edge.new.store ≡ B.kept edge.old.store }
 {
     edge.store.behave(number, word);
     if takes(&edge.store, number, word) {
@@ -62,6 +63,7 @@ pub fn run<B: Behaves>(here: u8, word: u64, acts: &Tree, edge: &mut Edge<B>)
     requires { IsReady (B.core edge.old.store) edge.old.queues here (acts_of acts.now) }
     ensures runs { (bits : ℕ → ℕ → Bool) (now : Running B.Moment) → Represents (B.moment edge.old.store) edge.old.queues edge.old.slot bits now → Represents (B.moment edge.new.store) edge.new.queues edge.new.slot bits (run (B.core edge.old.store) here word (acts_of acts.now) now) }
     ensures stays { Stays (B.core edge.old.store) (B.core edge.new.store) edge.old.queues edge.new.queues }
+    ensures kept { B.kept edge.new.store ≡ B.kept edge.old.store }
     ensures due { 0 < here → (stage other : ℕ) → is_due edge.new.queues stage other ≡ is_due edge.old.queues stage other }
 {
     match acts {
@@ -96,6 +98,7 @@ pub fn run_occurrence<B: Behaves>(occurrence: &Occurrence, word: u64, edge: &mut
     requires { IsReady (B.core edge.old.store) edge.old.queues occurrence.now.level (acts_of occurrence.now.own) }
     ensures runs { (bits : ℕ → ℕ → Bool) (now : Running B.Moment) → Represents (B.moment edge.old.store) edge.old.queues edge.old.slot bits now → Represents (B.moment edge.new.store) edge.new.queues edge.new.slot bits (run_occurrence (B.core edge.old.store) word (node_of occurrence.now) now) }
     ensures stays { Stays (B.core edge.old.store) (B.core edge.new.store) edge.old.queues edge.new.queues }
+    ensures kept { B.kept edge.new.store ≡ B.kept edge.old.store }
     ensures due { 0 < occurrence.now.level → (stage other : ℕ) → is_due edge.new.queues stage other ≡ is_due edge.old.queues stage other }
 {
     let mine = own_word(&edge.store, occurrence.number, occurrence.past, word);

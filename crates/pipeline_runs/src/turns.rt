@@ -30,6 +30,7 @@ fn run_one<B: Behaves>(stage: u32, word: u64, number: u32, plan: &Plan, edge: &m
     ensures equipped { IsEquipped (B.core edge.new.store) edge.new.queues plan.now }
     ensures same { (other : ℕ) → is_due edge.new.queues stage other ≡ is_due edge.old.queues stage other }
     ensures core { B.core edge.new.store ≡ B.core edge.old.store }
+    ensures kept { B.kept edge.new.store ≡ B.kept edge.old.store }
 {
     let it = &plan.occurrences[number as usize];
     run_occurrence(it, word_below(it.past, word), edge);
@@ -48,6 +49,7 @@ pub fn turn_from<B: Behaves>(
     ensures runs { (bits : ℕ → ℕ → Bool) (now : Running B.Moment) (words : ℕ → Option ℕ) → Represents (B.moment edge.old.store) edge.old.queues edge.old.slot bits now → WaitAs (B.core edge.old.store) edge.old.queues stage word words plan.now.occurrences.items → Represents (B.moment edge.new.store) edge.new.queues edge.new.slot bits (fold (run_due (B.core edge.old.store) words) now (due_from (B.core edge.old.store) words stage (first_above after) plan.now.occurrences.items)) }
     ensures equipped { IsEquipped (B.core edge.new.store) edge.new.queues plan.now }
     ensures core { B.core edge.new.store ≡ B.core edge.old.store }
+    ensures kept { B.kept edge.new.store ≡ B.kept edge.old.store }
 {
     if let Some(number) = edge.queues.due(stage, after) {
         run_one(stage, word, number, plan, edge);
@@ -70,6 +72,7 @@ pub fn turn<B: Behaves>(stage: u32, word: u64, plan: &Plan, edge: &mut Edge<B>)
     ensures runs { (bits : ℕ → ℕ → Bool) (now : Running B.Moment) (stands : Standing) → Represents (B.moment edge.old.store) edge.old.queues edge.old.slot bits now → WaitAs (B.core edge.old.store) edge.old.queues stage word (waiting (B.core edge.old.store) stands (suc stage) now) plan.now.occurrences.items → Represents (B.moment edge.new.store) edge.new.queues edge.new.slot bits (turn (B.core edge.old.store) stands (suc stage) now) }
     ensures equipped { IsEquipped (B.core edge.new.store) edge.new.queues plan.now }
     ensures core { B.core edge.new.store ≡ B.core edge.old.store }
+    ensures kept { B.kept edge.new.store ≡ B.kept edge.old.store }
 {
     if is_free(&edge.store, stage) {
         turn_from(stage, word, None, plan, edge);

@@ -10,4 +10,4 @@ returns-clause-leads g c =
     let new = c.end.new.self in
     let moment = g.B.Behaves.moment in
     let core = g.B.Behaves.core in
-    leads (g.B.Behaves.lasting old.edge.store) (g.B.Behaves.lasting new.edge.store) (moment begun.edge.store) (moment main.store) (moment turned.store) old.edge.queues begun.edge.queues main.queues turned.queues new.edge.queues begun.edge.slot main.slot turned.slot old.words begun.words new.words c.args.pins.now (core old.edge.store) (core begun.edge.store) (core main.store) (core turned.store) c.begin.ensures.core c.run_main.ensures.core c.turns.ensures.core c.requires.sound c.args.plan.now.stages c.requires.planned.stages c.begin.ensures.words c.begin.ensures.runs c.run_main.ensures.runs c.turns.ensures.runs c.end.ensures.shows
+    leads (g.B.Behaves.lasting old.edge.store) (g.B.Behaves.lasting new.edge.store) (moment begun.edge.store) (moment main.store) (moment turned.store) old.edge.queues begun.edge.queues main.queues turned.queues new.edge.queues begun.edge.slot main.slot turned.slot old.words begun.words new.words c.args.pins.now (core old.edge.store) (core begun.edge.store) (core main.store) (core turned.store) c.begin.ensures.core c.run_main.ensures.core c.turns.ensures.core c.requires.equipped.sound c.args.plan.now.stages c.requires.equipped.planned.stages c.begin.ensures.words c.begin.ensures.runs c.run_main.ensures.runs c.turns.ensures.runs c.end.ensures.shows

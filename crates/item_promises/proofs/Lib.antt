@@ -1,0 +1,5 @@
+mod Apart
+mod Titles
+mod Listed
+mod Named
+mod Wide

@@ -1,0 +1,3 @@
+pub mod States
+pub mod Told
+pub mod Putting
