@@ -1,0 +1,13 @@
+pub mod Placing
+pub mod Widths
+pub mod Above
+pub mod Standing
+pub mod Wide
+pub mod Decoding
+pub mod Conditioned
+pub mod Children
+pub mod Moved
+pub mod Acts
+pub mod Parted
+pub mod Homes
+pub mod Rooting

@@ -1,0 +1,8 @@
+use Rattle.std.proofs.Common.{◌≡◌, ◌-◌, length}
+use Rattle.coding_tables.specs.Instructions.{first_root, root_from}
+use Rattle.scene_paths.proofs.lookups.first_root.Given as goal
+
+abbrev pub invariant-each : goal.invariant-each
+invariant-each g l =
+    let d = g.N.Names.tree l.names in
+    first_root d ≡ root_from d l.operation (length d.operations - l.operation)

@@ -1,0 +1,46 @@
+//! A description with its look-ups.
+
+use crate::before::Before;
+use description_tables::Tables;
+use indexmap::IndexMap;
+use lisa_coding::Coding;
+use lisa_forms::Forms;
+use lisa_tree::{Expr, Shape};
+use lisa_words::Name;
+use std::marker::Model;
+
+/// An accepted description with its forms and its coding, and with tables of its names. No look-up takes memory, and each takes the same
+/// time however long the description is. Contracts see it as the description.
+#[derive(Drop)]
+pub struct Described<'a> {
+    pub(crate) tables: Tables<'a>,
+    pub(crate) forms: &'a Forms,
+    pub(crate) coding: &'a Coding,
+    pub(crate) places: Vec<Before>,
+    pub(crate) boundary: &'a [(Shape, Name)],
+    pub(crate) fields: IndexMap<Name, usize>,
+    pub(crate) conditions: Vec<Vec<&'a Expr>>,
+    pub(crate) root: Option<usize>,
+    pub(crate) levels: usize,
+}
+
+impl<'a> Model for Described<'a> {
+    ghost use Rattle.std.specs.Coded.{codes};
+    ghost use Rattle.indexmap.specs.IndexMap.{get};
+    ghost use Rattle.lisa_tree.specs.declared.descriptions.Description.{Description};
+    ghost use Rattle.lisa_tree.specs.contracts.descriptions.Act as act;
+    ghost use Rattle.lisa_tree.specs.contracts.expressions.Expr as expression;
+    ghost use Rattle.lisa_tree.specs.contracts.statements.Stmt as statement;
+    ghost use Rattle.lisa_tree.specs.Descriptions.{description_tree};
+    ghost use Rattle.description_names.specs.Same.{same_name};
+    ghost use Rattle.scene_paths.specs.Conditions.{rows_of};
+    ghost use Rattle.scene_paths.specs.Kept.{IsKept};
+
+    ghost Value = { Description };
+
+    ghost coded = { Prim.hlevel (codes, act.the_row.coded, expression.the_row.coded, statement.the_row.coded) };
+
+    ghost view = { λ x. x.tables.globals.description.now };
+
+    ghost invariant = { λ x. IsKept (description_tree x.tables.globals.description.now) x.forms.now x.coding.now x.places.items x.boundary.now (λ n. get same_name x.fields n) (rows_of x.conditions.items) x.root x.levels };
+}

@@ -1,0 +1,64 @@
+//! The fields of the boundaries of the pipeline.
+
+ghost use Rattle.std.specs.Prelude.{◌≡◌, ℕ, List, IfOk, OnOk, Some, None, cond, map, option_map, position, slice_get};
+ghost use Rattle.std.specs.Option.{option_or};
+ghost use Rattle.indexmap.specs.IndexMap.{get};
+ghost use Rattle.lisa_tree.specs.declared.tokens.Shape.{Shape};
+ghost use Rattle.lisa_tree.specs.Descriptions.{resource_tree};
+ghost use Rattle.description_names.specs.Same.{same_name};
+ghost use Rattle.description_names.specs.Resources.{fields_in};
+
+use indexmap::IndexMap;
+use lisa_tree::{Resource, Shape};
+use lisa_words::Name;
+use std::alloc::{AllocError, Global};
+
+/// The fields, in order.
+#[tactic(auto, using(description_tables::proofs::Lists::one_resource))]
+pub(crate) fn boundary_fields(resources: &[Resource]) -> &[(Shape, Name)]
+    ensures { result.now ≡ fields_in (map resource_tree resources.now) }
+{
+    for resource in resources {
+        if let Resource::Fields(_, fields) = resource {
+            return fields;
+        }
+    }
+    &[]
+}
+
+// Notes the place of a name that has none.
+fn enter(table: &mut IndexMap<Name, usize>, name: &Name, place: usize) -> Result<(), AllocError>
+    ensures { OnOk result ((n : List ℕ) → get same_name table.new n ≡ option_or (get same_name table.old n) (cond (same_name n name.now) (Some place) None)) }
+{
+    if table.get(name).is_some() {
+        return Ok(());
+    }
+    table.insert(name.clone()?, place)?;
+    Ok(())
+}
+
+/// Where each field stands, by its name.
+pub(crate) fn field_places(
+    alloc: Global,
+    fields: &[(Shape, Name)],
+) -> Result<IndexMap<Name, usize>, AllocError>
+    ensures { IfOk result (λ table. (n : List ℕ) → get same_name table n ≡ position (λ (f : Shape × List ℕ). same_name n f.1) fields.now) }
+{
+    let mut table = IndexMap::new(alloc);
+    for (place, field) in fields.iter().enumerate() {
+        enter(&mut table, &field.1, place)?;
+    }
+    Ok(table)
+}
+
+/// The type of a field by its place.
+#[tactic(auto, using(std::proofs::lemmas::Option::slice_get_read, std::proofs::lemmas::Option::slice_get_past))]
+pub(crate) fn shape_at(fields: &[(Shape, Name)], place: usize) -> Option<Shape>
+    ensures { result ≡ option_map (λ (f : Shape × List ℕ). f.0) (slice_get fields.now place) }
+{
+    if place < fields.len() {
+        Some(fields[place].0)
+    } else {
+        None
+    }
+}
