@@ -1,0 +1,3 @@
+pub mod Work
+pub mod BlockTrees
+pub mod Steps
