@@ -1,9 +1,10 @@
 pub mod Descriptions
-pub mod Instructions
-pub mod Checked
-pub mod Checks
-pub mod DescriptionImages
-pub mod Runs
-pub mod ImageViews
-pub mod ToolViews
+pub mod ThinForm
+pub mod ThinView
+pub mod ThinStates
+pub mod ThinRuns
+pub mod Tasks
 pub mod Unread
+pub mod Instructions
+pub mod Checks
+pub mod FormCounts

@@ -5,13 +5,10 @@
 #![tactic(auto)]
 
 mod images;
-mod making;
 mod running;
 mod scheduling;
 mod sessions;
 mod tasks;
 
-pub use images::{image_of, memories};
-pub use making::do_made;
-pub use scheduling::schedule_text;
+pub use images::image_of;
 pub use tasks::{Task, do_task};

@@ -1,3 +1,4 @@
 mod Modules
 mod Designed
+mod Clocked
 pub mod Stopped

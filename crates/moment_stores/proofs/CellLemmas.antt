@@ -1,11 +1,11 @@
 -- Cells that are set, and touches that lead back.
-use Rattle.std.proofs.Common.{drop-cons, add-one, take, drop, ◌≡◌, ℕ, zero, suc, ◌+◌, ◌^◌, ◌<◌, ◌≤◌, ◌||◌, ◌&&◌, Bool, true, false, List, [], ◌∷◌, ◌++◌, length, map, get_or, set, refl, ap, ap₂, sym, ◌∙◌, subst, arith, ⊎_elim, length-append}
+use Rattle.std.proofs.Common.{drop-cons, add-one, take, drop, ◌≡◌, ℕ, zero, suc, ◌+◌, ◌^◌, ◌<◌, ◌≤◌, ◌||◌, Bool, true, false, List, [], ◌∷◌, ◌++◌, length, map, get_or, set, refl, ap, ap₂, sym, ◌∙◌, subst, arith, ⊎_elim, length-append}
 use Rattle.std.proofs.lemmas.List.{length-map}
 use Rattle.std.specs.Prelude.{All, ◌==◌, cond, replicate}
 use Rattle.std.specs.Global.{Vec}
 use Rattle.std.specs.Vec.{vec_len}
 use Rattle.std.proofs.lemmas.Bool.{or_cases, false≢true, cases_eq, cases_Bool, eqb-true, eq-eqb, false_from_ne_true, both_ways, and_parts, and_from}
-use Rattle.std.proofs.lemmas.List.{map-set, take_more_set, get_or-map, ext_get_or, map-append, take_more, length-replicate, get_or-set_same, get_or-set_other, length-set, set-get_or}
+use Rattle.std.proofs.lemmas.List.{map-set, take_more_set, get_or-map, ext_get_or, map-append, take_more, length-replicate, get_or-set_same, get_or-set_other, length-set}
 use Rattle.std.proofs.lemmas.List.Elements.{All-push}
 use Rattle.std.proofs.lemmas.List.Folds.{list_any-append}
 use Rattle.std.proofs.Math.Seq.{map-set_same}
@@ -14,7 +14,7 @@ use Rattle.lisa_engine.specs.Touches.{IsPlaced, put_back, set_cell}
 use Rattle.lisa_engine.specs.declared.parts.ArrayItem.{ArrayItem}
 use Rattle.lisa_engine.specs.declared.parts.Touch.{Touch}
 use Rattle.lisa_engine.proofs.Journal.{put_back_more}
-use Rattle.moment_stores.specs.Rows.{rows, mark_at, all_unmarked, all_places, place_set, value_at}
+use Rattle.moment_stores.specs.Rows.{rows, mark_at, all_places, place_set, value_at}
 use Rattle.moment_stores.specs.Cells.{is_touch_of, is_touched, AreTracked}
 use Rattle.moment_stores.proofs.Marks.{none_at, all_unmarked-set, all_unmarked-le, places_same, one_marked}
 use Rattle.moment_stores.proofs.Tables.{own_false, value_set_other, place_own, place_over, place_comm, place_lens}

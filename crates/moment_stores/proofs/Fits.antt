@@ -1,17 +1,17 @@
 -- What is set, written and closed is within the widths of what the description declares.
-use Rattle.std.proofs.Common.{◌≡◌, ◌≢◌, ℕ, zero, suc, ◌+◌, ◌^◌, ◌<◌, ◌≤◌, Bool, true, false, List, [], ◌∷◌, Option, Some, None, length, map, get_or, set, refl, ap, sym, ◌∙◌, subst, arith, ⊎_elim, ◌⊎◌, inl, inr}
-use Rattle.std.specs.Prelude.{unwrap_or}
+use Rattle.std.proofs.Common.{◌≡◌, ℕ, zero, suc, ◌^◌, ◌<◌, Bool, true, false, List, [], Option, Some, None, length, map, get_or, set, refl, ap, sym, ◌∙◌, subst, arith, ⊎_elim, ◌⊎◌, inl, inr}
+use Rattle.std.specs.Prelude.{unwrap_or, replicate}
 use Rattle.std.specs.List.{range_with_len}
 use Rattle.std.proofs.lemmas.Bool.{cases_eq, cases_lt}
 use Rattle.std.proofs.lemmas.Option.{same_Some}
 use Rattle.std.proofs.lemmas.Nat.{pow_pos}
-use Rattle.std.proofs.lemmas.List.{get_or-set_same, get_or-set_other, get_or_past, length-set}
+use Rattle.std.proofs.lemmas.List.{get_or-replicate, length-replicate, get_or-set_same, get_or-set_other, get_or_past, length-set}
 use Rattle.std.proofs.lemmas.List.FromFn.{length-map-range_with_len, get_or-map-range_with_len}
 use Rattle.lisa_tree.specs.declared.tokens.Shape.{Shape}
 use Rattle.lisa_tree.specs.Descriptions.{DescriptionTree}
 use Rattle.lisa_engine.specs.Shape.{IsFitting}
 use Rattle.lisa_engine.specs.declared.parts.Item.{Item}
-use Rattle.lisa_meaning.specs.Moments.{Outs, field_at, field_before, written}
+use Rattle.lisa_meaning.specs.Moments.{Outs, field_before, written}
 use Rattle.lisa_meaning.specs.Values.{shape_at}
 use Rattle.moment_stores.specs.Rows.{value_at, place_set, table}
 use Rattle.moment_stores.specs.Boundaries.{closed_by, closed}
@@ -30,6 +30,12 @@ fit_set items values place bits fit within = record {
       subst (λ (v : ℕ). v < 2 ^ (get_or items place item).width) (sym (get_or-set_same values place bits 0 near)) (within item here)))
       (λ ne. subst (λ (v : ℕ). v < 2 ^ (get_or items k item).width) (sym (get_or-set_other values place k bits 0 ne)) (fit.within k item less))
       (cases_eq k place);
+}
+
+pub zeros_fit : (items : List Item) (count : ℕ) → count ≡ length items → IsFitting items (replicate count 0)
+zeros_fit items count all = record {
+  count = length-replicate count 0 ∙ all;
+  within = λ k item less. subst (λ (v : ℕ). v < 2 ^ (get_or items k item).width) (sym (get_or-replicate count k 0 0 (omega (arith, less, all)))) (pow_pos (get_or items k item).width);
 }
 
 -- ---- values at places

@@ -1,5 +1,5 @@
 -- What stays as it is over one change after another.
-use Rattle.std.proofs.Common.{◌≡◌, refl, sym, ap, ◌∙◌}
+use Rattle.std.proofs.Common.{refl, ◌∙◌}
 use Rattle.moment_stores.specs.declared.store.Store.{Store}
 use Rattle.moment_stores.specs.Stores.{Keeps, KeepsMachine, KeepsPlace}
 

@@ -1,12 +1,10 @@
 -- Locals with their values.
-use Rattle.std.proofs.Common.{◌≡◌, ℕ, zero, suc, ◌+◌, ◌-◌, ◌<◌, ◌≤◌, Bool, true, false, List, [], ◌∷◌, ◌++◌, Option, length, map, get_or, set, take, drop, refl, ap, sym, ◌∙◌, subst, arith, nat_eq, cond, length-take, length-drop}
+use Rattle.std.proofs.Common.{◌≡◌, ℕ, zero, suc, ◌+◌, ◌-◌, ◌<◌, ◌≤◌, Bool, true, false, List, [], ◌∷◌, ◌++◌, length, get_or, set, take, drop, refl, ap, sym, ◌∙◌, arith, cond, length-drop}
 use Rattle.std.proofs.lemmas.List.{length-map}
 use Rattle.std.specs.Prelude.{Some, None}
 use Rattle.std.specs.Map.{lookup}
-use Rattle.std.specs.Cmp.Lexicographic.{pointwise}
 use Rattle.std.specs.List.{take-map, drop-map}
-use Rattle.std.proofs.lemmas.List.{take-append-drop, map-set, map-append, drop-take, take-take, take-set-le, take-append-le, drop-append-le}
-use Rattle.indexmap.specs.IndexMap.{insert_entry}
+use Rattle.std.proofs.lemmas.List.{take-append-drop, map-set, map-append, drop-take, take-take, take-set-le, drop-append-le}
 use Rattle.description_names.specs.Same.{same_name}
 use Rattle.typed_values.specs.Words.{TypedWord, typed_word}
 use Rattle.typed_values.specs.Effects.{Locals, local_put}

@@ -1,5 +1,5 @@
 -- The fields of boundaries at the end of an edge.
-use Rattle.std.specs.Prelude.{ℕ, suc, Bool, ◌||◌, List, Option, unwrap_or, if◌then◌else◌}
+use Rattle.std.specs.Prelude.{ℕ, suc, Bool, ◌||◌, List, unwrap_or, if◌then◌else◌}
 use Rattle.pipeline_time.specs.Edges.{is_held, is_flushed}
 use Rattle.lisa_meaning.specs.Moments.{Outs, field_at, field_before, written}
 

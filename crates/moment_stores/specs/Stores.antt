@@ -1,5 +1,5 @@
 -- What a store holds.
-use Rattle.std.specs.Prelude.{ℕ, ◌≡◌, ◌-◌, ◌+◌, List, drop, length, reverse, take}
+use Rattle.std.specs.Prelude.{ℕ, ◌≡◌, List, drop, reverse, take}
 use Rattle.std.specs.Vec.{vec_len, vec_capacity}
 use Rattle.lisa_tree.specs.Descriptions.{DescriptionTree, description_tree}
 use Rattle.lisa_engine.specs.Memory.{Memory}

@@ -142,6 +142,7 @@ impl Boundaries {
         ensures count { IfOk result (λ all. all.count ≡ count) }
         ensures width { IfOk result (λ all. all.width ≡ width) }
         ensures fields { IfOk result (λ all. rows all.fields.items ≡ table count width (λ s f. 0)) }
+        ensures outs { IfOk result (λ all. rows all.outs.items ≡ table count width (λ s f. None)) }
     {
         let fields = make_fields(alloc, count, width)?;
         let outs = make_outs(alloc, count, width)?;

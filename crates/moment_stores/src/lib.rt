@@ -4,7 +4,6 @@
 mod boundaries;
 mod cells;
 mod changes;
-mod controls;
 mod edges;
 mod levels;
 mod locals;

@@ -20,8 +20,9 @@ use lisa_engine::{Image, MakeFault, first_cells};
 use lisa_machine::Machine;
 use lisa_tree::Resource;
 use lisa_words::NoMemory;
-use machine_parts::first_values;
+use machine_parts::{first_values, first_values_fit};
 use std::alloc::Global;
+use use_promises::machines_show;
 
 // How many stages the pipeline has.
 #[tactic(auto, using(description_tables::proofs::Lists::one_resource))]
@@ -54,6 +55,7 @@ fn make_boundaries(alloc: Global, machine: &Machine) -> Result<Boundaries, NoMem
     ensures count { IfOk result (λ all. all.count ≡ length (stages (description_tree machine.now)) - 1) }
     ensures width { IfOk result (λ all. all.width ≡ length (fields (description_tree machine.now))) }
     ensures fields { IfOk result (λ all. rows all.fields.items ≡ by_boundaries (description_tree machine.now) (λ s f. 0)) }
+    ensures outs { IfOk result (λ all. rows all.outs.items ≡ by_boundaries (description_tree machine.now) (λ s f. None)) }
 {
     let resources = machine.description().resources.as_slice();
     let stages = count_stages(resources);
@@ -100,6 +102,8 @@ impl<'a> Store<'a> {
         ensures missing { (name : List ℕ) → result ≡ Err (MakeFault.NoSuchMemory name) → missing_memory (arrays_of (description_tree machine.now)) image.now ≡ Some name }
     {
         machine.accepted();
+        machines_show();
+        first_values_fit();
         let rows = first_cells(alloc, machine.arrays(), image)?;
         let first_rows = first_cells(alloc, machine.arrays(), image)?;
         let cells = Cells::make(alloc, machine.arrays(), rows).map_err(no_memory)?;

@@ -1,4 +1,4 @@
-use Rattle.std.proofs.Common.{ℕ, ◌-◌, arith, sym}
+use Rattle.std.proofs.Common.{◌-◌, arith}
 use Rattle.std.specs.Prelude.{reverse}
 use Rattle.moment_stores.specs.Rows.{rows}
 use Rattle.moment_stores.specs.Boundaries.{closed}

@@ -1,5 +1,5 @@
-use Rattle.std.proofs.Common.{◌≡◌, rules, arith, ℕ, List, ap, ◌∙◌}
-use Rattle.std.specs.Prelude.{Option, None, replicate}
+use Rattle.std.proofs.Common.{◌≡◌, arith, ℕ, ap, ◌∙◌}
+use Rattle.std.specs.Prelude.{replicate}
 use Rattle.moment_stores.proofs.Tables.{replicate_table}
 use Rattle.moment_stores.proofs.boundaries.make_fields.Goals as goal
 

@@ -1,6 +1,6 @@
 -- The rows before.
 use Rattle.std.proofs.Common.{◌≡◌}
-use Rattle.std.specs.Prelude.{None, replicate}
+use Rattle.std.specs.Prelude.{replicate}
 use Rattle.moment_stores.specs.Rows.{rows}
 use Rattle.moment_stores.proofs.boundaries.make_fields.Given as goal
 

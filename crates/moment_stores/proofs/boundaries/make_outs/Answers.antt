@@ -1,4 +1,4 @@
-use Rattle.std.proofs.Common.{◌≡◌, rules, arith, ℕ, List, ap, ◌∙◌}
+use Rattle.std.proofs.Common.{◌≡◌, arith, ℕ, ap, ◌∙◌}
 use Rattle.std.specs.Prelude.{Option, None, replicate}
 use Rattle.moment_stores.proofs.Tables.{replicate_table}
 use Rattle.moment_stores.proofs.boundaries.make_outs.Goals as goal

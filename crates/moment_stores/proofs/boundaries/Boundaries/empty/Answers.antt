@@ -1,6 +1,4 @@
 use Rattle.std.proofs.Common.{◌≡◌, ◌++◌, ◌∙◌, ap, subst, sym, List, ℕ, arith, take, drop, length}
-use Rattle.std.specs.Prelude.{Option}
-use Rattle.std.specs.Global.{Vec}
 use Rattle.moment_stores.specs.Rows.{rows, IsTable}
 use Rattle.moment_stores.proofs.Tables.{table_shaped, written_back}
 use Rattle.moment_stores.proofs.boundaries.Boundaries.empty.Goals as goal

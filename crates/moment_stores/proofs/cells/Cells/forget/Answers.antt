@@ -1,7 +1,7 @@
-use Rattle.std.proofs.Common.{◌≡◌, ◌++◌, ◌∙◌, ℕ, Bool, false, List, ap, sym, subst, arith, length, map, take, drop}
+use Rattle.std.proofs.Common.{◌≡◌, ◌++◌, ◌∙◌, ℕ, Bool, List, ap, sym, subst, arith, length, map, take, drop}
 use Rattle.std.specs.Global.{Vec}
 use Rattle.std.specs.Vec.{vec_capacity}
-use Rattle.moment_stores.specs.Rows.{rows, mark_at}
+use Rattle.moment_stores.specs.Rows.{rows}
 use Rattle.moment_stores.specs.Cells.{AreTracked}
 use Rattle.moment_stores.proofs.Tables.{written_back}
 use Rattle.moment_stores.proofs.CellLemmas.{forgotten}

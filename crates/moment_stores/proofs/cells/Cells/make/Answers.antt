@@ -1,4 +1,4 @@
-use Rattle.std.proofs.Common.{rules, arith}
+use Rattle.std.proofs.Common.{rules}
 use Rattle.moment_stores.proofs.CellLemmas.{made_tracked}
 use Rattle.moment_stores.proofs.cells.Cells.make.Goals as goal
 

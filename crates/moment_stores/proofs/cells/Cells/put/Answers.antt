@@ -1,4 +1,4 @@
-use Rattle.std.proofs.Common.{◌≡◌, ◌<◌, ◌^◌, ◌++◌, ◌∙◌, ℕ, Bool, true, List, ap, sym, subst, arith, rules, length, take, drop, get_or}
+use Rattle.std.proofs.Common.{◌≡◌, ◌<◌, ◌^◌, ◌++◌, ◌∙◌, ℕ, Bool, List, ap, sym, subst, arith, length, take, drop, get_or}
 use Rattle.std.specs.Global.{Vec}
 use Rattle.std.specs.Vec.{vec_capacity}
 use Rattle.lisa_engine.specs.Touches.{put_back, set_cell}

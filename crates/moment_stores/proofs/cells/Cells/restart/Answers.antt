@@ -1,14 +1,12 @@
 use Rattle.std.proofs.Common.{◌≡◌, ◌++◌, ◌∙◌, ℕ, List, ap, sym, subst, arith, length, map, take, drop}
-use Rattle.std.specs.Prelude.{All}
 use Rattle.std.specs.Global.{Vec}
 use Rattle.std.specs.Vec.{vec_capacity}
 use Rattle.lisa_engine.specs.Shape.{AreCells}
-use Rattle.lisa_engine.specs.Touches.{IsPlaced, put_back}
 use Rattle.lisa_engine.specs.declared.parts.ArrayItem.{ArrayItem}
 use Rattle.moment_stores.specs.Rows.{rows}
 use Rattle.moment_stores.specs.Cells.{AreTracked}
 use Rattle.moment_stores.proofs.Tables.{written_back}
-use Rattle.moment_stores.proofs.CellLemmas.{lens_same, tracked_cells, put_back_shape}
+use Rattle.moment_stores.proofs.CellLemmas.{lens_same, tracked_cells}
 use Rattle.moment_stores.proofs.cells.Cells.restart.Goals as goal
 
 pub copy_rows-requires : goal.copy_rows-requires

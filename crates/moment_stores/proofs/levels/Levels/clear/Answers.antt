@@ -1,4 +1,4 @@
-use Rattle.std.proofs.Common.{◌≡◌, ◌++◌, ℕ, Bool, List, arith, rules, ap, sym, subst, take, drop, length}
+use Rattle.std.proofs.Common.{◌≡◌, ◌++◌, ℕ, Bool, List, arith, ap, sym, subst, take, drop, length}
 use Rattle.moment_stores.specs.Levels.{AreNoted}
 use Rattle.moment_stores.proofs.Noted.{none_left}
 use Rattle.moment_stores.proofs.Tables.{written_back}

@@ -1,4 +1,4 @@
-use Rattle.std.proofs.Common.{◌≡◌, ◌+◌, ◌<◌, ℕ, Bool, false, get_or, length, sym, ap, ◌∙◌, arith, rules, subst, refl}
+use Rattle.std.proofs.Common.{◌≡◌, ◌+◌, ◌<◌, false, get_or, length, sym, ap, ◌∙◌, arith, subst, refl}
 use Rattle.moment_stores.specs.Levels.{AreNoted}
 use Rattle.moment_stores.proofs.Noted.{one_more, room_left}
 use Rattle.moment_stores.proofs.levels.Levels.note.Goals as goal

@@ -1,11 +1,10 @@
-use Rattle.std.proofs.Common.{◌≡◌, ◌∙◌, ◌<◌, ◌≤◌, ap, sym, refl, arith, subst, List, drop, length}
+use Rattle.std.proofs.Common.{◌≡◌, ◌∙◌, ◌<◌, ◌≤◌, ap, sym, refl, arith, length}
 use Rattle.std.specs.Prelude.{IsSome, None, Option, is_some}
 use Rattle.std.proofs.lemmas.Bool.{false≢true}
 use Rattle.description_names.specs.Same.{same_name}
 use Rattle.typed_values.specs.Words.{TypedWord, typed_word}
 use Rattle.moment_stores.specs.declared.locals.Local.{Local}
-use Rattle.moment_stores.specs.Locals.{local_pairs}
-use Rattle.moment_stores.proofs.LocalLemmas.{there_put, past_put, past_value}
+use Rattle.moment_stores.proofs.LocalLemmas.{there_put, past_value}
 use Rattle.moment_stores.proofs.locals.Locals.change.Goals as goal
 
 is_nothing : {o : Option TypedWord} → o ≡ None → IsSome o → ⊥

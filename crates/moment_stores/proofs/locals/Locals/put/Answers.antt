@@ -1,10 +1,9 @@
-use Rattle.std.proofs.Common.{◌∙◌, ◌<◌, ◌≤◌, ap, sym, refl, arith, subst, List, drop, length}
-use Rattle.std.specs.Prelude.{IsSome, Option}
+use Rattle.std.proofs.Common.{◌∙◌, ◌<◌, ◌≤◌, ap, refl, arith, List, drop, length}
 use Rattle.description_names.specs.Same.{same_name}
-use Rattle.typed_values.specs.Words.{TypedWord, typed_word}
+use Rattle.typed_values.specs.Words.{typed_word}
 use Rattle.moment_stores.specs.declared.locals.Local.{Local}
 use Rattle.moment_stores.specs.Locals.{local_pairs}
-use Rattle.moment_stores.proofs.LocalLemmas.{there_put, past_put, past_value}
+use Rattle.moment_stores.proofs.LocalLemmas.{there_put, past_put}
 use Rattle.moment_stores.proofs.locals.Locals.put.Goals as goal
 
 pub returns-then-place-len-clause-scope : goal.returns-then-place-len-clause-scope

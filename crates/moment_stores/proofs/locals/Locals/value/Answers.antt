@@ -1,4 +1,4 @@
-use Rattle.std.proofs.Common.{◌∙◌, ◌<◌, ◌≤◌, ap, sym, refl, arith, length}
+use Rattle.std.proofs.Common.{◌∙◌, ◌<◌, ◌≤◌, ap, sym, arith, length}
 use Rattle.description_names.specs.Same.{same_name}
 use Rattle.moment_stores.specs.declared.locals.Local.{Local}
 use Rattle.moment_stores.proofs.LocalLemmas.{there_value, past_value}

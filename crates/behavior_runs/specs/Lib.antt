@@ -1,3 +1,0 @@
-pub mod Registers
-pub mod Rooms
-pub mod Running
