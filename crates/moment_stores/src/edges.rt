@@ -40,6 +40,7 @@ impl<'a> Store<'a> {
         ensures memory { memory_of self.new ≡ close_moment (description_of self.old) (moment_of self.old) }
         ensures keeps { Keeps self.old self.new }
         ensures touches { touches_of self.new ≡ touches_of self.old }
+        ensures count { local_count self.new ≡ local_count self.old }
     {
         self.boundaries.close(&self.stalled, &self.flushed);
     }
@@ -58,6 +59,7 @@ impl<'a> Store<'a> {
         ensures memory { memory_of self.new ≡ first_contents (description_of self.old) (image_of self.old) }
         ensures keeps { KeepsMachine self.old self.new }
         ensures touches { touches_of self.new ≡ [] }
+        ensures count { local_count self.new ≡ local_count self.old }
     {
         self.registers.copy_from_slice(&self.firsts);
         self.cells.restart(&self.first_rows);
@@ -70,6 +72,7 @@ impl<'a> Store<'a> {
         ensures memory { memory_of self.new ≡ with_cells (put_back touches.now (memory_of self.old).cells) (memory_of self.old) }
         ensures keeps { KeepsMachine self.old self.new }
         ensures touches { touches_of self.new ≡ [] }
+        ensures count { local_count self.new ≡ local_count self.old }
     {
         self.cells.retreat(touches);
     }
@@ -80,6 +83,7 @@ impl<'a> Store<'a> {
         ensures memory { memory_of self.new ≡ with_register place bits (memory_of self.old) }
         ensures keeps { KeepsMachine self.old self.new }
         ensures touches { touches_of self.new ≡ touches_of self.old }
+        ensures count { local_count self.new ≡ local_count self.old }
     {
         set_value(&mut self.registers, place, bits);
     }
@@ -90,6 +94,7 @@ impl<'a> Store<'a> {
         ensures memory { memory_of self.new ≡ with_field boundary field bits (memory_of self.old) }
         ensures keeps { KeepsMachine self.old self.new }
         ensures touches { touches_of self.new ≡ touches_of self.old }
+        ensures count { local_count self.new ≡ local_count self.old }
     {
         self.boundaries.set(boundary, field, bits);
     }

@@ -4,6 +4,7 @@
 mod boundaries;
 mod cells;
 mod changes;
+mod controls;
 mod edges;
 mod levels;
 mod locals;

@@ -8,7 +8,7 @@ ghost use Rattle.machine_parts.specs.Parts.{arrays_of};
 ghost use Rattle.lisa_meaning.specs.Moments.{by_boundaries};
 ghost use Rattle.lisa_meaning.specs.States.{first_contents};
 ghost use Rattle.moment_stores.specs.Rows.{rows};
-ghost use Rattle.moment_stores.specs.Stores.{description_of, image_of, memory_of, touches_of, outer_locals, local_room};
+ghost use Rattle.moment_stores.specs.Stores.{description_of, image_of, memory_of, touches_of, outer_locals, local_room, local_count};
 
 use crate::boundaries::Boundaries;
 use crate::cells::Cells;
@@ -97,6 +97,7 @@ impl<'a> Store<'a> {
         ensures memory { IfOk result (λ store. memory_of store ≡ first_contents (description_tree machine.now) image.now) }
         ensures touches { IfOk result (λ store. touches_of store ≡ []) }
         ensures outer { IfOk result (λ store. outer_locals store ≡ []) }
+        ensures count { IfOk result (λ store. local_count store ≡ 0) }
         ensures room { IfOk result (λ store. local_room store ≡ room) }
         ensures found { OnOk result (missing_memory (arrays_of (description_tree machine.now)) image.now ≡ None) }
         ensures missing { (name : List ℕ) → result ≡ Err (MakeFault.NoSuchMemory name) → missing_memory (arrays_of (description_tree machine.now)) image.now ≡ Some name }

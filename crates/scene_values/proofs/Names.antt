@@ -1,0 +1,58 @@
+-- What names stand for on a path.
+use Rattle.std.proofs.Common.{◌≡◌, ◌∙◌, ℕ, Bool, true, false, List, [], ◌∷◌, Option, None, Some, cond, refl, sym, ap}
+use Rattle.std.specs.Prelude.{option_map}
+use Rattle.std.specs.Map.{lookup}
+use Rattle.std.proofs.lemmas.Option.{same_Some}
+use Rattle.lisa_tree.specs.Descriptions.{DescriptionTree}
+use Rattle.description_names.specs.Same.{same_name}
+use Rattle.description_names.specs.Meanings.{meaning}
+use Rattle.description_names.specs.declared.declared.Meaning.{Meaning}
+use Rattle.typed_values.specs.Words.{TypedWord, truth}
+use Rattle.reset_values.specs.Effects.{local_or}
+use Rattle.lisa_meaning.specs.Scenes.{Link, Scene, child_at_home, declared, is_label, running}
+use Rattle.lisa_meaning.specs.Moments.{Moment}
+use Rattle.lisa_meaning.specs.Values.{Below, child_value, declared_value, label_value, meant_value, reader}
+use Rattle.scene_paths.specs.Paths.{first_link}
+
+-- a path without a first link is empty
+pub links_end : (links : List Link) → None ≡ first_link links → links ≡ []
+links_end [] is = refl
+links_end (first ∷ above) is = absurd (cc is)
+
+-- ---- declared names
+
+module _ (below : Below) (d : DescriptionTree) (scene : Scene) (n : List ℕ) (links : List Link) where
+  pub nothing_declared : None ≡ first_link links → truth false ≡ declared_value below d scene n links
+  nothing_declared is = sym (ap (declared_value below d scene n) (links_end links is))
+
+  abbrev by_kind : Bool → Link → TypedWord
+  by_kind kind here = cond kind (label_value n scene.word here.part) (child_value below d (child_at_home d scene.form n links))
+
+  unfolded : (here : Link) → Some here ≡ first_link links → declared_value below d scene n links ≡ by_kind (is_label (declared d here.operation n)) here
+  unfolded here is = by links refl
+    where
+      by : (all : List Link) → links ≡ all → declared_value below d scene n links ≡ by_kind (is_label (declared d here.operation n)) here
+      by [] same = absurd (let none : Some here ≡ None = is ∙ ap first_link same in cc none)
+      by (first ∷ above) same =
+          let one : Some here ≡ Some first = is ∙ ap first_link same in
+          ap (declared_value below d scene n) same
+          ∙ ap (λ (path : List Link). cond (is_label (declared d first.operation n)) (label_value n scene.word first.part) (child_value below d (child_at_home d scene.form n path))) (sym same)
+          ∙ ap (λ (x : Link). by_kind (is_label (declared d x.operation n)) x) (sym (same_Some here first one))
+
+  pub label_declared : (here : Link) (v : TypedWord) → Some here ≡ first_link links → is_label (declared d here.operation n) ≡ true → v ≡ label_value n scene.word here.part → v ≡ declared_value below d scene n links
+  label_declared here v is label made = made ∙ sym (ap (λ (kind : Bool). by_kind kind here) label) ∙ sym (unfolded here is)
+
+  pub child_declared : (here : Link) → Some here ≡ first_link links → is_label (declared d here.operation n) ≡ false → child_value below d (child_at_home d scene.form n links) ≡ declared_value below d scene n links
+  child_declared here is other = sym (ap (λ (kind : Bool). by_kind kind here) other) ∙ sym (unfolded here is)
+
+-- ---- names
+
+module _ (below : Below) (d : DescriptionTree) (scene : Scene) (m : Moment) (n : List ℕ) where
+  -- a local goes before all else
+  pub local_named : (v : TypedWord) → Some v ≡ lookup (same_name n) m.locals → v ≡ (reader below d scene m).named n
+  local_named v is = ap (λ (found : Option TypedWord). local_or found (meant_value below d scene m n (meaning d (running scene) n))) is
+
+  pub meant_named : (means : Meaning) (v : TypedWord) → None ≡ lookup (same_name n) m.locals → means ≡ meaning d (running scene) n → v ≡ meant_value below d scene m n means → v ≡ (reader below d scene m).named n
+  meant_named means v none is made =
+      made ∙ ap (meant_value below d scene m n) is
+      ∙ ap (λ (found : Option TypedWord). local_or found (meant_value below d scene m n (meaning d (running scene) n))) none

@@ -1,0 +1,14 @@
+use Rattle.std.proofs.Common.{◌∙◌, ap}
+use Rattle.lisa_tree.specs.Expressions.{expr_tree}
+use Rattle.typed_values.specs.Words.{typed_word}
+use Rattle.description_sizes.specs.Texts.{levels}
+use Rattle.lisa_meaning.specs.Moments.{bare}
+use Rattle.moment_stores.specs.Stores.{moment_of}
+use Rattle.scene_values.specs.Views.{moment_seen}
+use Rattle.scene_values.proofs.Scenes.{value_whole}
+use Rattle.scene_values.proofs.evaluation.evaluate.Goals as goal
+
+pub returns : goal.returns
+returns c =
+    value_whole c.levels-levels.result c.args.sight c.new.result.sight (moment_of c.args.store.now) (moment_seen c.new.result) c.args.path.now (expr_tree c.args.expression.now) (typed_word c.value_at.result)
+    (c.levels-levels.ensures ∙ ap levels c.described.ensures) (c.new.ensures.sight) (c.new.ensures.moment) c.value_at.ensures

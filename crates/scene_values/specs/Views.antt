@@ -1,0 +1,34 @@
+-- What expressions on a path read.
+use Rattle.std.specs.Prelude.{ℕ, cond, List, []}
+use Rattle.lisa_tree.specs.Expressions.{ExprTree}
+use Rattle.lisa_tree.specs.Descriptions.{DescriptionTree}
+use Rattle.typed_values.specs.Words.{TypedWord, typed_word}
+use Rattle.typed_values.specs.Expressions.{Reader}
+use Rattle.lisa_meaning.specs.Scenes.{Link, Scene, at_path, child_at_home}
+use Rattle.lisa_meaning.specs.Moments.{Moment, bare, with_locals}
+use Rattle.lisa_meaning.specs.Values.{Below, reader, child_value, value_within}
+use Rattle.moment_stores.specs.Stores.{moment_of}
+use Rattle.scene_values.specs.declared.view.View.{View}
+use Rattle.scene_values.specs.declared.view.Named.{Named}
+use Rattle.scene_values.specs.declared.view.Named.TheVariants as named
+use Rattle.scene_paths.specs.Paths.{links_of}
+use Rattle.scene_paths.specs.Sights.{sight_tree, form_of}
+
+abbrev pub view_tree : View → DescriptionTree
+view_tree view = sight_tree view.sight
+
+-- the moment that is seen, with its locals or without
+abbrev pub moment_seen : View → Moment
+moment_seen view = with_locals (cond view.has_locals (moment_of view.store.now).locals []) (moment_of view.store.now)
+
+-- EXPRESSIONS of children, so many levels deep
+abbrev pub below_within : ℕ → DescriptionTree → Scene → Moment → Below
+below_within levels d scene m = λ path below. value_within levels d (at_path scene path) (bare m) below
+
+abbrev pub reader_within : ℕ → DescriptionTree → Scene → Moment → Reader
+reader_within levels d scene m = reader (below_within levels d scene m) d scene m
+
+-- the value of a name that was looked up: known, or that of a child, by the path of the operation that declares it
+abbrev pub named_value : Below → View → List ℕ → Named → TypedWord
+named_value below view n (named.Known v) = typed_word v
+named_value below view n (named.Child home) = child_value below (view_tree view) (child_at_home (view_tree view) (form_of view.sight) n (links_of (view_tree view) (form_of view.sight) home))
