@@ -1,0 +1,9 @@
+-- The bits of the stages so far.
+use Rattle.std.proofs.Common.{◌≡◌, ◌&&◌, ℕ, suc, nat_lt}
+use Rattle.activation_bits.specs.Members.{has}
+use Rattle.pipeline_time.specs.Edges.{is_flushed}
+use Rattle.moment_stores.specs.Stores.{moment_of}
+use Rattle.lisa_sim.proofs.edges.flushed_stages.Given as goal
+
+abbrev pub invariant-each : goal.invariant-each
+invariant-each l = (s : ℕ) → has l.stages s ≡ (nat_lt s l.stage && is_flushed (moment_of l.store).flushed (suc s))

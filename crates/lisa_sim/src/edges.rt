@@ -1,0 +1,113 @@
+//! What operations do in an edge, over a store.
+
+ghost use Rattle.std.specs.Prelude.{◌≡◌, ◌<◌, ◌||◌, ℕ, nat_eq, suc};
+ghost use Rattle.activation_bits.specs.Members.{has};
+ghost use Rattle.pipeline_time.specs.Edges.{is_held, is_flushed};
+ghost use Rattle.moment_stores.specs.Stores.{moment_of};
+
+use crate::body::Body;
+use behavior_runs::behave;
+use moment_stores::Store;
+use pipeline_runs::Behaves;
+use scene_values::{fetch, holds};
+
+fn with_stage(stages: u8, stage: u32) -> u8
+    requires { stage < 8 }
+    ensures { (other : ℕ) → has result other ≡ (has stages other || nat_eq other stage) }
+{
+    stages | (1 << stage)
+}
+
+// The stages that are held.
+fn held_stages(store: &Store<'_>) -> u8
+    ensures { (stage : ℕ) → stage < 8 → has result stage ≡ is_held (moment_of store.now).stalled (suc stage) }
+{
+    let mut stages = 0;
+    'each: for stage in 0..8 {
+        if store.is_held(stage as usize + 1) {
+            stages = with_stage(stages, stage);
+        }
+    }
+    stages
+}
+
+// The stages that are flushed.
+fn flushed_stages(store: &Store<'_>) -> u8
+    ensures { (stage : ℕ) → stage < 8 → has result stage ≡ is_flushed (moment_of store.now).flushed (suc stage) }
+{
+    let mut stages = 0;
+    'each: for stage in 0..8 {
+        if store.is_flushed(stage as usize + 1) {
+            stages = with_stage(stages, stage);
+        }
+    }
+    stages
+}
+
+impl<'a> Behaves for Body<'a> {
+    ghost use Rattle.lisa_engine.specs.Shape.{IsFitting};
+    ghost use Rattle.machine_parts.specs.Parts.{pins_of};
+    ghost use Rattle.scene_paths.specs.Lookups.{tree_of};
+    ghost use Rattle.lisa_meaning.specs.Moments.{Contents, Moment};
+    ghost use Rattle.lisa_meaning.specs.Cores.{core_of};
+    ghost use Rattle.lisa_sim.specs.Bodies as bodies;
+    ghost use Rattle.lisa_sim.specs.Bodies.{kept_of, begun_of, lasting_of};
+
+    ghost Lasting = { Contents };
+
+    ghost Moment = { Moment };
+
+    ghost core = { λ b. core_of (tree_of b.described) };
+
+    ghost lasting = { lasting_of };
+
+    ghost moment = { λ b. b.moment };
+
+    ghost Kept = { bodies.Kept };
+
+    ghost kept = { kept_of };
+
+    ghost begun = { begun_of };
+
+    ghost takes = { λ b pins. IsFitting (pins_of (tree_of b.described)) pins };
+
+    fn begin(&mut self, pins: &[u64]) {
+        self.store.begin(pins);
+    }
+
+    fn behave(&mut self, number: u32, word: u64) {
+        behave(&self.described, number, word, &mut self.store);
+    }
+
+    fn close(&mut self) {
+        self.store.close();
+    }
+
+    fn holds(&self, number: u32, test: u32, word: u64) -> bool {
+        holds(&self.described, number, test, word, &self.store)
+    }
+
+    fn chooses(&self, number: u32, word: u64) -> bool {
+        self.described.chooses(number, word)
+    }
+
+    fn is_root(&self, number: u32) -> bool {
+        self.described.is_root_at(number)
+    }
+
+    fn fetch(&self) -> u64 {
+        fetch(&self.described, &self.store)
+    }
+
+    fn held(&self) -> u8 {
+        held_stages(&self.store)
+    }
+
+    fn flushed(&self) -> u8 {
+        flushed_stages(&self.store)
+    }
+
+    fn decodes(&self, word: u64) -> bool {
+        self.described.decodes(word)
+    }
+}

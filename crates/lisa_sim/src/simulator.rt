@@ -1,0 +1,128 @@
+//! The simulator of a description.
+
+ghost use Rattle.std.specs.Prelude.{◌≡◌, ℕ, List, [], Err, Some, None, IfOk, OnOk};
+ghost use Rattle.lisa_tree.specs.Descriptions.{description_tree};
+ghost use Rattle.lisa_engine.specs.Images.{IsImage, missing_memory};
+ghost use Rattle.lisa_engine.specs.Shape.{IsShaped, HaveWidths, HaveDistinctNames};
+ghost use Rattle.machine_parts.specs.Parts.{arrays_of, pins_of};
+ghost use Rattle.lisa_forms.specs.Parts.{AreFormsOf};
+ghost use Rattle.lisa_forms.specs.Verdicts.{HasForms};
+ghost use Rattle.lisa_coding.specs.Parts.{IsCodingOf};
+ghost use Rattle.scene_paths.specs.Lookups.{tree_of};
+ghost use Rattle.lisa_meaning.specs.States.{state_of};
+
+use crate::runner::Runner;
+use item_promises::{shown_names_differ, shown_widths_fit};
+use lisa_coding::Coding;
+use lisa_engine::{ArrayItem, Engine, Image, Item, MakeFault, Touch};
+use lisa_forms::Forms;
+use lisa_machine::Machine;
+use lisa_meaning::laws::states_are_shaped;
+use std::alloc::Global;
+
+/// A description that is run edge by edge. Its items, arrays and pins are the description's.
+#[derive(Drop)]
+pub struct Simulator<'a> {
+    machine: &'a Machine,
+    forms: &'a Forms,
+    runner: Runner<'a>,
+    ghost same_arrays: { arrays_of (description_tree machine.now) ≡ arrays_of (tree_of runner.described) },
+    ghost same_pins: { pins_of (description_tree machine.now) ≡ pins_of (tree_of runner.described) },
+    ghost sizes: { HaveWidths forms.now.items.items (arrays_of (tree_of runner.described)) (pins_of (tree_of runner.described)) },
+    ghost names: { HaveDistinctNames forms.now.items.items (arrays_of (tree_of runner.described)) (pins_of (tree_of runner.described)) },
+    ghost shapes: { (l : List (List ℕ)) → IsShaped forms.now.items.items (arrays_of (tree_of runner.described)) (state_of (tree_of runner.described) runner.image l) },
+    ghost shape: { IsShaped forms.now.items.items (arrays_of (tree_of runner.described)) runner.present },
+}
+
+impl<'a> Simulator<'a> {
+    /// The simulator of a description after no edge. All the room that it needs is taken here.
+    pub fn make(
+        alloc: Global,
+        machine: &'a Machine,
+        forms: &'a Forms,
+        coding: &'a Coding,
+        image: &'a Image,
+    ) -> Result<Simulator<'a>, MakeFault>
+        requires forms { AreFormsOf (description_tree machine.now) forms.now }
+        requires has_forms { HasForms (description_tree machine.now) }
+        requires coding { IsCodingOf (description_tree machine.now) coding.now }
+        requires image { IsImage image.now }
+        ensures defined { IfOk result (λ s. ⟦<Simulator<'a> as Engine>⟧.defined s ≡ state_of (description_tree machine.now) image.now) }
+        ensures first { IfOk result (λ s. ⟦<Simulator<'a> as Engine>⟧.present s ≡ state_of (description_tree machine.now) image.now []) }
+        ensures items { IfOk result (λ s. ⟦<Simulator<'a> as Engine>⟧.item_list s ≡ forms.now.items.items) }
+        ensures arrays { IfOk result (λ s. ⟦<Simulator<'a> as Engine>⟧.array_list s ≡ arrays_of (description_tree machine.now)) }
+        ensures pins { IfOk result (λ s. ⟦<Simulator<'a> as Engine>⟧.pin_list s ≡ pins_of (description_tree machine.now)) }
+        ensures found { OnOk result (missing_memory (arrays_of (description_tree machine.now)) image.now ≡ None) }
+        ensures missing { (name : List ℕ) → result ≡ Err (MakeFault.NoSuchMemory name) → missing_memory (arrays_of (description_tree machine.now)) image.now ≡ Some name }
+    {
+        machine.accepted();
+        shown_names_differ();
+        shown_widths_fit();
+        states_are_shaped();
+        let runner = Runner::make(alloc, machine, forms, coding, image)?;
+        Ok(Simulator {
+            machine,
+            forms,
+            runner,
+        })
+    }
+}
+
+impl<'a> Engine for Simulator<'a> {
+    ghost item_list = { λ s. s.forms.now.items.items };
+
+    ghost array_list = { λ s. arrays_of (tree_of s.runner.described) };
+
+    ghost pin_list = { λ s. pins_of (tree_of s.runner.described) };
+
+    ghost defined = { λ s. state_of (tree_of s.runner.described) s.runner.image };
+
+    ghost present = { λ s. s.runner.present };
+
+    ghost touch_list = { λ s. s.runner.touches };
+
+    fn items(&self) -> &[Item] {
+        self.forms.items()
+    }
+
+    fn arrays(&self) -> &[ArrayItem] {
+        self.machine.arrays()
+    }
+
+    fn pins(&self) -> &[Item] {
+        self.machine.pins()
+    }
+
+    fn value(&self, item: usize) -> u64 {
+        self.runner.value(item)
+    }
+
+    fn cell(&self, array: usize, index: usize) -> u64 {
+        self.runner.cell(array, index)
+    }
+
+    fn edge(&mut self, pins: &[u64]) {
+        self.runner.reached();
+        self.runner.edge(pins);
+    }
+
+    fn touched(&self) -> &[Touch] {
+        self.runner.touches()
+    }
+
+    fn restart(&mut self) {
+        self.runner.restart();
+    }
+
+    fn retreat(&mut self, items: &[u64], touches: &[Touch]) {
+        self.runner.retreat(items, touches);
+    }
+
+    ghost shaped = { λ s. s.shape };
+
+    ghost defined_shaped = { λ s l _. s.shapes l };
+
+    ghost sized = { λ s. s.sizes };
+
+    ghost named = { λ s. s.names };
+}
