@@ -85,6 +85,20 @@ fn nothing_fails(rt: HostRuntime) -> Result<(), Fail> {
             b"".as_slice(),
         ),
         ("debug D - -", NONE, "done", b"edge 5\nn 0xa\n", b""),
+        (
+            "run D D - 3",
+            NONE,
+            "refused",
+            b"",
+            b"lisa: image 1 NotAnImage line=1\n",
+        ),
+        (
+            "run D - V 3",
+            NONE,
+            "refused",
+            b"",
+            b"lisa: schedule 1 BadLine line=1\n",
+        ),
         ("vdebug V - -", NONE, "done", b"edge 5\nn 0xa\n", b""),
         (
             "fmt V",
@@ -115,6 +129,7 @@ fn a_call_fails(rt: HostRuntime) -> Result<(), Fail> {
         ),
         ("fmt D", [later, none, none, none], "read fault", b"", FAULT),
         ("run G - - 3", NONE, "read fault", b"", FAULT),
+        ("run D G - 3", NONE, "read fault", b"", FAULT),
         ("clock V G - 1", NONE, "read fault", b"", FAULT),
         (
             "debug D - -",
@@ -229,7 +244,7 @@ fn fails_well(alloc: Global, asked: &str, whole: &Seen, call: u64) -> Result<boo
 }
 
 // The words of each command that is built, with what is given and with what is refused.
-const COMMANDS: [&str; 14] = [
+const COMMANDS: [&str; 17] = [
     "",
     "fmt D",
     "fmt V",
@@ -237,9 +252,12 @@ const COMMANDS: [&str; 14] = [
     "check D",
     "check V",
     "run D - - 3",
+    "run D V - 3",
+    "run D - V 3",
     "run V - - 3",
     "trace D - - 3",
     "debug D - -",
+    "debug D - D",
     "clock V - - 2",
     "clock V D - 2",
     "clocktrace V - D 2",

@@ -1,12 +1,22 @@
 -- What stands after a read fault of the input stays where nothing more is put.
 use Rattle.std.proofs.Common.{List, ℕ, Option}
 use Rattle.std.specs.Io.KnownBytes.{Keeps}
-use Rattle.engine_commands.proofs.CutOff.{cut_off_kept}
-use Rattle.description_commands.specs.Tasks.{IsCutText}
+use Rattle.lisa_outcomes.specs.RunFiles.{RunBytes}
+use Rattle.engine_commands.specs.Machines.{schedule_bytes}
+use Rattle.engine_commands.proofs.CutOff.{cut_made_kept}
+use Rattle.description_commands.specs.Checked.{Checked}
+use Rattle.description_commands.specs.Runs.{described_machine, IsCutChecked, IsCutRun}
 
-pub text_kept : (bytes : List ℕ) (left rest before after sent : Option (List ℕ)) → Keeps after sent → IsCutText bytes left rest before after → IsCutText bytes left rest before sent
-text_kept bytes left rest before after sent keeps run = record {
+checked_kept : (c : Checked) (bytes : RunBytes) (left rest before after sent : Option (List ℕ)) → Keeps after sent → IsCutChecked c bytes left rest before after → IsCutChecked c bytes left rest before sent
+checked_kept c bytes left rest before after sent keeps run = record {
+  memories = run.memories;
+  image = run.image;
+  cut = cut_made_kept (described_machine c run.memories) run.memories (schedule_bytes bytes.schedule) left rest before after sent keeps run.cut;
+}
+
+pub run_kept : (bytes : RunBytes) (left rest before after sent : Option (List ℕ)) → Keeps after sent → IsCutRun bytes left rest before after → IsCutRun bytes left rest before sent
+run_kept bytes left rest before after sent keeps run = record {
   tree = run.tree;
   spelled = run.spelled;
-  cut = record { thin = run.cut.thin; form = run.cut.form; cut = cut_off_kept _ left rest before after sent keeps run.cut.cut };
+  cut = record { checked = run.cut.checked; is = run.cut.is; cut = checked_kept run.cut.checked bytes left rest before after sent keeps run.cut.cut };
 }

@@ -1,44 +1,21 @@
 -- What `check` gives over a description.
-use Rattle.std.specs.Prelude.{ℕ, ◌≡◌, ◌++◌, List, Option, length, codes, decimal}
-use Rattle.lisa_tree.specs.declared.faults.DescFault.{DescFault}
+use Rattle.std.specs.Prelude.{ℕ, ◌≡◌, ◌++◌, List, length, codes, decimal}
 use Rattle.lisa_tree.specs.Descriptions.{DescriptionTree}
 use Rattle.coding_tables.specs.Instructions.{form_count}
 use Rattle.activation_trees.specs.Unfolding.{occurrences}
 use Rattle.description_sizes.specs.Sizes.{items}
-use Rattle.instruction_forms.specs.Widths.{HasWidth}
-use Rattle.lisa_machine.specs.Verdicts.{IsAccepted, IsFirstFault}
-use Rattle.lisa_outcomes.specs.declared.status.Refusal.{Refusal}
-use Rattle.lisa_outcomes.specs.declared.status.Refusal.TheVariants as refusals
-use Rattle.lisa_outcomes.specs.Outcomes.{Outcome, Finished, After}
+use Rattle.lisa_outcomes.specs.Outcomes.{Outcome, Finished}
 use Rattle.description_commands.specs.declared.counts.Counts.{Counts}
-use Rattle.description_commands.specs.Instructions.{HasInstructions, IsFirstInstructionFault}
+use Rattle.description_commands.specs.Checked.{Checked, AfterChecks}
 
--- the description itself, where no condition is broken in it
-abbrev pub IsSound : DescriptionTree → DescriptionTree → Type 0
-IsSound d checked = (checked ≡ d) × IsAccepted d
-
--- the first fault of the first condition that is broken
-abbrev pub IsFaulty : DescriptionTree → Refusal → Type 0
-IsFaulty d refusal = (fault : DescFault) × IsFirstFault d fault × (refusal ≡ refusals.Description fault)
-
--- ---- its instructions
-
--- of a description whose instructions have this width
-abbrev pub counts_with : DescriptionTree → Option ℕ → Counts
-counts_with d width = record { operations = length d.operations; forms = form_count d; occurrences = length (occurrences d); items = length (items d width) }
-
--- what it unfolds to, where its instructions are as they must be
-pub record AreCounts (d : DescriptionTree) (counts : Counts) : Type 0 where
-  pub well : HasInstructions d
-  pub width : Option ℕ
-  pub has_width : HasWidth d width
-  pub are : counts ≡ counts_with d width
-
--- the first fault of its instructions
-abbrev pub IsMisformed : DescriptionTree → Refusal → Type 0
-IsMisformed d refusal = (fault : DescFault) × IsFirstInstructionFault d fault × (refusal ≡ refusals.Description fault)
-
--- ---- the text
+-- how much there is of it
+abbrev pub counts_of : Checked → Counts
+counts_of c = record {
+  operations = length c.tree.operations;
+  forms = form_count c.tree;
+  occurrences = length (occurrences c.tree);
+  items = length (items c.tree c.width);
+}
 
 -- a label and its number, on a line
 abbrev pub count_line : List ℕ → ℕ → List ℕ
@@ -50,11 +27,6 @@ counts_text counts =
     ++ (count_line (codes "forms ") counts.forms
     ++ (count_line (codes "occurrences ") counts.occurrences ++ count_line (codes "items ") counts.items))
 
--- ---- the command
-
--- the lines of an accepted description, where its instructions are as they must be
-abbrev pub Unfolds : DescriptionTree → Outcome → Type 0
-Unfolds d = After (AreCounts d) (IsMisformed d) (λ counts outcome. outcome ≡ Finished (counts_text counts))
-
+-- the lines of a description in which no condition is broken
 abbrev pub Checks : DescriptionTree → Outcome → Type 0
-Checks d = After (IsSound d) (IsFaulty d) Unfolds
+Checks d = AfterChecks d (λ c outcome. outcome ≡ Finished (counts_text (counts_of c)))

@@ -1,10 +1,9 @@
 pub mod Descriptions
-pub mod ThinForm
-pub mod ThinView
-pub mod ThinStates
-pub mod ThinRuns
-pub mod Tasks
-pub mod Unread
 pub mod Instructions
+pub mod Checked
 pub mod Checks
-pub mod FormCounts
+pub mod DescriptionImages
+pub mod Runs
+pub mod ImageViews
+pub mod ToolViews
+pub mod Unread

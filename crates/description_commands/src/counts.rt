@@ -1,13 +1,11 @@
 //! How much there is of a description, in lines.
 ghost use Rattle.std.specs.Prelude.{◌≡◌, ◌++◌, codes, decimal as decimal_digits, false};
 ghost use Rattle.lisa_io.specs.Contents.{Puts};
-ghost use Rattle.lisa_tree.specs.Descriptions.{description_tree};
-ghost use Rattle.description_commands.specs.Checks.{count_line, counts_text};
-ghost use Rattle.description_commands.specs.FormCounts.{counts_of};
+ghost use Rattle.description_commands.specs.Checks.{counts_of, count_line, counts_text};
+ghost use Rattle.description_commands.specs.ToolViews.{checked_of, AreTools};
 
-use lisa_forms::Forms;
+use crate::tools::Tools;
 use lisa_io::{Failed, Sink, put_all};
-use lisa_machine::Machine;
 use lisa_words::decimal;
 
 /// How many operations a description has, and how many forms, occurrences and items it unfolds to.
@@ -20,15 +18,16 @@ pub struct Counts {
 }
 
 impl Counts {
-    /// Counts the operations of a machine's description, and what it was unfolded to.
-    pub fn of(machine: &Machine, forms: &Forms) -> Counts
-        ensures { result ≡ counts_of (description_tree machine.now) forms.now }
+    /// Counts the operations of a description that is checked, and what it was unfolded to.
+    pub fn of(tools: &Tools) -> Counts
+        requires { AreTools tools.now }
+        ensures { result ≡ counts_of (checked_of tools.now) }
     {
         Counts {
-            operations: machine.description().operations.len() as u64,
-            forms: forms.count() as u64,
-            occurrences: forms.occurrences().len() as u64,
-            items: forms.items().len() as u64,
+            operations: tools.machine.description().operations.len() as u64,
+            forms: tools.forms.count() as u64,
+            occurrences: tools.forms.occurrences().len() as u64,
+            items: tools.forms.items().len() as u64,
         }
     }
 }

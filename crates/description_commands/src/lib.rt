@@ -1,18 +1,18 @@
 //! The commands on a description: its canonical text, whether it is accepted and how much there is of it, its state after some edges, and a session of the debugger over it.
 //!
-//! `specs/Descriptions.antt` says what `fmt` gives, `specs/Checks.antt` what `check` gives, and `specs/ThinRuns.antt` what each task gives.
+//! `specs/Descriptions.antt` says what `fmt` gives, `specs/Checks.antt` what `check` gives, and `specs/Runs.antt` what each task gives.
 #![tactic(auto)]
 
 mod checks;
-mod commands;
 mod counts;
-mod instructions;
-mod parts;
+mod images;
+mod printing;
 mod reading;
 mod running;
-mod simulator;
-mod thin;
+mod tools;
 
 pub use checks::check_description;
-pub use commands::{do_with_description, format_description};
+pub use printing::format_description;
 pub use reading::description_of;
+pub use running::do_with_description;
+pub use tools::{Tools, tools_of};

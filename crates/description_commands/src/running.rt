@@ -1,70 +1,122 @@
-//! Tasks over a description that is read.
-ghost use Rattle.std.specs.Prelude.{◌≡◌, ◌≤◌, [], false};
+//! Tasks over a description with an image.
+ghost use Rattle.std.specs.Prelude.{◌≡◌, ◌≤◌, ◌<◌, ◌^◌, length, false, IfSome};
 ghost use Rattle.lisa_tree.specs.Descriptions.{description_tree};
+ghost use Rattle.lisa_engine.specs.Images.{IsImage};
+ghost use Rattle.lisa_machine.specs.Machines.{IsSpelled};
 ghost use Rattle.lisa_outcomes.specs.Ends.{Ends};
-ghost use Rattle.lisa_outcomes.specs.Stages.{Finds};
-ghost use Rattle.engine_commands.specs.Sessions.{course_under, IsCutOff};
+ghost use Rattle.lisa_outcomes.specs.RunViews.{bytes_of};
+ghost use Rattle.engine_commands.specs.Machines.{schedule_bytes};
+ghost use Rattle.engine_commands.specs.Making.{GivesMade, IsCutMade};
 ghost use Rattle.engine_commands.specs.Tasks.{takes_input, IsHeard, HasFailed};
-ghost use Rattle.description_commands.specs.Tasks.{IsCutTree};
-ghost use Rattle.description_commands.specs.ThinForm.{IsThin};
-ghost use Rattle.description_commands.specs.ThinRuns.{thin_machine, thin_outcome, GivesTree, IsForLater};
-ghost use Rattle.description_commands.specs.ThinView.{thin_of};
+ghost use Rattle.description_commands.specs.Checked.{AfterChecks};
+ghost use Rattle.description_commands.specs.Runs.{described_machine, GivesChecked, GivesRun, IsCutChecked, IsCutTree, IsCutRun};
+ghost use Rattle.description_commands.specs.ToolViews.{checked_of, AreTools};
 
-use crate::parts::ThinParts;
-use crate::simulator::Simulator;
-use crate::thin::thin;
-use engine_commands::{Task, do_task};
+use crate::images::image_for;
+use crate::reading::description_of;
+use crate::tools::{Tools, tools_of};
+use engine_commands::{Task, do_made, schedule_text};
+use lisa_engine::Image;
 use lisa_io::{Flush, Source};
-use lisa_outcomes::{End, LaterFault, Refusal};
+use lisa_outcomes::{End, RunBytes};
+use lisa_sim::Simulator;
 use lisa_tree::Description;
 use std::alloc::Global;
 
-// A task over a thin description, which has no pins to be scheduled.
-fn do_with_thin<I: Source, O: Flush>(
+// A task over a description that is checked, with the memories of an image.
+fn do_with_image<I: Source, O: Flush>(
     alloc: Global,
-    thin: &ThinParts<'_>,
+    tools: &Tools,
+    image: &Image,
     task: Task,
+    schedule: &[u8],
     input: &mut I,
     out: &mut O,
 ) -> Result<(), End>
-    ensures ends { Ends (IsHeard task (I.left input.old)) (λ bytes outcome. outcome ≡ thin_outcome task (thin_of thin.now) bytes)
-        (HasFailed task (I.faults input.old) (I.faults input.new) × IsCutOff (course_under (thin_machine (thin_of thin.now)) []) (I.left input.old) (I.left input.new) (O.written out.old) (O.written out.new))
+    requires tools { AreTools tools.now }
+    requires kept { IsImage image.now }
+    requires short { length schedule.now < 2 ^ 32 }
+    ensures ends { Ends (IsHeard task (I.left input.old)) (GivesMade task (described_machine (checked_of tools.now) image.now) image.now schedule.now)
+        (HasFailed task (I.faults input.old) (I.faults input.new)
+        × IsCutMade (described_machine (checked_of tools.now) image.now) image.now schedule.now (I.left input.old) (I.left input.new) (O.written out.old) (O.written out.new))
         (O.written out.old) (O.written out.new) (O.faults out.old) (O.faults out.new) result }
     ensures input { takes_input task ≡ false → (I.left input.new ≡ I.left input.old) × (I.faults input.new ≡ I.faults input.old) }
     ensures later { I.faults input.old ≤ I.faults input.new }
 {
-    match Simulator::make(alloc, thin) {
-        Ok(simulator) => do_task(alloc, simulator, task, b"", input, out),
-        Err(_) => Err(End::NoMemory),
-    }
+    let made = Simulator::make(alloc, &tools.machine, &tools.forms, &tools.coding, image);
+    do_made(alloc, made, task, schedule, input, out)
 }
 
-// The thin description that a description is; any other one is for later.
-fn built(description: &Description) -> Result<ThinParts<'_>, End>
-    ensures { Finds thin_of (IsThin (description_tree description.now)) (IsForLater (description_tree description.now)) result }
-{
-    match thin(description) {
-        Some(thin) => Ok(thin),
-        None => Err(End::Refused(Refusal::Later(LaterFault::NotBuilt {}))),
-    }
-}
-
-/// Does a task over a description, where it is a thin one.
-pub fn do_with_tree<I: Source, O: Flush>(
+// A task over a description that is checked.
+fn do_with_tools<I: Source, O: Flush>(
     alloc: Global,
-    description: &Description,
+    tools: &Tools,
+    bytes: &RunBytes<'_>,
     task: Task,
     input: &mut I,
     out: &mut O,
 ) -> Result<(), End>
-    ensures ends { Ends (IsHeard task (I.left input.old)) (λ bytes. GivesTree task bytes (description_tree description.now))
-        (HasFailed task (I.faults input.old) (I.faults input.new) × IsCutTree (description_tree description.now) (I.left input.old) (I.left input.new) (O.written out.old) (O.written out.new))
+    requires tools { AreTools tools.now }
+    requires image { IfSome (bytes_of bytes.now).image (λ image. length image < 2 ^ 32) }
+    requires schedule { length (schedule_bytes (bytes_of bytes.now).schedule) < 2 ^ 32 }
+    ensures ends { Ends (IsHeard task (I.left input.old)) (λ lines. GivesChecked task (bytes_of bytes.now) lines (checked_of tools.now))
+        (HasFailed task (I.faults input.old) (I.faults input.new)
+        × IsCutChecked (checked_of tools.now) (bytes_of bytes.now) (I.left input.old) (I.left input.new) (O.written out.old) (O.written out.new))
         (O.written out.old) (O.written out.new) (O.faults out.old) (O.faults out.new) result }
     ensures input { takes_input task ≡ false → (I.left input.new ≡ I.left input.old) × (I.faults input.new ≡ I.faults input.old) }
     ensures later { I.faults input.old ≤ I.faults input.new }
 {
-    match built(description) {
-        Ok(thin) => do_with_thin(alloc, &thin, task, input, out),
+    match image_for(alloc, tools.machine.description(), bytes) {
+        Ok(image) => do_with_image(alloc, tools, &image, task, schedule_text(bytes), input, out),
+        Err(end) => Err(end),
+    }
+}
+
+// A task over a description, which is checked first.
+fn do_with_tree<I: Source, O: Flush>(
+    alloc: Global,
+    description: Description,
+    bytes: &RunBytes<'_>,
+    task: Task,
+    input: &mut I,
+    out: &mut O,
+) -> Result<(), End>
+    requires spelled { IsSpelled (description_tree description) }
+    requires image { IfSome (bytes_of bytes.now).image (λ image. length image < 2 ^ 32) }
+    requires schedule { length (schedule_bytes (bytes_of bytes.now).schedule) < 2 ^ 32 }
+    ensures ends { Ends (IsHeard task (I.left input.old)) (λ lines. AfterChecks (description_tree description) (GivesChecked task (bytes_of bytes.now) lines))
+        (HasFailed task (I.faults input.old) (I.faults input.new)
+        × IsCutTree (description_tree description) (bytes_of bytes.now) (I.left input.old) (I.left input.new) (O.written out.old) (O.written out.new))
+        (O.written out.old) (O.written out.new) (O.faults out.old) (O.faults out.new) result }
+    ensures input { takes_input task ≡ false → (I.left input.new ≡ I.left input.old) × (I.faults input.new ≡ I.faults input.old) }
+    ensures later { I.faults input.old ≤ I.faults input.new }
+{
+    match tools_of(alloc, description) {
+        Ok(tools) => do_with_tools(alloc, &tools, bytes, task, input, out),
+        Err(end) => Err(end),
+    }
+}
+
+/// Does a task over the description that the first of a run's files spells, with an image and a schedule where these aren't left out:
+/// the text of its state after some edges, that of a trace, or the answers to the lines of the input.
+pub fn do_with_description<I: Source, O: Flush>(
+    alloc: Global,
+    bytes: &RunBytes<'_>,
+    task: Task,
+    input: &mut I,
+    out: &mut O,
+) -> Result<(), End>
+    requires main { length (bytes_of bytes.now).main < 2 ^ 32 }
+    requires image { IfSome (bytes_of bytes.now).image (λ image. length image < 2 ^ 32) }
+    requires schedule { length (schedule_bytes (bytes_of bytes.now).schedule) < 2 ^ 32 }
+    ensures ends { Ends (IsHeard task (I.left input.old)) (GivesRun task (bytes_of bytes.now))
+        (HasFailed task (I.faults input.old) (I.faults input.new) × IsCutRun (bytes_of bytes.now) (I.left input.old) (I.left input.new) (O.written out.old) (O.written out.new))
+        (O.written out.old) (O.written out.new) (O.faults out.old) (O.faults out.new) result }
+    ensures input { takes_input task ≡ false → (I.left input.new ≡ I.left input.old) × (I.faults input.new ≡ I.faults input.old) }
+    ensures later { I.faults input.old ≤ I.faults input.new }
+{
+    match description_of(alloc, bytes.main) {
+        Ok(description) => do_with_tree(alloc, description, bytes, task, input, out),
         Err(end) => Err(end),
     }
 }

@@ -4,8 +4,7 @@
 ghost use Rattle.std.specs.Prelude.{◌≡◌, IfOk};
 ghost use Rattle.sha2.specs.Sha256.{sha256};
 ghost use Rattle.lisa_tree.specs.Descriptions.{description_tree};
-ghost use Rattle.lisa_printer.specs.CanonicalTokens.{description_tokens};
-ghost use Rattle.lisa_printer.specs.CanonicalText.{canonical_text};
+ghost use Rattle.description_digest.specs.Digests.{digest_of};
 
 use lisa_printer::print_description;
 use lisa_tree::Description;
@@ -23,7 +22,7 @@ fn hashed(text: &[u8]) -> [u8; 32]
 
 /// The SHA-256 digest of the description's canonical text.
 pub fn digest(alloc: Global, d: &Description) -> Result<[u8; 32], NoMemory>
-    ensures { IfOk result (λ bytes. bytes ≡ sha256 (canonical_text (description_tokens (description_tree d.now)))) }
+    ensures { IfOk result (λ bytes. bytes ≡ digest_of (description_tree d.now)) }
 {
     let text = print_description(alloc, d)?;
     Ok(hashed(&text))

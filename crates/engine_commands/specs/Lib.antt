@@ -2,4 +2,5 @@ pub mod Machines
 pub mod Sessions
 pub mod Tasks
 pub mod Images
+pub mod Making
 pub mod Unread

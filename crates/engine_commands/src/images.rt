@@ -2,9 +2,10 @@
 ghost use Rattle.std.specs.Prelude.{◌≡◌, ◌<◌, ◌^◌, Some, length, IfSome};
 ghost use Rattle.lisa_outcomes.specs.RunViews.{bytes_of};
 ghost use Rattle.lisa_outcomes.specs.Stages.{Finds};
-ghost use Rattle.engine_commands.specs.Images.{IsImageOf, IsNoImage};
+ghost use Rattle.engine_commands.specs.Images.{IsImageOf, IsNoImage, memories_of};
 ghost use Rattle.engine_commands.specs.Unread.{unread_image};
 
+use lisa_engine::Image;
 use lisa_object::{ImageFault, Stamped, read_image};
 use lisa_outcomes::{End, Refusal, RunBytes};
 use std::alloc::Global;
@@ -38,5 +39,17 @@ pub fn image_of(alloc: Global, bytes: &RunBytes<'_>) -> Result<Option<Stamped>, 
     match bytes.image {
         Some(image) => spelled(alloc, image),
         None => Ok(None),
+    }
+}
+
+/// The memories of an image; one that is left out has none.
+pub fn memories(alloc: Global, image: Option<Stamped>) -> Image
+    ensures { result ≡ memories_of image }
+{
+    match image {
+        Some(stamped) => stamped.image,
+        None => Image {
+            memories: Vec::new(alloc),
+        },
     }
 }

@@ -5,10 +5,13 @@
 #![tactic(auto)]
 
 mod images;
+mod making;
 mod running;
 mod scheduling;
 mod sessions;
 mod tasks;
 
-pub use images::image_of;
+pub use images::{image_of, memories};
+pub use making::do_made;
+pub use scheduling::schedule_text;
 pub use tasks::{Task, do_task};

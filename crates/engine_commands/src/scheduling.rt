@@ -1,12 +1,13 @@
 //! Schedules from bytes.
 ghost use Rattle.std.specs.Prelude.{◌≡◌, ◌<◌, ◌^◌, length, IfOk};
 ghost use Rattle.lisa_engine.specs.PinValues.{IsFor};
+ghost use Rattle.lisa_outcomes.specs.RunViews.{bytes_of};
 ghost use Rattle.lisa_outcomes.specs.Stages.{Finds};
-ghost use Rattle.engine_commands.specs.Machines.{IsSchedule, IsNoSchedule};
+ghost use Rattle.engine_commands.specs.Machines.{IsSchedule, IsNoSchedule, schedule_bytes};
 ghost use Rattle.engine_commands.specs.Unread.{unscheduled_end};
 
 use lisa_engine::{Item, Schedule, ScheduleFault, read_schedule};
-use lisa_outcomes::{End, Refusal};
+use lisa_outcomes::{End, Refusal, RunBytes};
 use std::alloc::Global;
 
 // The end of a command whose schedule wasn't read.
@@ -28,5 +29,15 @@ pub fn schedule_for(alloc: Global, bytes: &[u8], pins: &[Item]) -> Result<Schedu
     match read_schedule(alloc, bytes, pins) {
         Ok(schedule) => Ok(schedule),
         Err(fault) => Err(unscheduled(fault)),
+    }
+}
+
+/// The bytes of a run's schedule; one that is left out has none.
+pub fn schedule_text<'a>(bytes: &RunBytes<'a>) -> &'a [u8]
+    ensures { result.now ≡ schedule_bytes (bytes_of bytes.now).schedule }
+{
+    match bytes.schedule {
+        Some(schedule) => schedule,
+        None => &[],
     }
 }

@@ -22,7 +22,7 @@ other_command w ws a k b (Simulate tasks.Answers x) h = absurd (no_word w b (cod
 other_command w ws a k b (Clock task names) h = (task, names, refl)
 
 -- what has such a word is for the simulator of a description
-pub simulator_command : (w : List ℕ) (ws : List (List ℕ)) → is_simulator_word w ≡ true → (r : Request) → Asks (w ∷ ws) r → (task : Task) × (description : List ℕ) × (r ≡ Simulate task description)
+pub simulator_command : (w : List ℕ) (ws : List (List ℕ)) → is_simulator_word w ≡ true → (r : Request) → Asks (w ∷ ws) r → (task : Task) × (names : RunNames) × (r ≡ Simulate task names)
 simulator_command w ws on (Format x) h = absurd (no_word (codes "fmt") refl w on (sym (first_of _ _ _ _ h.spelled)))
 simulator_command w ws on (Check x) h = absurd (no_word (codes "check") refl w on (sym (first_of _ _ _ _ h.spelled)))
 simulator_command w ws on (Simulate task x) h = (task, x, refl)

@@ -11,9 +11,8 @@ use Rattle.lisa_outcomes.specs.declared.status.Status.TheVariants as statuses
 use Rattle.lisa_outcomes.specs.Outcomes.{Finished, Refusing, Given}
 use Rattle.lisa_outcomes.specs.Ends.{Ends}
 use Rattle.lisa_outcomes.proofs.Told.{not_ok}
-use Rattle.description_commands.proofs.Stopped.{text_kept}
+use Rattle.description_commands.proofs.Stopped.{run_kept}
 use Rattle.module_commands.proofs.Stopped.{clock_kept}
-use Rattle.lisa_outcomes.specs.NamedFiles.{file_at}
 use Rattle.lisa_outcomes.specs.RunFiles.{run_bytes}
 use Rattle.lisa_cli.specs.Requests.{Request, Format, Check, Simulate, Clock, Asks, reads_input}
 use Rattle.lisa_cli.specs.Gives.{Gives}
@@ -35,7 +34,7 @@ blamed_blames r before after request (input_failed failed cut) = inr failed
 cut_kept : (request : Request) (bytes : List (List ℕ)) (left rest before after sent : Option (List ℕ)) → Keeps after sent → IsCutOver request bytes left rest before after → IsCutOver request bytes left rest before sent
 cut_kept (Format description) bytes left rest before after sent keeps cut = cut
 cut_kept (Check description) bytes left rest before after sent keeps cut = cut
-cut_kept (Simulate task description) bytes left rest before after sent keeps cut = text_kept (file_at bytes 0) left rest before after sent keeps cut
+cut_kept (Simulate task names) bytes left rest before after sent keeps cut = run_kept (run_bytes names bytes) left rest before after sent keeps cut
 cut_kept (Clock task names) bytes left rest before after sent keeps cut = clock_kept (run_bytes names bytes) left rest before after sent keeps cut
 
 blamed_kept : (r : Readings) (before after sent : Option (List ℕ)) (request : Request) → Keeps after sent → Blamed r before after request → Blamed r before sent request

@@ -5,7 +5,7 @@ use Rattle.lisa_outcomes.specs.NamedFiles.{AfterFiles, file_at}
 use Rattle.lisa_outcomes.specs.RunFiles.{run_bytes}
 use Rattle.description_commands.specs.Descriptions.{AfterSpelling, Formats}
 use Rattle.description_commands.specs.Checks.{Checks}
-use Rattle.description_commands.specs.ThinRuns.{GivesTree}
+use Rattle.description_commands.specs.Runs.{GivesRun}
 use Rattle.module_commands.specs.Clocks.{GivesClock}
 use Rattle.lisa_cli.specs.Requests.{Request, Format, Check, Simulate, Clock, files_of}
 
@@ -13,7 +13,7 @@ use Rattle.lisa_cli.specs.Requests.{Request, Format, Check, Simulate, Clock, fil
 abbrev pub GivesOver : Request → (bytes : List (List ℕ)) → (input : List ℕ) → Outcome → Type 0
 GivesOver (Format description) bytes input = AfterSpelling (file_at bytes 0) Formats
 GivesOver (Check description) bytes input = AfterSpelling (file_at bytes 0) Checks
-GivesOver (Simulate task description) bytes input = AfterSpelling (file_at bytes 0) (GivesTree task input)
+GivesOver (Simulate task names) bytes input = GivesRun task (run_bytes names bytes) input
 GivesOver (Clock task names) bytes input = GivesClock task (run_bytes names bytes) input
 
 -- for the files that it names: the first that is too long is told before anything else

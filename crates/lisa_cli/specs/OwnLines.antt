@@ -4,8 +4,6 @@ use Rattle.lisa_outcomes.specs.declared.status.FileFault.{FileFault}
 use Rattle.lisa_outcomes.specs.declared.status.FileFault.TheVariants as file_faults
 use Rattle.lisa_outcomes.specs.declared.status.InputFault.{InputFault}
 use Rattle.lisa_outcomes.specs.declared.status.InputFault.TheVariants as input_faults
-use Rattle.lisa_outcomes.specs.declared.status.LaterFault.{LaterFault}
-use Rattle.lisa_outcomes.specs.declared.status.LaterFault.TheVariants as laters
 use Rattle.lisa_cli.specs.Lines.{Line, line, name}
 
 -- want of memory is no refusal, and has no line of its own
@@ -16,7 +14,3 @@ file_line file_faults.NoMemory = line [] []
 abbrev pub input_line : InputFault → Line
 input_line input_faults.TooLong = line (codes "input 1 TooLong") []
 input_line input_faults.NoMemory = line [] []
-
-abbrev pub later_line : LaterFault → Line
-later_line laters.NotBuilt = line (codes "later 1 NotBuilt") []
-later_line laters.NoMemory = line [] []

@@ -14,8 +14,8 @@ pub data Request : Type 0 where
   -- description
   Format : List ℕ → Request
   Check : List ℕ → Request
-  -- what is to be done with the simulator of a description, and its file
-  Simulate : Task → List ℕ → Request
+  -- what is to be done with the simulator of a description, and its files
+  Simulate : Task → RunNames → Request
   -- what is to be done with the clock of a module, and its files
   Clock : Task → RunNames → Request
 
@@ -49,7 +49,7 @@ run_words names counts = names.main ∷ file_word names.image ∷ file_word name
 abbrev pub request_words : Request → List (List ℕ)
 request_words (Format description) = codes "fmt" ∷ description ∷ []
 request_words (Check description) = codes "check" ∷ description ∷ []
-request_words (Simulate task description) = simulator_word task ∷ description ∷ codes "-" ∷ codes "-" ∷ count_words task
+request_words (Simulate task names) = simulator_word task ∷ run_words names (count_words task)
 request_words (Clock task names) = clock_word task ∷ run_words names (count_words task)
 
 -- a word that names a file
@@ -76,21 +76,21 @@ IsCounted tasks.Answers = Unit {0}
 abbrev pub IsAllowed : Request → Type 0
 IsAllowed (Format description) = IsFileName description
 IsAllowed (Check description) = IsFileName description
-IsAllowed (Simulate task description) = IsFileName description × IsCounted task
+IsAllowed (Simulate task names) = AreNames names × IsCounted task
 IsAllowed (Clock task names) = AreNames names × IsCounted task
 
 -- the files that it reads, in this order, each with the most bytes that it may have
 abbrev pub files_of : Request → List NamedFile
 files_of (Format description) = named description description_limit ∷ []
 files_of (Check description) = named description description_limit ∷ []
-files_of (Simulate task description) = named description description_limit ∷ []
+files_of (Simulate task names) = run_files names description_limit
 files_of (Clock task names) = run_files names module_limit
 
 -- it takes the lines of the input
 abbrev pub reads_input : Request → Bool
 reads_input (Format description) = false
 reads_input (Check description) = false
-reads_input (Simulate task description) = takes_input task
+reads_input (Simulate task names) = takes_input task
 reads_input (Clock task names) = takes_input task
 
 -- the words ask for this

@@ -4,9 +4,9 @@ use Rattle.std.specs.Io.KnownBytes.{Appends}
 use Rattle.lisa_io.specs.Causes.{Rose}
 use Rattle.lisa_io.specs.Contents.{Held}
 use Rattle.lisa_outcomes.specs.Outcomes.{FileMap, Given}
-use Rattle.lisa_outcomes.specs.NamedFiles.{AreFiles, SomeFailed, file_at}
+use Rattle.lisa_outcomes.specs.NamedFiles.{AreFiles, SomeFailed}
 use Rattle.lisa_outcomes.specs.RunFiles.{run_bytes}
-use Rattle.description_commands.specs.Tasks.{IsCutText}
+use Rattle.description_commands.specs.Runs.{IsCutRun}
 use Rattle.module_commands.specs.Clocks.{IsCutClock}
 use Rattle.lisa_cli.specs.Requests.{Request, Format, Check, Simulate, Clock, reads_input, files_of}
 
@@ -90,7 +90,7 @@ Blames r request = SomeFailed (files_of request) r.file_faults r.file_faults_aft
 abbrev pub IsCutOver : Request → (bytes : List (List ℕ)) → (left rest before after : Option (List ℕ)) → Type 0
 IsCutOver (Format description) bytes left rest before after = ⊥
 IsCutOver (Check description) bytes left rest before after = ⊥
-IsCutOver (Simulate task description) bytes left rest before after = IsCutText (file_at bytes 0) left rest before after
+IsCutOver (Simulate task names) bytes left rest before after = IsCutRun (run_bytes names bytes) left rest before after
 IsCutOver (Clock task names) bytes left rest before after = IsCutClock (run_bytes names bytes) left rest before after
 
 -- what stands after a read fault: nothing was written where a file failed, and where the input failed, the lines that were taken

@@ -60,12 +60,16 @@ fn description_files<'a>(
     }
 }
 
-// The files of a run over a module.
-fn module_files<'a>(alloc: Global, names: RunNames<'a>) -> Result<Vec<NamedFile<'a>>, NoMemory>
-    ensures { IfOk result (λ files. map named_of files.items ≡ run_files (names_of names.entry) module_limit) }
+// The files of a run, of which the first has this limit.
+fn run_files<'a>(
+    alloc: Global,
+    names: RunNames<'a>,
+    limit: u32,
+) -> Result<Vec<NamedFile<'a>>, NoMemory>
+    ensures { IfOk result (λ files. map named_of files.items ≡ run_files (names_of names.entry) limit) }
 {
     let mut files = Vec::new(alloc);
-    match push_file(&mut files, Some(names.main), MODULE_LIMIT) {
+    match push_file(&mut files, Some(names.main), limit) {
         Ok(()) => {}
         Err(_) => return Err(NoMemory),
     }
@@ -86,8 +90,8 @@ fn files_of<'a>(alloc: Global, command: &Command<'a>) -> Result<Vec<NamedFile<'a
     match command {
         Command::Format { description } => description_files(alloc, description),
         Command::Check { description } => description_files(alloc, description),
-        Command::Simulate { description, .. } => description_files(alloc, description),
-        Command::Clock { names, .. } => module_files(alloc, *names),
+        Command::Simulate { names, .. } => run_files(alloc, *names, DESCRIPTION_LIMIT),
+        Command::Clock { names, .. } => run_files(alloc, *names, MODULE_LIMIT),
     }
 }
 
@@ -110,8 +114,8 @@ fn perform_with<I: Source, O: Flush>(
     match command {
         Command::Format { .. } => format_description(alloc, file_at(all, 0), out),
         Command::Check { .. } => check_description(alloc, file_at(all, 0), out),
-        Command::Simulate { task, .. } => {
-            do_with_description(alloc, file_at(all, 0), *task, input, out)
+        Command::Simulate { names, task } => {
+            do_with_description(alloc, &run_bytes(*names, all), *task, input, out)
         }
         Command::Clock { names, task } => {
             do_with_module(alloc, &run_bytes(*names, all), *task, input, out)

@@ -2,12 +2,12 @@
 ghost use Rattle.std.specs.Prelude.{◌≡◌};
 ghost use Rattle.lisa_cli.specs.LineViews.{line_of};
 ghost use Rattle.lisa_cli.specs.DescriptionLines.{description_line};
-ghost use Rattle.lisa_cli.specs.OwnLines.{file_line, input_line, later_line};
+ghost use Rattle.lisa_cli.specs.OwnLines.{file_line, input_line};
 
 use crate::lines::{
     Line, line0, line1, line2, line3, name_field, number_field, text_field, word_field,
 };
-use lisa_outcomes::{FileFault, InputFault, LaterFault};
+use lisa_outcomes::{FileFault, InputFault};
 use lisa_tree::DescFault;
 
 /// The line of a description's fault.
@@ -168,15 +168,5 @@ pub fn input_line(fault: &InputFault) -> Line<'_>
     match fault {
         InputFault::TooLong {} => line0(b"input 1 TooLong"),
         InputFault::NoMemory => line0(b""),
-    }
-}
-
-/// The line of what isn't built yet.
-pub fn later_line(fault: &LaterFault) -> Line<'_>
-    ensures { line_of result ≡ later_line fault.now }
-{
-    match fault {
-        LaterFault::NotBuilt {} => line0(b"later 1 NotBuilt"),
-        LaterFault::NoMemory => line0(b""),
     }
 }

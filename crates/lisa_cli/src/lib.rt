@@ -12,6 +12,6 @@ mod telling;
 mod top;
 
 pub use laws::words_ask_for_one;
-pub use lisa_outcomes::{End, FileFault, InputFault, LaterFault, Refusal, Status};
+pub use lisa_outcomes::{End, FileFault, InputFault, Refusal, Status};
 pub use telling::tell_no_memory;
 pub use top::lisa;

@@ -19,8 +19,8 @@ pub enum Command<'a> {
     Format { description: &'a str },
     /// `check DESC`
     Check { description: &'a str },
-    /// `run DESC - - N`, `trace DESC - - N` or `debug DESC - -`
-    Simulate { description: &'a str, task: Task },
+    /// `run DESC IMAGE SCHED N`, `trace DESC IMAGE SCHED N` or `debug DESC IMAGE SCHED`
+    Simulate { names: RunNames<'a>, task: Task },
     /// `clock VFILE IMAGE SCHED N`, `clocktrace VFILE IMAGE SCHED N` or `vdebug VFILE IMAGE SCHED`
     Clock { names: RunNames<'a>, task: Task },
 }
@@ -169,31 +169,17 @@ fn simulator_task(command: &str, rest: &[String]) -> Option<Task>
     }
 }
 
-// The description of a command that takes neither an image nor a schedule.
-fn lone_description<'a>(description: &'a str, image: &str, schedule: &str) -> Option<&'a str>
-    ensures found { IfSome result (λ d. (d.now ≡ description.now) × (image.now ≡ codes "-") × (schedule.now ≡ codes "-") × IsFileName d.now) }
-    ensures only { image.now ≡ codes "-" → schedule.now ≡ codes "-" → IsFileName description.now → option_map (λ d. d.now) result ≡ Some description.now }
-{
-    if !is_absent(image) {
-        return None;
-    }
-    if !is_absent(schedule) {
-        return None;
-    }
-    file_name(description)
-}
-
 // The operands of a command over the simulator of a description.
 fn simulator_command<'a>(command: &str, operands: &'a [String]) -> Option<Command<'a>>
     ensures found { IfSome result (λ c. Asks (command.now ∷ map string_bytes operands.now) (request_of c)) }
-    ensures only { (task : TheTask) (description : List ℕ) → Asks (command.now ∷ map string_bytes operands.now) (Simulate task description) → option_map request_of result ≡ Some (Simulate task description) }
+    ensures only { (task : TheTask) (names : TheNames) → Asks (command.now ∷ map string_bytes operands.now) (Simulate task names) → option_map request_of result ≡ Some (Simulate task names) }
 {
-    let [description, image, schedule, rest @ ..] = operands else {
+    let [main, image, schedule, rest @ ..] = operands else {
         return None;
     };
-    let description = lone_description(description.as_str(), image.as_str(), schedule.as_str())?;
+    let names = run_names(main.as_str(), image.as_str(), schedule.as_str())?;
     let task = simulator_task(command, rest)?;
-    Some(Command::Simulate { description, task })
+    Some(Command::Simulate { names, task })
 }
 
 // Whether the word is that of a command over the simulator of a description.

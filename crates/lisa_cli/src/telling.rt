@@ -6,7 +6,7 @@ ghost use Rattle.lisa_cli.specs.Says.{refusal_line, status_text, has_line};
 ghost use Rattle.lisa_cli.specs.Told.{IsTold};
 ghost use Rattle.lisa_outcomes.specs.declared.status.Status.TheVariants as statuses;
 
-use crate::fault_lines::{description_line, file_line, input_line, later_line};
+use crate::fault_lines::{description_line, file_line, input_line};
 use crate::lines::{Line, put_line};
 use crate::module_lines::{image_line, schedule_line, verilog_line};
 use lisa_io::{Failed, Sink, put_all};
@@ -26,7 +26,6 @@ fn refusal_line(refusal: &Refusal) -> Line<'_>
         Refusal::Verilog(fault) => verilog_line(fault),
         Refusal::Image(fault) => image_line(fault),
         Refusal::Schedule(fault) => schedule_line(fault),
-        Refusal::Later(fault) => later_line(fault),
     }
 }
 

@@ -13,8 +13,6 @@ use Rattle.lisa_outcomes.specs.declared.status.FileFault.{FileFault}
 use Rattle.lisa_outcomes.specs.declared.status.FileFault.TheVariants as file_faults
 use Rattle.lisa_outcomes.specs.declared.status.InputFault.{InputFault}
 use Rattle.lisa_outcomes.specs.declared.status.InputFault.TheVariants as input_faults
-use Rattle.lisa_outcomes.specs.declared.status.LaterFault.{LaterFault}
-use Rattle.lisa_outcomes.specs.declared.status.LaterFault.TheVariants as laters
 use Rattle.lisa_outcomes.specs.Refusals.{IsRefusal}
 
 same_file : (a b : FileFault) → refusals.File a ≡ refusals.File b → a ≡ b
@@ -28,7 +26,6 @@ file_refusal fault other = record {
   verilog = λ e. cc;
   image = λ e. cc;
   schedule = λ e. cc;
-  later = λ e. cc;
 }
 
 same_input : (a b : InputFault) → refusals.Input a ≡ refusals.Input b → a ≡ b
@@ -42,7 +39,6 @@ input_refusal fault other = record {
   verilog = λ e. cc;
   image = λ e. cc;
   schedule = λ e. cc;
-  later = λ e. cc;
 }
 
 same_description : (a b : DescFault) → refusals.Description a ≡ refusals.Description b → a ≡ b
@@ -56,7 +52,6 @@ description_refusal fault other = record {
   verilog = λ e. cc;
   image = λ e. cc;
   schedule = λ e. cc;
-  later = λ e. cc;
 }
 
 same_verilog : (a b : VerilogFault) → refusals.Verilog a ≡ refusals.Verilog b → a ≡ b
@@ -70,7 +65,6 @@ verilog_refusal fault other = record {
   verilog = λ e. other (same_verilog _ _ e);
   image = λ e. cc;
   schedule = λ e. cc;
-  later = λ e. cc;
 }
 
 same_image : (a b : ImageFault) → refusals.Image a ≡ refusals.Image b → a ≡ b
@@ -84,7 +78,6 @@ image_refusal fault other = record {
   verilog = λ e. cc;
   image = λ e. other (same_image _ _ e);
   schedule = λ e. cc;
-  later = λ e. cc;
 }
 
 same_schedule : (a b : ScheduleFault) → refusals.Schedule a ≡ refusals.Schedule b → a ≡ b
@@ -98,21 +91,6 @@ schedule_refusal fault other = record {
   verilog = λ e. cc;
   image = λ e. cc;
   schedule = λ e. other (same_schedule _ _ e);
-  later = λ e. cc;
-}
-
-same_later : (a b : LaterFault) → refusals.Later a ≡ refusals.Later b → a ≡ b
-same_later a b e = cc
-
-pub later_refusal : (fault : LaterFault) → fault ≢ laters.NoMemory → IsRefusal (refusals.Later fault)
-later_refusal fault other = record {
-  file = λ e. cc;
-  input = λ e. cc;
-  description = λ e. cc;
-  verilog = λ e. cc;
-  image = λ e. cc;
-  schedule = λ e. cc;
-  later = λ e. other (same_later _ _ e);
 }
 
 -- a file that is too long makes one

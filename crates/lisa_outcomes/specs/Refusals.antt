@@ -8,7 +8,6 @@ use Rattle.lisa_outcomes.specs.declared.status.Refusal.{Refusal}
 use Rattle.lisa_outcomes.specs.declared.status.Refusal.TheVariants as refusals
 use Rattle.lisa_outcomes.specs.declared.status.FileFault.TheVariants as file_faults
 use Rattle.lisa_outcomes.specs.declared.status.InputFault.TheVariants as input_faults
-use Rattle.lisa_outcomes.specs.declared.status.LaterFault.TheVariants as laters
 
 -- it is no want of memory, in whatever area
 pub record IsRefusal (refusal : Refusal) : Type 0 where
@@ -18,4 +17,3 @@ pub record IsRefusal (refusal : Refusal) : Type 0 where
   pub verilog : refusal ≢ refusals.Verilog verilogs.NoMemory
   pub image : refusal ≢ refusals.Image images.NoMemory
   pub schedule : refusal ≢ refusals.Schedule schedules.NoMemory
-  pub later : refusal ≢ refusals.Later laters.NoMemory

@@ -10,4 +10,4 @@ mod status;
 
 pub use loading::{NamedFile, load_files};
 pub use run_files::{RunBytes, RunNames, file_at, run_bytes};
-pub use status::{End, FileFault, InputFault, LaterFault, Refusal, Status};
+pub use status::{End, FileFault, InputFault, Refusal, Status};

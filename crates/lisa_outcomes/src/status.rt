@@ -24,15 +24,6 @@ pub enum InputFault {
     NoMemory,
 }
 
-/// What the program can't do yet.
-#[derive(Debug, PartialEq, Eq, Drop)]
-pub enum LaterFault {
-    /// 1: the description is read, and isn't of the form that this command takes today.
-    NotBuilt {},
-    /// Memory was wanted and not given.
-    NoMemory,
-}
-
 /// Why a run is refused, by area. A refusal never holds a fault's variant for want of memory.
 #[derive(Debug, Drop)]
 pub enum Refusal {
@@ -42,7 +33,6 @@ pub enum Refusal {
     Verilog(VerilogFault),
     Image(ImageFault),
     Schedule(ScheduleFault),
-    Later(LaterFault),
 }
 
 /// How a run ended. The program exits with 0 to 5, in this order.

@@ -1,4 +1,3 @@
 mod Modules
 mod Designed
-mod Clocked
 pub mod Stopped

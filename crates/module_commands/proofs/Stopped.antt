@@ -3,12 +3,13 @@ use Rattle.std.proofs.Common.{List, ℕ, Option}
 use Rattle.std.specs.Io.KnownBytes.{Keeps}
 use Rattle.lisa_outcomes.specs.RunFiles.{RunBytes}
 use Rattle.engine_commands.specs.Machines.{schedule_bytes}
-use Rattle.engine_commands.proofs.CutOff.{cut_under_kept}
+use Rattle.engine_commands.proofs.CutOff.{cut_made_kept}
+use Rattle.module_commands.specs.Designs.{clock_machine}
 use Rattle.module_commands.specs.Clocks.{IsCutClock}
 
 pub clock_kept : (bytes : RunBytes) (left rest before after sent : Option (List ℕ)) → Keeps after sent → IsCutClock bytes left rest before after → IsCutClock bytes left rest before sent
 clock_kept bytes left rest before after sent keeps run = record {
   design = run.design;
   spelled = run.spelled;
-  cut = record { machine = run.cut.machine; clock = run.cut.clock; cut = cut_under_kept run.cut.machine (schedule_bytes bytes.schedule) left rest before after sent keeps run.cut.cut };
+  cut = cut_made_kept (clock_machine run.design) run.design.memories (schedule_bytes bytes.schedule) left rest before after sent keeps run.cut;
 }

@@ -3,9 +3,9 @@ use Rattle.std.specs.Prelude.{ℕ, List, Option}
 use Rattle.lisa_outcomes.specs.Outcomes.{Outcome}
 use Rattle.lisa_outcomes.specs.RunFiles.{RunBytes}
 use Rattle.engine_commands.specs.declared.tasks.Task.{Task}
-use Rattle.engine_commands.specs.Machines.{Machine, schedule_bytes}
-use Rattle.engine_commands.specs.Tasks.{GivesUnder, IsCutUnder}
-use Rattle.module_commands.specs.Designs.{Design, IsDesign, IsClock, AfterClock}
+use Rattle.engine_commands.specs.Machines.{schedule_bytes}
+use Rattle.engine_commands.specs.Making.{GivesMade, IsCutMade}
+use Rattle.module_commands.specs.Designs.{Design, IsDesign, clock_machine, AfterDesign}
 
 -- the most bytes of a module
 abbrev pub module_limit : ℕ
@@ -13,16 +13,10 @@ module_limit = 134217728
 
 -- what a task gives over the clock of what the files spell
 abbrev pub GivesClock : Task → RunBytes → (input : List ℕ) → Outcome → Type 0
-GivesClock task bytes input = AfterClock bytes (λ machine. GivesUnder task machine (schedule_bytes bytes.schedule) input)
+GivesClock task bytes input = AfterDesign bytes (λ d. GivesMade task (clock_machine d) d.memories (schedule_bytes bytes.schedule) input)
 
--- the input failed over the clock of a design
-pub record IsCutDesign (d : Design) (schedule : List ℕ) (left rest before after : Option (List ℕ)) : Type 0 where
-  pub machine : Machine
-  pub clock : IsClock d machine
-  pub cut : IsCutUnder machine schedule left rest before after
-
--- over the clock of what the files spell
+-- the input failed over the clock of what the files spell
 pub record IsCutClock (bytes : RunBytes) (left rest before after : Option (List ℕ)) : Type 0 where
   pub design : Design
   pub spelled : IsDesign bytes design
-  pub cut : IsCutDesign design (schedule_bytes bytes.schedule) left rest before after
+  pub cut : IsCutMade (clock_machine design) design.memories (schedule_bytes bytes.schedule) left rest before after

@@ -1,4 +1,4 @@
--- The design that the code's parts stand for, and the machine that its clock stands for.
+-- The design that the code's parts stand for.
 use Rattle.verilog_text.specs.Trees.{module_tree}
 use Rattle.module_commands.specs.declared.parts.Parts.{Parts}
 use Rattle.module_commands.specs.Designs.{Design}

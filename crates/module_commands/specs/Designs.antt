@@ -1,7 +1,6 @@
 -- What a module's clock is made of.
-use Rattle.std.specs.Prelude.{ℕ, ◌≡◌, List, Option, None}
+use Rattle.std.specs.Prelude.{ℕ, ◌≡◌, List, Option}
 use Rattle.lisa_engine.specs.Memory.{Memory}
-use Rattle.lisa_engine.specs.Images.{missing_memory}
 use Rattle.lisa_object.specs.declared.parts.Stamped.{Stamped}
 use Rattle.verilog_text.specs.Trees.{ModuleTree}
 use Rattle.verilog_text.specs.Clocked.{regs, arrays, v_state}
@@ -11,7 +10,7 @@ use Rattle.lisa_outcomes.specs.declared.status.Refusal.{Refusal}
 use Rattle.lisa_outcomes.specs.declared.status.Refusal.TheVariants as refusals
 use Rattle.lisa_outcomes.specs.Outcomes.{Outcome, After}
 use Rattle.lisa_outcomes.specs.RunFiles.{RunBytes}
-use Rattle.engine_commands.specs.Images.{IsImageOf, IsNoImage, memories_of, IsMissing}
+use Rattle.engine_commands.specs.Images.{IsImageOf, IsNoImage, memories_of}
 use Rattle.engine_commands.specs.Machines.{Machine, machine_of}
 
 -- the fault of bytes that are no module
@@ -38,13 +37,6 @@ pub data IsNoDesign (bytes : RunBytes) : Refusal → Type 0 where
 abbrev pub clock_machine : Design → Machine
 clock_machine d = machine_of d.tree.inputs (regs d.tree.members) (arrays d.tree.members) (v_state d.tree d.memories)
 
--- each memory is an array of the module
-abbrev pub IsClock : Design → Machine → Type 0
-IsClock d machine = (missing_memory (arrays d.tree.members) d.memories ≡ None) × (machine ≡ clock_machine d)
-
-abbrev pub IsNoClock : Design → Refusal → Type 0
-IsNoClock d refusal = IsMissing (arrays d.tree.members) d.memories refusal
-
--- the outcome of a command that first makes the clock
-abbrev pub AfterClock : RunBytes → (Machine → Outcome → Type 0) → Outcome → Type 0
-AfterClock bytes Then = After (IsDesign bytes) (IsNoDesign bytes) (λ d. After (IsClock d) (IsNoClock d) Then)
+-- the outcome of a command that first reads the module and the image
+abbrev pub AfterDesign : RunBytes → (Design → Outcome → Type 0) → Outcome → Type 0
+AfterDesign bytes Then = After (IsDesign bytes) (IsNoDesign bytes) Then

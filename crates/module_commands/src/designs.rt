@@ -6,15 +6,12 @@ ghost use Rattle.lisa_outcomes.specs.Stages.{Finds};
 ghost use Rattle.verilog_text.specs.Trees.{module_tree};
 ghost use Rattle.verilog_text.specs.Clockable.{IsClockable};
 ghost use Rattle.verilog_text.specs.Faults.{VAccepts};
-ghost use Rattle.engine_commands.specs.Images.{memories_of};
 ghost use Rattle.module_commands.specs.Designs.{IsUnreadModule, IsDesign, IsNoDesign};
 ghost use Rattle.module_commands.specs.DesignViews.{design_of};
 ghost use Rattle.module_commands.specs.Unread.{unread_end};
 
 use crate::parts::Parts;
-use engine_commands::image_of;
-use lisa_engine::Image;
-use lisa_object::Stamped;
+use engine_commands::{image_of, memories};
 use lisa_outcomes::{End, Refusal, RunBytes};
 use std::alloc::Global;
 use verilog_reader::read_module;
@@ -39,18 +36,6 @@ fn module_of(alloc: Global, bytes: &[u8]) -> Result<Module, End>
     match read_module(alloc, bytes) {
         Ok(module) => Ok(module),
         Err(fault) => Err(unread(fault)),
-    }
-}
-
-// The memories of an image; one that is left out has none.
-fn memories(alloc: Global, image: Option<Stamped>) -> Image
-    ensures { result ≡ memories_of image }
-{
-    match image {
-        Some(stamped) => stamped.image,
-        None => Image {
-            memories: Vec::new(alloc),
-        },
     }
 }
 

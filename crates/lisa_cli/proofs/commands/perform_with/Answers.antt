@@ -9,7 +9,7 @@ pub returns-in-Check-clause-ends : goal.returns-in-Check-clause-ends
 returns-in-Check-clause-ends g c = rw c.in-Check.is (replies_end {T = Unit {0}} {W = List ℕ} _ _ _ _ _ _ _ _ (rw c.file_at-in-Check.ensures at c.check_description.ensures))
 
 pub returns-in-Simulate-clause-ends : goal.returns-in-Simulate-clause-ends
-returns-in-Simulate-clause-ends g c = rw c.in-Simulate.is (rw c.file_at-in-Simulate.ensures at c.do_with_description.ensures.ends)
+returns-in-Simulate-clause-ends g c = rw c.in-Simulate.is (rw c.run_bytes.ensures at c.do_with_description.ensures.ends)
 
 pub returns-in-Clock-clause-ends : goal.returns-in-Clock-clause-ends
-returns-in-Clock-clause-ends g c = rw c.in-Clock.is (rw c.run_bytes.ensures at c.do_with_module.ensures.ends)
+returns-in-Clock-clause-ends g c = rw c.in-Clock.is (rw c.run_bytes-in-Clock.ensures at c.do_with_module.ensures.ends)

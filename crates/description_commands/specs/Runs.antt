@@ -1,0 +1,50 @@
+-- What each task gives over a description with an image, under a schedule.
+use Rattle.std.specs.Prelude.{ℕ, List, Option}
+use Rattle.lisa_tree.specs.Descriptions.{DescriptionTree}
+use Rattle.lisa_tree.specs.Texts.{SpellsText}
+use Rattle.machine_parts.specs.Parts.{arrays_of, pins_of}
+use Rattle.description_sizes.specs.Sizes.{items}
+use Rattle.lisa_meaning.specs.States.{state_of}
+use Rattle.lisa_engine.specs.Memory.{Memory}
+use Rattle.lisa_outcomes.specs.Outcomes.{Outcome}
+use Rattle.lisa_outcomes.specs.RunFiles.{RunBytes}
+use Rattle.engine_commands.specs.declared.tasks.Task.{Task}
+use Rattle.engine_commands.specs.Machines.{Machine, machine_of, schedule_bytes}
+use Rattle.engine_commands.specs.Making.{GivesMade, IsCutMade}
+use Rattle.description_commands.specs.Descriptions.{AfterSpelling}
+use Rattle.description_commands.specs.Checked.{Checked, IsChecked, AfterChecks}
+use Rattle.description_commands.specs.DescriptionImages.{IsImageFor, AfterImage}
+
+-- its machine: the states that the description means, with the image's cells first
+abbrev pub described_machine : Checked → List Memory → Machine
+described_machine c memories = machine_of (pins_of c.tree) (items c.tree c.width) (arrays_of c.tree) (state_of c.tree memories)
+
+-- ---- the task
+
+-- over the machine of a description that is checked
+abbrev pub GivesChecked : Task → RunBytes → (input : List ℕ) → Checked → Outcome → Type 0
+GivesChecked task bytes input c =
+    AfterImage c.tree bytes.image (λ memories. GivesMade task (described_machine c memories) memories (schedule_bytes bytes.schedule) input)
+
+-- over what the files of a run spell: the description is read and checked first, then its image, and then the schedule
+abbrev pub GivesRun : Task → RunBytes → (input : List ℕ) → Outcome → Type 0
+GivesRun task bytes input = AfterSpelling bytes.main (λ d. AfterChecks d (GivesChecked task bytes input))
+
+-- ---- the input failed in a session
+
+-- over the machine of a description that is checked
+pub record IsCutChecked (c : Checked) (bytes : RunBytes) (left rest before after : Option (List ℕ)) : Type 0 where
+  pub memories : List Memory
+  pub image : IsImageFor c.tree bytes.image memories
+  pub cut : IsCutMade (described_machine c memories) memories (schedule_bytes bytes.schedule) left rest before after
+
+pub record IsCutTree (d : DescriptionTree) (bytes : RunBytes) (left rest before after : Option (List ℕ)) : Type 0 where
+  pub checked : Checked
+  pub is : IsChecked d checked
+  pub cut : IsCutChecked checked bytes left rest before after
+
+-- over what the files of a run spell
+pub record IsCutRun (bytes : RunBytes) (left rest before after : Option (List ℕ)) : Type 0 where
+  pub tree : DescriptionTree
+  pub spelled : SpellsText bytes.main tree
+  pub cut : IsCutTree tree bytes left rest before after

@@ -1,0 +1,61 @@
+-- Making an engine as a step of a command.
+use Rattle.std.proofs.Common.{◌≡◌, ◌∙◌, sym, refl, subst, List, [], ℕ, Option, Some, None, Result, Ok, Err, IfOk, OnOk}
+use Rattle.lisa_engine.specs.Memory.{Memory}
+use Rattle.lisa_engine.specs.Images.{missing_memory}
+use Rattle.lisa_engine.specs.State.{State}
+use Rattle.lisa_engine.specs.declared.parts.Item.{Item}
+use Rattle.lisa_engine.specs.declared.parts.ArrayItem.{ArrayItem}
+use Rattle.lisa_engine.specs.declared.image.MakeFault.{MakeFault}
+use Rattle.lisa_engine.specs.declared.image.MakeFault.TheVariants as makes
+use Rattle.lisa_object.specs.declared.faults.ImageFault.TheVariants as images
+use Rattle.lisa_outcomes.specs.declared.status.Refusal.TheVariants as refusals
+use Rattle.lisa_outcomes.specs.Stages.{Finds}
+use Rattle.lisa_outcomes.proofs.Finding.{found_ok, found_memory, found_refused}
+use Rattle.lisa_outcomes.proofs.Refusals.{image_refusal}
+use Rattle.lisa_outcomes.proofs.Told.{none_is_no_some}
+use Rattle.engine_commands.specs.Images.{IsMissing}
+use Rattle.engine_commands.specs.Machines.{Machine, machine_of}
+use Rattle.engine_commands.specs.Making.{IsMade, IsCutMade, Makes}
+use Rattle.engine_commands.specs.Tasks.{IsCutUnder}
+use Rattle.engine_commands.specs.Unread.{unmade_end}
+
+pub made_finds : {E : Type 0} (view : E → Machine) (wanted : Machine) (memories : List Memory) (e : E) → Makes view wanted memories (Ok e)
+    → Finds view (IsMade wanted memories) (IsMissing wanted.arrays memories) (Ok e)
+made_finds view wanted memories e makes = found_ok view (IsMade wanted memories) (IsMissing wanted.arrays memories) e (makes.found, makes.is)
+    (λ m is. makes.is ∙ sym is.1) (λ refusal wrong. none_is_no_some _ (sym makes.found ∙ wrong.1))
+
+pub unmade_finds : {E : Type 0} (view : E → Machine) (wanted : Machine) (memories : List Memory) (fault : MakeFault) → Makes view wanted memories (Err fault)
+    → Finds view (IsMade wanted memories) (IsMissing wanted.arrays memories) (Err (unmade_end fault))
+unmade_finds view wanted memories (makes.NoSuchMemory name) made = found_refused view (IsMade wanted memories) (IsMissing wanted.arrays memories) (refusals.Image (images.NoSuchMemory name))
+    (image_refusal (images.NoSuchMemory name) (λ e. cc)) (name, made.missing name refl, refl) (λ m is. none_is_no_some _ (sym is.0 ∙ made.missing name refl))
+unmade_finds view wanted memories makes.NoMemory made = found_memory view (IsMade wanted memories) (IsMissing wanted.arrays memories)
+
+-- a session over the engine that was made is one over the machine that is wanted
+pub cut_wanted : {E : Type 0} (view : E → Machine) (wanted : Machine) (memories : List Memory) (e : E) (schedule : List ℕ) (left rest before after : Option (List ℕ)) → Makes view wanted memories (Ok e)
+    → IsCutUnder (view e) schedule left rest before after → IsCutMade wanted memories schedule left rest before after
+cut_wanted view wanted memories e schedule left rest before after makes cut = record {
+  found = makes.found;
+  cut = subst (λ (m : Machine). IsCutUnder m schedule left rest before after) makes.is cut;
+}
+
+-- ---- from what making an engine answers
+
+module _ {E : Type 0} (pins items : E → List Item) (arrays : E → List ArrayItem) (defined : E → List (List ℕ) → State) (wanted : Machine) (memories : List Memory) where
+  pub parts_make : (made : Result E MakeFault) → IfOk made (λ e. pins e ≡ wanted.pins) → IfOk made (λ e. items e ≡ wanted.items) → IfOk made (λ e. arrays e ≡ wanted.arrays)
+      → IfOk made (λ e. defined e ≡ wanted.defined) → OnOk made (missing_memory wanted.arrays memories ≡ None)
+      → ((name : List ℕ) → made ≡ Err (makes.NoSuchMemory name) → missing_memory wanted.arrays memories ≡ Some name)
+      → Makes (λ e. machine_of (pins e) (items e) (arrays e) (defined e)) wanted memories made
+  parts_make (Ok e) pins_are items_are arrays_are defined_are found missing =
+      record { is = λ i. machine_of (pins_are i) (items_are i) (arrays_are i) (defined_are i); found = found; missing = missing }
+  parts_make (Err fault) pins_are items_are arrays_are defined_are found missing = record { is = tt; found = tt; missing = missing }
+
+-- what holds of an engine leads to what else holds of it
+pub made_so : {E : Type 0} (P Q : E → Type 0) (made : Result E MakeFault) → ((e : E) → P e → Q e) → IfOk made P → IfOk made Q
+made_so P Q (Ok e) to p = to e p
+made_so P Q (Err fault) to p = tt
+
+-- an engine stands at its first state
+pub made_first : {E : Type 0} (present : E → State) (defined : E → List (List ℕ) → State) (wanted : List (List ℕ) → State) (made : Result E MakeFault)
+    → IfOk made (λ e. present e ≡ wanted []) → IfOk made (λ e. defined e ≡ wanted) → IfOk made (λ e. present e ≡ defined e [])
+made_first present defined wanted (Ok e) first defines = first ∙ sym (λ i. defines i [])
+made_first present defined wanted (Err fault) first defines = tt
