@@ -1,0 +1,17 @@
+pub mod Typed
+pub mod Scoped
+pub mod Locals
+pub mod Formed
+pub mod Children
+pub mod Fields
+pub mod Reading
+pub mod Stepping
+pub mod Placing
+pub mod Cutting
+pub mod Standing
+pub mod Occurring
+pub mod Meant
+pub mod Wide
+pub mod Fitted
+pub mod Kept
+pub mod RootWords

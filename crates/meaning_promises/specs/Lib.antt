@@ -1,0 +1,6 @@
+pub mod Typing
+pub mod Scoping
+pub mod Forms
+pub mod Running
+pub mod Spots
+pub mod Fitting
