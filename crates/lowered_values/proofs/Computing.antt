@@ -54,11 +54,11 @@ module _ (p : Program) (before pins : List ℕ) (now : Moment) where
           bad is f = let g : nat_lt to v.width ≡ false = le-ltb to v.width (omega (arith, is)) in cc
       go true false e f =
           let is : to ≡ v.width = eqb-true to v.width e in
-          h.bits ∙ sym (ap (λ (w : ℕ). word_widen v.kind v.width v.bits w) is ∙ reduced-meant v.kind v.width v.bits h.low)
+          h.bits ∙ sym (ap (λ (w : ℕ). word_widen v.kind v.width v.bits w) is ∙ reduced-meant v.kind v.width v.bits h.fits.within)
       go false true e f = ap (word_cut to) h.bits
       go false false e f =
           let wider : v.width ≤ to = ⊎_elim (λ l. absurd (less_not l f)) (λ ge. ge) (cases_lt to v.width) in
-          widened_value v.kind v.width to v.bits x.at h.some wider h.wide h.bits h.low
+          widened_value v.kind v.width to v.bits x.at h.fits.least wider h.wide h.bits h.fits.within
         where
           less_not : to < v.width → nat_lt to v.width ≡ false → ⊥
           less_not l f = let g : nat_lt to v.width ≡ true = lt-ltb to v.width l in cc

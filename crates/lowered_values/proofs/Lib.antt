@@ -1,2 +1,5 @@
-mod Signed
-mod Computing
+pub mod Signed
+pub mod Computing
+pub mod Operating
+pub mod Forming
+pub mod Lowering

@@ -1,2 +1,5 @@
 pub mod Operands
 pub mod Templates
+pub mod Sources
+pub mod Computed
+pub mod Laws

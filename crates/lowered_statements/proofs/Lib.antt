@@ -1,0 +1,4 @@
+pub mod Scoped
+pub mod Idle
+pub mod Does
+pub mod Forms

@@ -1,0 +1,5 @@
+pub mod Pieces
+pub mod Building
+pub mod Lowering
+pub mod Laws
+pub mod Forming

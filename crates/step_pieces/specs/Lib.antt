@@ -1,0 +1,4 @@
+pub mod Pieces
+pub mod Running
+pub mod Formed
+pub mod Laws
