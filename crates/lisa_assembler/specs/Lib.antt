@@ -2,3 +2,10 @@ pub mod Memories
 pub mod Sources
 pub mod Objects
 pub mod Faults
+pub mod Places
+pub mod Fields
+pub mod Fixes
+pub mod Seen
+pub mod Cells
+pub mod Steps
+pub mod Tooling
