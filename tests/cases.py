@@ -3,8 +3,8 @@
 
     cases.py PROGRAM [KIND ..]
 
-cases/KIND.jsonl has one case a line: its runs one after the other, each with files, words, input, status, out and err, whose bytes stand as
-characters of the same numbers. The answers were worked out apart from the program, which must give each of them. Where a rule leaves the
+cases/KIND.jsonl has one case a line: its runs one after the other, each with words, input, status, out and err, whose bytes stand as
+characters of the same numbers, and the files that it has besides those of the runs before it. The answers were worked out apart from the program, which must give each of them. Where a rule leaves the
 place or the text of a refusal open, any is taken. It ends with 1 where a case differs."""
 
 import json
@@ -17,7 +17,7 @@ import tempfile
 HERE = os.path.join(os.path.dirname(os.path.abspath(__file__)), "cases")
 # what a line of a refusal may have otherwise
 OPEN = [(re.compile(rb"(description 5 NotADescription|verilog 3 NotInSubset) at=\d+"), rb"\1 at="),
-        (re.compile(rb"(description 25 Ambiguous .*) text=.*"), rb"\1 text=")]
+        (re.compile(rb"(image 1 NotAnImage) line=\d+"), rb"\1 line="), (re.compile(rb"(description 25 Ambiguous .*) text=.*"), rb"\1 text=")]
 SHOWN = 3
 
 

@@ -24,7 +24,7 @@ SHOWN = 10
 SORTS = [("allocation", 5, b"lisa: out of memory\n"), ("read", 3, b"lisa: read fault\n"), ("write", 4, None)]
 
 NIL = "0" * 64
-THIN = "RESOURCE { REGISTER uint8 n; }\nOPERATION reset { BEHAVIOR { n = 5; } }\nOPERATION main { BEHAVIOR { n = n + 1; } }\n"
+COUNTER = "RESOURCE { REGISTER uint8 n; }\nOPERATION reset { BEHAVIOR { n = 5; } }\nOPERATION main { BEHAVIOR { n = n + 1; } }\n"
 MODULE = """module t (input clk, input [3:0] step);
   reg [7:0] n;
   reg [7:0] m [0:3];
@@ -44,14 +44,15 @@ def example(name):
 # the words, the input, and the status; words of other commands join here
 COMMANDS = [
     ("", "", 2), ("runs A - - 3", "", 2), ("fmt G", "", 3), ("fmt A", "", 0), ("fmt C", "", 0), ("fmt X", "", 1), ("check A", "", 0),
-    ("check C", "", 0), ("check F", "", 1), ("run A - - 3", "", 0), ("trace A - - 3", "", 0), ("debug A - -", LINES, 0),
+    ("check C", "", 0), ("check F", "", 1), ("run A - - 3", "", 0), ("run A I - 3", "", 1), ("run A - K 3", "", 1), ("run F - - 3", "", 1), ("run C - - 3", "", 0), ("trace A - - 3", "", 0),
+    ("trace E - S 3", "", 0), ("debug A - -", LINES, 0), ("debug C - -", LINES, 0),
     ("clock V I H 3", "", 0), ("clock V - K 3", "", 1), ("clocktrace V I H 3", "", 0), ("vdebug V I H", LINES, 0),
 ]
 
 
 def write_files(folder):
-    files = {"A": THIN, "C": example("c.lisa"), "F": example("f.lisa"), "X": THIN[:-3], "V": MODULE, "I": IMAGE, "H": "1 step=3\n2 step=1\n",
-             "K": "1 stop=1\n"}
+    files = {"A": COUNTER, "C": example("c.lisa"), "E": example("e.lisa"), "F": example("f.lisa"), "X": COUNTER[:-3], "V": MODULE, "I": IMAGE, "H": "1 step=3\n2 step=1\n",
+             "K": "1 stop=1\n", "S": "2 hold=1 kill=1\n3 hold=0 kill=0\n"}
     for name, text in files.items():
         with open(os.path.join(folder, name), "w", encoding="latin-1") as file:
             file.write(text)

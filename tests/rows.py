@@ -8,6 +8,7 @@ rows.py --list             the rows' names
 Each row runs the program in a fresh folder with the row's files. A row's steps run one after the other; what a step
 prints may be saved as a file for the next ones."""
 
+import hashlib
 import os
 import re
 import subprocess
@@ -50,6 +51,11 @@ def row(name, files, *steps):
     ROWS.append((name, files, steps))
 
 
+def digest(description):
+    """The digest of a description: of its canonical text, which the program prints; it stands where the program is known."""
+    return f"<digest of {description.encode('latin-1').hex()}>"
+
+
 A = example("a.lisa")
 SAMPLES = {name: example(name) for name in ("a.lisa", "b.lisa", "c.lisa", "d.lisa", "e.lisa", "f.lisa")}
 USAGE = "usage: lisa check|fmt|verilog|run|trace|clock|clocktrace|asm|link|dis|debug|vdebug|gen|soak ..\n"
@@ -69,8 +75,9 @@ row("counter after 3 edges", {"A": A}, step("run A - - 3", lines("edge 3", "n 0x
 row("counter after no edge", {"A": A}, step("run A - - 0", lines("edge 0", "n 0x5")))
 row("counter past its width", {"A": A}, step("run A - - 257", lines("edge 257", "n 0x6")))
 row("run of a missing file", {}, step("run G - - 3", err="lisa: read fault\n", status=3))
-row("run of a description that isn't built yet", {"A": swap(A, ("n + 1", "n * 2"))},
-    step("run A - - 3", err="lisa: later 1 NotBuilt\n"))
+row("run of a product", {"A": swap(A, ("n + 1", "n * 2"))}, step("run A - - 3", lines("edge 3", "n 0x28")))
+row("run below 0", {"A": swap(A, ("uint8", "uint64"), ("n = 5;", "n = 0;"), ("n + 1", "n - 1"))},
+    step("run A - - 1", lines("edge 1", "n 0xffffffffffffffff")))
 row("run of a file over its limit", {"A": A + " " * (1048577 - len(A))},
     step("run A - - 3", err="lisa: file 1 TooLong name=A\n"))
 row("run of a file at its limit", {"A": A + " " * (1048576 - len(A))},
@@ -361,19 +368,19 @@ for number, words in enumerate(["clocktrace V - - 10001", "clock V - - 1000001",
                                 "vdebug V -", "clock V - - 01"]):
     row(f"words of a module's commands {number + 1}", {"V": V}, step(words, err=USAGE, status=2))
 
-row("trace of a thin description", {"A": A}, step("trace A - - 2", lines("edge 0", "n 0x5", "edge 1", "n 0x6", "edge 2", "n 0x7")))
+row("trace of a counter", {"A": A}, step("trace A - - 2", lines("edge 0", "n 0x5", "edge 1", "n 0x6", "edge 2", "n 0x7")))
 row("too many edges of a trace", {"A": A}, step("trace A - - 10001", err=USAGE, status=2))
 row("debug", {"A": A}, step(
     "debug A - -",
     lines("edge 5", "n 0xa", "edge 3", "edge 4 met", "edge 6 not met", "refused 2 UnknownName", "refused 4 NoEarlierEdge"),
     input=lines("step 5", "show n", "back 2", "until n 0x9 10", "until n 0x0 2", "show zz", "back 9", "quit")))
-row("debug of what isn't thin", {"C": SAMPLES["c.lisa"]}, step("debug C - -", err="lisa: later 1 NotBuilt\n", input="where\n"))
-row("debug with an image", {"A": A}, step("debug A I -", err=USAGE, status=2))
+row("debug of what is refused takes no input", {"X": swap(A, ("n + 1", "m"))},
+    step("debug X - -", err="lisa: description 7 Unknown operation=main name=m\n", input="where\n"))
 row("debug without quit and a last line feed", {"A": A}, step("debug A - -", lines("edge 1", "edge 1"), input="step 1\nwhere"))
 row("debug without lines", {"A": A}, step("debug A - -"))
 row("debug of no description", {"A": "@"}, step("debug A - -", err="lisa: description 1 BadByte at=0\n", input="where\n"))
 row("debug of a missing file", {}, step("debug G - -", err="lisa: read fault\n", status=3, input="where\n"))
-for number, words in enumerate(["debug A - - 1", "debug A -", "debug - - -", "debug A - A", "trace A - -"]):
+for number, words in enumerate(["debug A - - 1", "debug A -", "debug - - -", "trace A - -", "run A - 1", "run A - - -1"]):
     row(f"words of trace and debug {number + 1}", {"A": A}, step(words, err=USAGE, status=2, input="where\n"))
 row("vdebug", {"V": V}, step("vdebug V - -", lines("edge 1", "s 0x12c"), input=lines("step 1", "show s")))
 row("vdebug back and on again", {"W": MEMORY, "I": IMAGE, "H": "1 step=5\n"}, step(
@@ -413,6 +420,120 @@ for number, (input, told) in enumerate([
         ("show " + "z" * 251, "refused 2 UnknownName\n"), ("show " + "z" * 251 + "\r", "refused 2 UnknownName\n"),
         ("show " + "z" * 251 + "\rz\n", "refused 1 BadCommand\n")]):
     row(f"answers of a session {number + 1}", {"W": COUNTED, "H": "1 in=7\n"}, step("vdebug W - H", told, input=input))
+
+# ---------------------------------------------------------------- descriptions that run
+
+B, C, D, E = (SAMPLES[name] for name in ("b.lisa", "c.lisa", "d.lisa", "e.lisa"))
+
+
+def slashed(text):
+    """Line ends for the slashes; § stands for a slash that is one."""
+    return text.replace("/", "\n").replace("§", "/")
+
+
+def with_image(name, files, words, out="", err=""):
+    """A row whose files and refusals may have {DIGEST}, the digest of the description D, or {DIGEST:F}, that of the file F."""
+    def filled(text):
+        return re.sub(r"\{DIGEST(?::(\w+))?\}", lambda found: digest(files[found[1] or "D"]), text)
+    row(name, {key: filled(text) for key, text in files.items()}, step(words, out, filled(err) if isinstance(err, str) else err))
+
+
+row("run of sums that widen", {"B": B}, step("run B - - 1", slashed("edge 1/a 0xc8/b 0x1/c 0xffc9/d 0x0/")))
+row("run of what narrows", {"B": swap(B, ("c = a + b; d = a < b;", "a = b;"))},
+    step("run B - - 1", err="lisa: description 11 Narrowing operation=main from=16 to=8\n"))
+for number, (loop, out, err) in enumerate([
+        ("while (n) n = n + 1;", "", "lisa: description 12 LoopWithoutBound operation=main\n"),
+        ("for (uint8 i = 0; i < 256; i = i + 1) n = n + 1;", slashed("edge 1/n 0x5/"), ""),
+        ("for (uint16 i = 0; i < 257; i = i + 1) n = n + 1;", "", "lisa: description 13 LoopTooLong operation=main turns=257\n")]):
+    row(f"run of a loop {number + 1}", {"A": swap(A, ("n = n + 1;", loop))}, step("run A - - 1", out, err))
+I7 = slashed("image 1 {DIGEST}/memory prog 8 16 1/67/end/")
+ROW7 = slashed("edge 0/pc 0x0/FE§DC.ir 0x0/DC§EX.ir 0x0/EX.word 0x0/DC.decode.2 0x0/EX.addi.3 0x0/EX.nop.4 0x0/EX.br.5 0x0/prog[0] 0x67/"
+               "edge 1/pc 0x1/FE§DC.ir 0x67/DC.decode.2 0x1/edge 2/pc 0x2/FE§DC.ir 0x0/DC§EX.ir 0x67/EX.word 0x67/EX.addi.3 0x1/"
+               "edge 3/pc 0x3/DC§EX.ir 0x0/EX.word 0x0/EX.addi.3 0x0/EX.nop.4 0x1/R[1] 0x7/")
+with_image("trace of an instruction", {"D": C, "I": I7}, "trace D I - 3", ROW7)
+row("trace of two stages", {"D": D}, step(
+    "trace D - - 2", slashed("edge 0/x 0x0/B.b.2 0x0/edge 1/x 0xa/B.b.2 0x1/M[0] 0x2/edge 2/x 0xd/M[0] 0x5/")))
+ROW9 = [slashed(text) for text in (
+    "edge 0/t 0x0/last 0x0/A§B.v 0x0/B§C.v 0x0/B.b.2 0x0/C.c.3 0x0/", "edge 1/t 0x1/A§B.v 0x1/B.b.2 0x1/",
+    "edge 2/t 0x2/A§B.v 0x2/B§C.v 0x1/C.c.3 0x1/", "edge 3/last 0x1/B§C.v 0x0/C.c.3 0x0/", "edge 4/t 0x3/A§B.v 0x3/B§C.v 0x2/C.c.3 0x1/")]
+row("trace of a stall", {"E": E}, step("trace E - - 4", "".join(ROW9)))
+row("trace of a stage that is held and flushed", {"E": E, "H": slashed("2 hold=1 kill=1/3 hold=0 kill=0/")}, step(
+    "trace E - H 3", "".join(ROW9[:2]) + slashed("edge 2/B.b.2 0x0/edge 3/t 0x2/A§B.v 0x2/B§C.v 0x1/B.b.2 0x1/")))
+row("trace of an interrupt", {"E": E, "H": slashed("3 irq=1/4 irq=0/")}, step(
+    "trace E - H 4", "".join(ROW9[:3]) + slashed("edge 3/t 0x8/last 0x1/A§B.v 0x0/B§C.v 0x0/B.b.2 0x0/C.c.3 0x0/edge 4/t 0x9/A§B.v 0x9/B.b.2 0x1/")))
+with_image("trace of a branch", {"D": C, "I": slashed("image 1 {DIGEST}/memory prog 8 16 1/82/end/")}, "trace D I - 4", slashed(
+    "edge 0/pc 0x0/FE§DC.ir 0x0/DC§EX.ir 0x0/EX.word 0x0/DC.decode.2 0x0/EX.addi.3 0x0/EX.nop.4 0x0/EX.br.5 0x0/prog[0] 0x82/"
+    "edge 1/pc 0x1/FE§DC.ir 0x82/DC.decode.2 0x1/edge 2/pc 0x2/FE§DC.ir 0x0/DC§EX.ir 0x82/EX.word 0x82/EX.br.5 0x1/"
+    "edge 3/pc 0x4/DC§EX.ir 0x0/EX.word 0x0/DC.decode.2 0x0/EX.br.5 0x0/edge 4/pc 0x5/DC.decode.2 0x1/"))
+with_image("trace of a branch behind an instruction", {"D": C, "I": slashed("image 1 {DIGEST}/memory prog 8 16 2/67/82/end/")}, "trace D I - 4",
+           re.compile("(?s).*" + re.escape(slashed("edge 3/pc 0x3/FE§DC.ir 0x0/DC§EX.ir 0x82/EX.word 0x82/EX.addi.3 0x0/EX.br.5 0x1/R[1] 0x7/"
+                                                   "edge 4/pc 0x5/DC§EX.ir 0x0/EX.word 0x0/DC.decode.2 0x0/EX.br.5 0x0/"))))
+K = """RESOURCE { REGISTER uint4 pc; REGISTER uint4 acc; PIPELINE p = { D; X; W }; }
+OPERATION main { DECLARE { INSTANCE root; } ACTIVATION { root } }
+OPERATION root IN p.D { DECLARE { GROUP g = { add }; }
+  CODING { pc == g } BEHAVIOR { pc = pc + 1; } ACTIVATION { g } }
+OPERATION add IN p.W { DECLARE { LABEL n; } CODING { n=0bx[4] }
+  SYNTAX { "ADD" n=#U } BEHAVIOR { acc = acc + n; } }
+"""
+row("trace of words that move two stages", {"K": K}, step("trace K - - 4", slashed(
+    "edge 0/pc 0x0/acc 0x0/X.word 0x0/W.word 0x0/X.add.2 0x0/W.add.2 0x0/edge 1/pc 0x1/X.add.2 0x1/edge 2/pc 0x2/X.word 0x1/W.add.2 0x1/"
+    "edge 3/pc 0x3/X.word 0x2/W.word 0x1/edge 4/pc 0x4/acc 0x1/X.word 0x3/W.word 0x2/")))
+G = """RESOURCE { REGISTER uint4 ir; REGISTER uint4 x; }
+OPERATION main { DECLARE { INSTANCE decode; } ACTIVATION { decode } }
+OPERATION decode { DECLARE { GROUP i = { p || q }; }
+  CODING { ir == i } BEHAVIOR { ir = ir + 1; } ACTIVATION { i } }
+OPERATION p { DECLARE { LABEL n; } CODING { 0b0 n=0bx[3] } SYNTAX { "P" n=#U } BEHAVIOR { x = x + n; } }
+OPERATION q { CODING { 0b1111 } SYNTAX { "Q" } BEHAVIOR { x = 0; } }
+"""
+row("run of instructions without a pipeline", {"G": G}, step("run G - - 8", slashed("edge 8/ir 0x8/x 0xc/")),
+    step("run G - - 15", slashed("edge 15/ir 0xf/x 0xc/")), step("run G - - 16", slashed("edge 16/ir 0x0/x 0x0/")))
+S = """RESOURCE { REGISTER uint8 s; REGISTER uint2 i; PIN uint4 step; MEMORY uint8 m[4]; }
+OPERATION main { BEHAVIOR { s = s + m[i]; m[i] = s; i = i + 1; if (step != 0) s = s + step; } }
+"""
+IS = slashed("image 1 {DIGEST}/memory m 8 4 3/1/2/3/end/")
+HS = slashed("2 step=3/3 step=0/")
+with_image("trace with an image and a schedule", {"D": S, "I": IS, "H": HS}, "trace D I H 4", slashed(
+    "edge 0/s 0x0/i 0x0/m[0] 0x1/m[1] 0x2/m[2] 0x3/edge 1/s 0x1/i 0x1/edge 2/s 0x6/i 0x2/m[1] 0x3/edge 3/s 0x9/i 0x3/m[2] 0x9/edge 4/i 0x0/m[3] 0x9/"))
+with_image("trace with a memory that is deeper", {"D": S, "I": slashed("image 1 {DIGEST}/memory m 8 8 3/1/2/3/end/"), "H": HS}, "trace D I H 4",
+           err="lisa: image 3 NoSuchMemory name=m\n")
+with_image("trace with another pin", {"D": S, "I": IS, "H": "1 stop=1\n"}, "trace D I H 4", err="lisa: schedule 2 UnknownPin line=1 name=stop\n")
+with_image("run with the image of another description", {"D": A, "C": C, "I": slashed("image 1 {DIGEST:C}/memory prog 8 16 1/67/end/")}, "run D I - 1",
+           err="lisa: image 2 OtherDescription kept={DIGEST:C} expected={DIGEST}\n")
+with_image("run with too many cells", {"D": C, "I": slashed("image 1 {DIGEST}/memory prog 8 16 17/" + "1/" * 17 + "end/")}, "run D I - 1",
+           err=up_to("lisa: image 1 NotAnImage line=", 21))
+for number, (text, fault) in enumerate([
+        ("5 irq=2/", "4 PinRange line=1 name=irq value=2"), ("1 irq=1/1 irq=0/", "3 NotRising line=2"), ("0 irq=1/", "3 NotRising line=1"),
+        ("1  irq=1/", "1 BadLine line=1")]):
+    row(f"run with a bad schedule {number + 1}", {"E": E, "H": slashed(text)}, step("run E - H 1", err=f"lisa: schedule {fault}\n"))
+WRONG = {"D": "@", "I": "x\n", "H": "x\n"}
+row("a description is read first", WRONG, step("run D I H 1", err="lisa: description 1 BadByte at=0\n"))
+row("then it is checked", dict(WRONG, D=swap(C, ("0b00 0bx[6]", "0b01100111"))),
+    step("run D I H 1", err="lisa: description 24 Overlap first=addi(reg) second=nop word=0x67\n"))
+row("then its texts", dict(WRONG, D=SAMPLES["f.lisa"]), step("run D I H 1", err='lisa: description 25 Ambiguous first=p second=q text="R1"\n'))
+row("then its image", dict(WRONG, D=C), step("run D I H 1", err=up_to("lisa: image 1 NotAnImage line=", 2)))
+with_image("then the digest", dict(WRONG, D=A, C=C, I=IS.replace("DIGEST", "DIGEST:C")), "run D I H 1",
+           err="lisa: image 2 OtherDescription kept={DIGEST:C} expected={DIGEST}\n")
+with_image("then the memories", dict(WRONG, D=A, I=IS), "run D I H 1", err="lisa: image 3 NoSuchMemory name=m\n")
+with_image("then its schedule", dict(WRONG, D=S, I=IS), "run D I H 1", err="lisa: schedule 1 BadLine line=1\n")
+row("an image that isn't there", {"A": A}, step("run A I - 1", err="lisa: read fault\n", status=3))
+row("debug of two stages", {"D": D}, step("debug D - -", slashed("edge 2/edge 1/M[0] 0x2/"), input=slashed("step 2/back 1/cell M 0/")))
+row("debug of a stall", {"E": E}, step("debug E - -", slashed("edge 3/edge 2/edge 4/t 0x3/"), input=slashed("step 3/back 1/step 2/show t/")))
+CLOCKED = """RESOURCE { CLOCKED REGISTER uint8 a; CLOCKED REGISTER uint8 b; }
+OPERATION reset { BEHAVIOR { a = 1; b = 2; } }
+OPERATION main { BEHAVIOR { a = b; b = a; } }
+"""
+row("run of clocked registers", {"X": CLOCKED}, step("run X - - 1", slashed("edge 1/a 0x2/b 0x1/")), step("run X - - 2", slashed("edge 2/a 0x1/b 0x2/")))
+row("run of a clocked register that is assigned twice", {"X": swap(CLOCKED, ("a = b; b = a;", "a = a + 1; a = a + 1;"))},
+    step("run X - - 3", slashed("edge 3/a 0x4/b 0x2/")))
+row("trace of a clocked register", {"D": swap(D, ("REGISTER uint8 x;", "CLOCKED REGISTER uint8 x;"))},
+    step("trace D - - 2", slashed("edge 0/x 0x0/B.b.2 0x0/edge 1/x 0xa/B.b.2 0x1/M[0] 0x2/edge 2/x 0x14/M[0] 0xc/")))
+row("run of a value that is read again", {"X": """RESOURCE { REGISTER uint8 a; REGISTER uint8 b; }
+OPERATION reset { BEHAVIOR { a = 1; } }
+OPERATION main { BEHAVIOR { a = a + b; b = a - 1; a = a + 2; } }
+"""}, step("run X - - 3", slashed("edge 3/a 0x9/b 0x6/")))
+row("run of 126 signs", {"A": swap(A, ("n = n + 1;", "n = " + "~" * 126 + "n;"))}, step("run A - - 1", slashed("edge 1/n 0x5/")))
+row("run of a name of 64 bytes", {"A": A.replace("uint8 n;", f"uint8 {LONG_NAME};").replace("n = 5", f"{LONG_NAME} = 5").replace("n = n + 1", f"{LONG_NAME} = {LONG_NAME} + 1")},
+    step("run A - - 1", f"edge 1\n{LONG_NAME} 0x6\n"))
 
 # ---------------------------------------------------------------- checks of descriptions
 
@@ -491,8 +612,21 @@ row("check of too long a file", {"A": A + " " * 1048576}, step("check A", err="l
 # ---------------------------------------------------------------- running
 
 
+def canonical_digest(program, description):
+    """The digest of the canonical text, as `fmt` prints it."""
+    with tempfile.TemporaryDirectory() as folder:
+        with open(os.path.join(folder, "D"), "wb") as file:
+            file.write(description)
+        text = subprocess.run([program, "fmt", "D"], cwd=folder, capture_output=True, timeout=600).stdout
+    return hashlib.sha256(text).hexdigest()
+
+
+def with_digests(program, text):
+    return re.sub("<digest of ([0-9a-f]*)>", lambda found: canonical_digest(program, bytes.fromhex(found[1])), text)
+
+
 def run_row(program, files, steps):
-    held = {name: text.encode("latin-1") for name, text in files.items()}
+    held = {name: with_digests(program, text).encode("latin-1") for name, text in files.items()}
     for number, one in enumerate(steps):
         with tempfile.TemporaryDirectory() as folder:
             for name, data in held.items():
@@ -504,6 +638,7 @@ def run_row(program, files, steps):
             held[one["save"]] = done.stdout
         got = [done.returncode, done.stdout.decode("latin-1"), done.stderr.decode("latin-1")]
         want = [one["status"], held[one["same"]].decode("latin-1") if one["same"] else one["out"], one["err"]]
+        want = [with_digests(program, it) if isinstance(it, str) else it for it in want]
         if not all(matches(w, g) for w, g in zip(want, got)):
             return f"step {number + 1}, {' '.join(one['words'])}\n  got    {got!r:.2000}\n  wanted {want!r:.2000}"
     return None

@@ -1,0 +1,373 @@
+#!/usr/bin/env python3
+"""The machine of examples/mips.lisa beside a plain interpreter of its instructions, and beside GNU's assembler.
+
+    tests/mips.py PROGRAM [--programs N] [--seed N]
+
+Random programs with interrupts are run by PROGRAM, and must leave the registers and the memory that the interpreter leaves,
+which runs one instruction after the other and knows no pipeline. Where an assembler of GNU for MIPS is installed
+(mips-linux-gnu-as), each instruction with random operands has the word that it makes. The handler of interrupts counts in the
+last cell of the data memory and takes $13 and $14, so these are left out. The last line is `N passed, M failed`."""
+
+import argparse
+import hashlib
+import os
+import random
+import shutil
+import subprocess
+import sys
+import tempfile
+
+TOP = os.path.dirname(os.path.dirname(os.path.abspath(__file__)))
+MASK = 0xFFFFFFFF
+CELLS = 1024
+HANDLER = 32  # the cell of 0x80
+COUNT = CELLS - 1
+FREE = [1, 2, 3, 4, 5, 6, 7, 8, 9, 10, 11, 12, 15]  # registers of programs; $13 and $14 are the handler's
+
+
+def signed(value, bits=32):
+    value &= (1 << bits) - 1
+    return value - (1 << bits) if value >> (bits - 1) else value
+
+
+# ---- instructions: by the shape of their operands, each with its numbers
+
+THREE = {"addu": 0x21, "subu": 0x23, "and": 0x24, "or": 0x25, "xor": 0x26, "nor": 0x27, "slt": 0x2A, "sltu": 0x2B}
+SHIFT = {"sll": 0, "srl": 2, "sra": 3}
+SHIFT_BY = {"sllv": 4, "srlv": 6, "srav": 7}
+SIGNED = {"addiu": 9, "slti": 10, "sltiu": 11}
+PLAIN = {"andi": 12, "ori": 13, "xori": 14}
+MEMORY = {"lbu": 0x24, "lw": 0x23, "sb": 0x28, "sw": 0x2B}
+COMPARE = {"beq": 4, "bne": 5}
+TEST = {"blez": (6, 0), "bgtz": (7, 0), "bltz": (1, 0), "bgez": (1, 1)}
+JUMP = {"j": 2, "jal": 3}
+NAMES = [*THREE, *SHIFT, *SHIFT_BY, "mult", "mflo", *SIGNED, *PLAIN, "lui", *MEMORY, *COMPARE, *TEST, *JUMP, "jr", "jalr", "mfc0", "mtc0", "rfe"]
+
+
+def word(name, *at):
+    """The word of an instruction; the operands stand in the order of its text."""
+    if name in THREE:
+        return at[1] << 21 | at[2] << 16 | at[0] << 11 | THREE[name]
+    if name in SHIFT:
+        return at[1] << 16 | at[0] << 11 | at[2] << 6 | SHIFT[name]
+    if name in SHIFT_BY:
+        return at[2] << 21 | at[1] << 16 | at[0] << 11 | SHIFT_BY[name]
+    if name == "mult":
+        return at[0] << 21 | at[1] << 16 | 0x18
+    if name == "mflo":
+        return at[0] << 11 | 0x12
+    if name in SIGNED or name in PLAIN:
+        return {**SIGNED, **PLAIN}[name] << 26 | at[1] << 21 | at[0] << 16 | at[2] & 0xFFFF
+    if name == "lui":
+        return 0x0F << 26 | at[0] << 16 | at[1]
+    if name in MEMORY:
+        return MEMORY[name] << 26 | at[2] << 21 | at[0] << 16 | at[1] & 0xFFFF
+    if name in COMPARE:
+        return COMPARE[name] << 26 | at[0] << 21 | at[1] << 16 | at[2] & 0xFFFF
+    if name in TEST:
+        return TEST[name][0] << 26 | at[0] << 21 | TEST[name][1] << 16 | at[1] & 0xFFFF
+    if name in JUMP:
+        return JUMP[name] << 26 | at[0]
+    if name == "jr":
+        return at[0] << 21 | 8
+    if name == "jalr":
+        return at[1] << 21 | at[0] << 11 | 9
+    return {"mfc0": 0x40007000, "mtc0": 0x40806000, "rfe": 0x42000010}[name] | (at[0] << 16 if at else 0)
+
+
+def operands(name, draw):
+    """Random operands, in the order of the text."""
+    register = lambda: draw.randrange(16)
+    half = lambda: draw.choice([0, 1, -1, 0x7FFF, -0x8000, draw.randrange(-0x8000, 0x8000)])
+    if name in THREE or name in SHIFT_BY:
+        return register(), register(), register()
+    if name in SHIFT:
+        return register(), register(), draw.randrange(32)
+    if name == "mult":
+        return register(), register()
+    if name in SIGNED:
+        return register(), register(), half()
+    if name in PLAIN:
+        return register(), register(), half() & 0xFFFF
+    if name == "lui":
+        return register(), half() & 0xFFFF
+    if name in MEMORY:
+        return register(), half(), register()
+    if name in COMPARE:
+        return register(), register(), half()
+    if name in TEST:
+        return register(), half()
+    if name in JUMP:
+        return (draw.randrange(1 << 26),)
+    if name == "jalr":
+        target = draw.randrange(1, 16)
+        return target, draw.choice([r for r in range(16) if r != target])
+    return () if name == "rfe" else (register(),)
+
+
+def gnu_text(name, at):
+    """The instruction as GNU's assembler takes it: a branch by its distance in bytes, a jump by its address."""
+    registers = ", ".join
+    if name in THREE or name in SHIFT_BY:
+        return f"{name} " + registers(f"${r}" for r in at)
+    if name in SHIFT or name in SIGNED or name in PLAIN:
+        return f"{name} ${at[0]}, ${at[1]}, {at[2]}"
+    if name == "mult":
+        return f".word {word(name, *at):#x}" if False else f"mult ${at[0]}, ${at[1]}"
+    if name == "lui":
+        return f"lui ${at[0]}, {at[1]}"
+    if name in MEMORY:
+        return f"{name} ${at[0]}, {at[1]}(${at[2]})"
+    if name in COMPARE:
+        return f"{name} ${at[0]}, ${at[1]}, . + {4 + 4 * at[2]}"
+    if name in TEST:
+        return f"{name} ${at[0]}, . + {4 + 4 * at[1]}"
+    if name in JUMP:
+        return f"{name} {4 * at[0]}"
+    if name == "jalr":
+        return f"jalr ${at[0]}, ${at[1]}"
+    if name in ("mfc0", "mtc0"):
+        return f"{name} ${at[0]}, ${14 if name == 'mfc0' else 12}"
+    return " ".join([name, *(f"${r}" for r in at)])
+
+
+# ---- the interpreter
+
+class Machine:
+    """Registers, `lo` and both memories; no pipeline and no interrupts."""
+
+    def __init__(self, program):
+        self.program = dict(enumerate(program))
+        self.pc = self.lo = 0
+        self.r = [0] * 16
+        self.data = {}
+
+    def put(self, register, value):
+        if register:
+            self.r[register] = value & MASK
+
+    def step(self):
+        """One instruction; whether the next one is another one than this."""
+        w = self.program.get((self.pc >> 2) % CELLS, 0)
+        own, self.pc = self.pc, self.pc + 4 & MASK
+        op, rs, rt, rd, by, function = w >> 26, w >> 21 & 31, w >> 16 & 31, w >> 11 & 31, w >> 6 & 31, w & 63
+        if op == 0:
+            self.of_registers(function, rs, rt, rd, by)
+        elif op in (2, 3):
+            if op == 3:
+                self.put(15, self.pc)
+            self.pc = self.pc & 0xF0000000 | (w & 0x3FFFFFF) << 2
+        elif op in (1, 4, 5, 6, 7):
+            self.branch(op, rs, rt, signed(w, 16))
+        elif op != 16:
+            self.of_number(op, rs, rt, w & 0xFFFF)
+        return self.pc != own
+
+    def of_registers(self, function, rs, rt, rd, by):
+        a, b = self.r[rs], self.r[rt]
+        if function == 0x18:
+            self.lo = a * b & MASK
+        elif function in (8, 9):
+            if function == 9:
+                self.put(rd, self.pc)
+            self.pc = a
+        else:
+            self.put(rd, {0: lambda: b << by, 2: lambda: b >> by, 3: lambda: signed(b) >> by, 4: lambda: b << (a & 31), 6: lambda: b >> (a & 31),
+                          7: lambda: signed(b) >> (a & 31), 0x12: lambda: self.lo, 0x21: lambda: a + b, 0x23: lambda: a - b, 0x24: lambda: a & b,
+                          0x25: lambda: a | b, 0x26: lambda: a ^ b, 0x27: lambda: ~(a | b), 0x2A: lambda: signed(a) < signed(b), 0x2B: lambda: a < b}[function]())
+
+    def branch(self, op, rs, rt, distance):
+        a = signed(self.r[rs])
+        if {1: (a >= 0) if rt else (a < 0), 4: self.r[rs] == self.r[rt], 5: self.r[rs] != self.r[rt], 6: a <= 0, 7: a > 0}[op]:
+            self.pc = self.pc + 4 * distance & MASK
+
+    def of_number(self, op, rs, rt, number):
+        a, low = self.r[rs], signed(number, 16)
+        address = a + low & MASK
+        cell, shift = (address >> 2) % CELLS, 8 * (3 - (address & 3))
+        held = self.data.get(cell, 0)
+        if op == 0x28:
+            self.data[cell] = held & ~(0xFF << shift) | (self.r[rt] & 0xFF) << shift
+        elif op == 0x2B:
+            self.data[cell] = self.r[rt]
+        else:
+            self.put(rt, {9: lambda: a + low, 10: lambda: signed(a) < low, 11: lambda: a < low & MASK, 12: lambda: a & number, 13: lambda: a | number,
+                          14: lambda: a ^ number, 15: lambda: number << 16, 0x23: lambda: held, 0x24: lambda: held >> shift & 0xFF}[op]())
+
+
+# ---- random programs
+
+HANDLER_CODE = [("lw", 13, 4 * COUNT, 0), ("addiu", 13, 13, 1), ("sw", 13, 4 * COUNT, 0), ("mfc0", 14), ("rfe",), ("jr", 14)]
+LOOP = ("beq", 0, 0, -1)
+
+
+def simple(draw):
+    """One instruction that is no jump, over the registers of programs."""
+    name = draw.choice([*THREE, *SHIFT, *SHIFT_BY, "mult", "mflo", *SIGNED, *PLAIN, "lui", *MEMORY, *MEMORY])
+    source, target = lambda: draw.choice([0, *FREE]), lambda: draw.choice([0, *FREE, *FREE])
+    at = list(operands(name, draw))
+    if name in MEMORY:
+        return name, source() if name in ("sb", "sw") else target(), draw.randrange(0, 64), 0 if draw.random() < 0.7 else source()
+    if name in SHIFT or name in SIGNED or name in PLAIN:
+        return name, target(), source(), at[2]
+    if name == "lui":
+        return name, target(), at[1]
+    if name == "mult":
+        return name, source(), source()
+    return (name, target()) if name == "mflo" else (name, target(), source(), source())
+
+
+def is_safe(item):
+    """A store or load with a register may reach the handler's cell; its address is drawn again as a plain one."""
+    return item[0] not in MEMORY or item[3] == 0
+
+
+def jumping(draw, left):
+    """A branch or jump forward, over at most so many instructions; a loop of few turns; or a call to what follows."""
+    over = draw.randrange(0, min(left, 5) + 1)
+    name = draw.choice([*COMPARE, *TEST])
+    if name in COMPARE:
+        return [(name, draw.choice([0, *FREE]), draw.choice([0, *FREE]), over)]
+    return [(name, draw.choice([0, *FREE]), over)]
+
+
+def random_program(draw):
+    """Words from cell 0: past the handler at its cell the body begins, with loops, calls and branches forward; at its end it stays."""
+    body = [("addiu", 13, 0, 1), ("mtc0", 13)] if draw.random() < 0.8 else []
+    body += [("addiu", r, 0, draw.randrange(-0x8000, 0x8000)) for r in draw.sample(FREE, 6)]
+    calls = []
+    for _ in range(draw.randrange(10, 60)):
+        kind = draw.random()
+        if kind < 0.12:
+            inner = [i for i in (simple(draw) for _ in range(4)) if is_safe(i)]
+            body += inner[:0] + [("beq", 0, 0, 0)] if not inner else jumping(draw, len(inner)) + inner + [("addu", 0, 0, 0)] * 5
+        elif kind < 0.18:
+            inner = [i for i in (simple(draw) for _ in range(3)) if is_safe(i) and i[1] != 12]
+            body += [("addiu", 12, 0, draw.randrange(1, 5)), *inner, ("addiu", 12, 12, -1), ("bgtz", 12, -len(inner) - 2)]
+        elif kind < 0.24:
+            calls.append(len(body))
+            body.append(("jal", 0))
+        else:
+            item = simple(draw)
+            body.append(item if is_safe(item) else (item[0], item[1], item[2], 0))
+    start = HANDLER + len(HANDLER_CODE)
+    end = start + len(body)
+    code = [*body, LOOP]
+    for place in calls:
+        inner = [i for i in (simple(draw) for _ in range(3)) if is_safe(i) and i[1] != 15 and i[0] not in ("mult",)]
+        code[place] = draw.choice([("jal", end + 1 + len(code) - len(body) - 1)])
+        code += [*inner, ("jr", 15)]
+    words = [word("j", start)] + [0] * (HANDLER - 1) + [word(*i) for i in HANDLER_CODE] + [word(*i) for i in code]
+    return words
+
+
+# ---- the program
+
+class Lisa:
+    def __init__(self, program, folder):
+        self.program, self.folder = program, folder
+        self.description = os.path.join(TOP, "examples", "mips.lisa")
+        text = self.run("fmt", self.description)[1]
+        self.digest = hashlib.sha256(text).hexdigest()
+
+    def run(self, *words):
+        done = subprocess.run([self.program, *words], cwd=self.folder, capture_output=True, timeout=300, check=False)
+        return done.returncode, done.stdout, done.stderr
+
+    def image(self, name, words):
+        lines = [f"image 1 {self.digest}", f"memory prog 32 {CELLS} {len(words)}", *(f"{w:x}" for w in words), "end"]
+        with open(os.path.join(self.folder, name), "w", encoding="ascii") as file:
+            file.write("\n".join(lines) + "\n")
+
+    def state(self, image, schedule, edges):
+        status, out, err = self.run("run", self.description, image, schedule, str(edges))
+        if status:
+            return None, err.decode("latin-1").strip()
+        return dict(line.rsplit(" ", 1) for line in out.decode("ascii").splitlines()), None
+
+
+def differences(machine, state):
+    """What the program left otherwise than the interpreter."""
+    wanted = {f"R[{r}]": machine.r[r] for r in range(16) if r not in (13, 14)}
+    wanted.update({f"data[{c}]": v for c, v in machine.data.items() if c != COUNT}, lo=machine.lo)
+    shown = {name: int(value, 16) for name, value in state.items() if name != "edge"}
+    names = set(wanted) | {n for n in shown if n.startswith(("R[", "data["))} - {"R[13]", "R[14]", f"data[{COUNT}]"}
+    return [(n, wanted.get(n, 0), shown.get(n, 0)) for n in sorted(names) if wanted.get(n, 0) != shown.get(n, 0)]
+
+
+def try_program(lisa, draw):
+    """Whether a random program leaves what the interpreter leaves, and how many interrupts it took."""
+    words = random_program(draw)
+    machine = Machine(words)
+    steps = 0
+    while machine.step():
+        steps += 1
+        if steps > 5000:
+            return None, "the interpreter found no end"
+    edges = 3 * steps + 200
+    at = sorted(draw.sample(range(5, edges - 150), draw.randrange(0, 8)))
+    rises = sorted({e: 1 for e in at} | {e + 1: 0 for e in at if e + 1 not in at}) if at else []
+    with open(os.path.join(lisa.folder, "s"), "w", encoding="ascii") as file:
+        file.writelines(f"{e} irq={int(e in at)}\n" for e in rises)
+    lisa.image("i", words)
+    state, fault = lisa.state("i", "s", edges + 60 * len(at))
+    if fault is not None:
+        return None, fault
+    wrong = differences(machine, state)
+    return (None, str(wrong[:5])) if wrong else (int(state.get(f"data[{COUNT}]", "0x0"), 16), None)
+
+
+# ---- GNU's assembler
+
+def gnu_words(assembler, texts, folder):
+    source, made, raw = (os.path.join(folder, n) for n in ("g.s", "g.o", "g.bin"))
+    with open(source, "w", encoding="ascii") as file:
+        file.write(".set noreorder\n.set nomacro\n.set noat\n" + "".join(t + "\n" for t in texts))
+    subprocess.run([assembler, "-mips1", "-EB", "-no-pad-sections", "-o", made, source], check=True, capture_output=True)
+    subprocess.run([assembler[:-2] + "objcopy", "-O", "binary", "-j", ".text", made, raw], check=True, capture_output=True)
+    with open(raw, "rb") as file:
+        data = file.read()
+    return [int.from_bytes(data[i:i + 4], "big") for i in range(0, len(data), 4)]
+
+
+def compare_words(draw, folder, count):
+    assembler = shutil.which("mips-linux-gnu-as")
+    if not assembler:
+        print("GNU's assembler for MIPS isn't installed (mips-linux-gnu-as): no word was compared with its")
+        return 0, 0
+    failed = 0
+    for name in NAMES:
+        drawn = [operands(name, draw) for _ in range(count)]
+        if name in JUMP:
+            drawn = [(a[0] & 0x3FFFF,) for a in drawn]
+        made = gnu_words(assembler, [gnu_text(name, at) for at in drawn], folder)
+        wrong = [(at, made[i]) for i, at in enumerate(drawn) if made[i] != word(name, *at)]
+        failed += bool(wrong)
+        for at, got in wrong[:2]:
+            print(f"{name} {at}: {word(name, *at):#x}, and {got:#x} by GNU's")
+    return len(NAMES) - failed, failed
+
+
+def main():
+    parser = argparse.ArgumentParser(description=__doc__, formatter_class=argparse.RawDescriptionHelpFormatter)
+    parser.add_argument("program")
+    parser.add_argument("--programs", type=int, default=100)
+    parser.add_argument("--words", type=int, default=200)
+    parser.add_argument("--seed", type=int, default=1)
+    given = parser.parse_args()
+    draw = random.Random(given.seed)
+    with tempfile.TemporaryDirectory() as folder:
+        passed, failed = compare_words(draw, folder, given.words)
+        lisa, taken = Lisa(os.path.abspath(given.program), folder), 0
+        for number in range(given.programs):
+            count, fault = try_program(lisa, draw)
+            passed, failed, taken = passed + (fault is None), failed + (fault is not None), taken + (count or 0)
+            if fault is not None:
+                print(f"random program {number}: {fault}")
+        print(f"{given.programs} random programs, {taken} interrupts taken")
+    print(f"{passed} passed, {failed} failed")
+    return 1 if failed else 0
+
+
+if __name__ == "__main__":
+    sys.exit(main())
