@@ -174,7 +174,7 @@ module _ {R M A B C D E : Type 0} (core : Core R M) (ops : Operations) (layout :
   -- whether the word is an instruction's
   slotted_went : (from index word : ℕ) (guard : Expr) (on : Bool) (now : Running M) (lane : Moment) → layout.lasting ≤ from → Lies p.temps from (slotted core ops layout guard from).widths → IsGuard layout from guard → T now lane → V lane guard ≡ bit on → HasRowWord meant (root_row core ops layout) word lane → IsWordOf meant word
       → W from index (with_slot (slot_of (on && core.decodes word) word now.slot) now) lane (G (slotted core ops layout guard from).moves lane)
-  slotted_went from index word guard on now lane low placed is_guard tied is has fits =
+  slotted_went from index word guard on now lane low placed guarded tied is has fits =
       let test = both guard (ops.decodes (root_row core ops layout)) in
       let middle = G (holding 1 test from).piece.moves lane in
       let held = went_holding core ops layout p meant root before pins lowered from index 1 test now lane low lasts tied in
@@ -189,7 +189,7 @@ module _ {R M A B C D E : Type 0} (core : Core R M) (ops : Operations) (layout :
   rooted_went : (from index : ℕ) (guard : Expr) (on : Bool) (now : Running M) (lane : Moment) → layout.lasting ≤ from → Lies p.temps from (rooted core ops layout true guard from).widths → IsGuard layout from guard → T now lane → V lane guard ≡ bit on → (root < index → ⊥)
       → W from index (with_slot (slot_of (on && core.decodes (core.fetch now.moment)) (core.fetch now.moment) now.slot) now) lane (G (rooted core ops layout true guard from).moves lane)
       × HasRowWord meant (root_row core ops layout) (core.fetch now.moment) (G (rooted core ops layout true guard from).moves lane)
-  rooted_went from index guard on now lane low placed is_guard tied is outside =
+  rooted_went from index guard on now lane low placed guarded tied is outside =
       let fetched = ops.fetch from in
       let base = from + length fetched.piece.widths in
       let load = ops.load (root_row core ops layout) fetched.out base in
@@ -209,15 +209,15 @@ module _ {R M A B C D E : Type 0} (core : Core R M) (ops : Operations) (layout :
       let went2 : W base index now lane1 lane2 = went_part core ops layout p meant root before pins base index now now lane1 lane2 went1.tied l.0.keeps l.0.agrees refl refl refl (λ row w kept has. l.1 row w (λ same. outside (kept same)) has) in
       let has = lowered.loads (root_row core ops layout) fetched.out base before pins now.moment lane1 word part2 f.0 f.3 in
       let is2 : V lane2 guard ≡ bit on =
-      guard_kept core ops layout p meant root before pins base index now lane1 lane2 guard (guard_wider core ops layout p meant root before pins from base guard (omega arith) is_guard) went2
-      ∙ guard_kept core ops layout p meant root before pins from index now lane lane1 guard is_guard went1 ∙ is in
+      guard_kept core ops layout p meant root before pins base index now lane1 lane2 guard (guard_wider core ops layout p meant root before pins from base guard (omega arith) guarded) went2
+      ∙ guard_kept core ops layout p meant root before pins from index now lane lane1 guard guarded went1 ∙ is in
       let next = with_slot (slot_of (on && core.decodes word) word now.slot) now in
-      let went3 : W base' index next lane2 (G slot.moves lane2) = slotted_went base' index word guard on now lane2 (omega (arith, low)) placed4 (guard_wider core ops layout p meant root before pins from base' guard (omega arith) is_guard) went2.tied is2 has f.3 in
+      let went3 : W base' index next lane2 (G slot.moves lane2) = slotted_went base' index word guard on now lane2 (omega (arith, low)) placed4 (guard_wider core ops layout p meant root before pins from base' guard (omega arith) guarded) went2.tied is2 has f.3 in
       let went23 : W base index next lane1 (G (chain (ops.load (root_row core ops layout) fetched.out) (slotted core ops layout guard) base).moves lane1) = went_chain core ops layout p meant root before pins base index now next (ops.load (root_row core ops layout) fetched.out) (slotted core ops layout guard) lane1 went2 went3 in (
         went_bind core ops layout p meant root before pins from index now next ops.fetch (λ word. chain (ops.load (root_row core ops layout) word) (slotted core ops layout guard)) lane went1 went23,
         subst (λ (m : Moment). HasRowWord meant (root_row core ops layout) word m)
             (sym (ran_append p before pins fetched.piece.moves (load.moves ++ slot.moves) lane ∙ ran_append p before pins load.moves slot.moves lane1))
-            ((slotted_went base' (suc root) word guard on now lane2 (omega (arith, low)) placed4 (guard_wider core ops layout p meant root before pins from base' guard (omega arith) is_guard) went2.tied is2 has f.3).rows (root_row core ops layout) word (λ same. omega arith) has),
+            ((slotted_went base' (suc root) word guard on now lane2 (omega (arith, low)) placed4 (guard_wider core ops layout p meant root before pins from base' guard (omega arith) guarded) went2.tied is2 has f.3).rows (root_row core ops layout) word (λ same. omega arith) has),
       )
 
   -- ---- an occurrence
@@ -251,12 +251,12 @@ module _ {R M A B C D E : Type 0} (core : Core R M) (ops : Operations) (layout :
   behavior_went : (b : Bool) (from number word : ℕ) (row : Option ℕ) (guard : Expr) (before' now : Running M) (lane : Moment) → core.is_root number ≡ b → now.moment ≡ before'.moment → now.made ≡ before'.made → now.first ≡ before'.first → now.slot ≡ slot_of (b && core.decodes word) word before'.slot
       → layout.lasting ≤ from → Lies p.temps from (ops.behavior number row guard from).widths → IsGuard layout from guard → T now lane → V lane guard ≡ 1 → RowHas meant row word lane → Runs core ops layout p meant number word
       → W from number (behavior core number word before') lane (G (ops.behavior number row guard from).moves lane)
-  behavior_went b from number word row guard before' now lane is moment made first slot low placed is_guard tied on has runs =
+  behavior_went b from number word row guard before' now lane is moment made first slot low placed guarded tied on has runs =
       let here = part from (ops.behavior number row guard from).widths now lane low placed tied in
       let k = lowered.behavior_keeps number row guard from before pins now.moment lane here in
       went_part core ops layout p meant root before pins from number now (behavior core number word before') lane (G (ops.behavior number row guard from).moves lane) tied k.0
       (subst (λ (m : M). Agrees meant before pins m (G (ops.behavior number row guard from).moves lane)) (ap (λ (m : M). core.behave number word m) moment ∙ sym (begun_moment number word before'))
-      (lowered.behaves number row guard from before pins now.moment lane word here is_guard on has runs))
+      (lowered.behaves number row guard from before pins now.moment lane word here guarded on has runs))
       (begun_made number word before' ∙ sym made) (begun_first number word before' ∙ sym first) (begun_slot b number word before' is ∙ sym slot)
       (λ r w kept h. k.1 r w tt h)
 
@@ -272,7 +272,7 @@ module _ {R M A B C D E : Type 0} (core : Core R M) (ops : Operations) (layout :
       → Runs core ops layout p meant number (word_by b past word now)
       → ItemsRun items from guard number (row_by b past row) (word_by b past word now) (behavior core number (word_by b past word now) now) end
       → W from index end lane (G (occurrence_by b number past row guard items from).moves lane)
-  occurrence_went true from index number word past row guard items now end lane is low placed is_guard tied on few has kept runs inner =
+  occurrence_went true from index number word past row guard items now end lane is low placed guarded tied on few has kept runs inner =
       let root_piece = rooted core ops layout true guard from in
       let base = from + length root_piece.widths in
       let behave_piece = ops.behavior number (Some (root_row core ops layout)) guard base in
@@ -284,11 +284,11 @@ module _ {R M A B C D E : Type 0} (core : Core R M) (ops : Operations) (layout :
       let placed4 = lies_right p.temps base behave_piece.widths rest.widths placed2 in
       let mine = core.fetch now.moment in
       let same = one_root number is in
-      let r = rooted_went from number guard true now lane low placed1 is_guard tied on (λ less. omega (arith, less, same)) in
+      let r = rooted_went from number guard true now lane low placed1 guarded tied on (λ less. omega (arith, less, same)) in
       let lane1 = G root_piece.moves lane in
       let now1 = with_slot (slot_of (core.decodes mine) mine now.slot) now in
-      let on1 = guard_kept core ops layout p meant root before pins from number now1 lane lane1 guard is_guard r.0 ∙ on in
-      let guard1 = guard_wider core ops layout p meant root before pins from base guard (omega arith) is_guard in
+      let on1 = guard_kept core ops layout p meant root before pins from number now1 lane lane1 guard guarded r.0 ∙ on in
+      let guard1 = guard_wider core ops layout p meant root before pins from base guard (omega arith) guarded in
       let begun = behavior core number mine now in
       let went2 = behavior_went true base number mine (Some (root_row core ops layout)) guard now now1 lane1 is refl refl refl refl (omega (arith, low)) placed3 guard1 r.0.tied on1 r.1 runs in
       let lane2 = G behave_piece.moves lane1 in
@@ -299,7 +299,7 @@ module _ {R M A B C D E : Type 0} (core : Core R M) (ops : Operations) (layout :
       (went_chain core ops layout p meant root before pins from number now1 end (rooted core ops layout true guard) (chain (ops.behavior number (Some (root_row core ops layout)) guard) items) lane r.0
       (went_chain core ops layout p meant root before pins base number begun end (ops.behavior number (Some (root_row core ops layout)) guard) items lane1 went2
       (went_wider core ops layout p meant root before pins base' base' number (suc number) end lane2 (G rest.moves lane2) (omega arith) (omega arith) went3)))
-  occurrence_went false from index number word past row guard items now end lane is low placed is_guard tied on few has kept runs inner =
+  occurrence_went false from index number word past row guard items now end lane is low placed guarded tied on few has kept runs inner =
       let base = from + 0 in
       let behave_piece = ops.behavior number (cond past row None) guard base in
       let base' = base + length behave_piece.widths in
@@ -308,7 +308,7 @@ module _ {R M A B C D E : Type 0} (core : Core R M) (ops : Operations) (layout :
       let placed3 = lies_left p.temps base behave_piece.widths rest.widths placed0 in
       let placed4 = lies_right p.temps base behave_piece.widths rest.widths placed0 in
       let mine = word_below past word in
-      let guard1 = guard_wider core ops layout p meant root before pins from base guard (omega arith) is_guard in
+      let guard1 = guard_wider core ops layout p meant root before pins from base guard (omega arith) guarded in
       let begun = behavior core number mine now in
       let has' : RowHas meant (cond past row None) mine lane = row_below past has in
       let went2 = behavior_went false base number mine (cond past row None) guard now now lane is refl refl refl refl (omega (arith, low)) placed3 guard1 tied on has' runs in
@@ -336,11 +336,11 @@ module _ {R M A B C D E : Type 0} (core : Core R M) (ops : Operations) (layout :
 
   rests_went : (from number : ℕ) (row : Option ℕ) (guard : Expr) (now : Running M) (lane : Moment) → layout.lasting ≤ from → Lies p.temps from (ops.behavior number row guard from).widths → IsGuard layout from guard → T now lane → V lane guard ≡ 0
       → W from number now lane (G (ops.behavior number row guard from).moves lane)
-  rests_went from number row guard now lane low placed is_guard tied off =
+  rests_went from number row guard now lane low placed guarded tied off =
       let here = part from (ops.behavior number row guard from).widths now lane low placed tied in
       let k = lowered.behavior_keeps number row guard from before pins now.moment lane here in
       went_part core ops layout p meant root before pins from number now now lane (G (ops.behavior number row guard from).moves lane) tied k.0
-      (lowered.rests number row guard from before pins now.moment lane here is_guard off) refl refl refl (λ r w kept h. k.1 r w tt h)
+      (lowered.rests number row guard from before pins now.moment lane here guarded off) refl refl refl (λ r w kept h. k.1 r w tt h)
 
   retied : (slot : Option ℕ) (now : Running M) (lane : Moment) → slot ≡ now.slot → T (with_slot slot now) lane → T now lane
   retied slot now lane same t = record {
@@ -358,7 +358,7 @@ module _ {R M A B C D E : Type 0} (core : Core R M) (ops : Operations) (layout :
       → layout.lasting ≤ from → Lies p.temps from (occurrence_by b number past row guard items from).widths → IsGuard layout from guard → T now lane → V lane guard ≡ 0 → index ≤ number
       → ItemsRest items from guard number now
       → W from index now lane (G (occurrence_by b number past row guard items from).moves lane)
-  occurrence_rests true from index number past row guard items now lane is low placed is_guard tied off few inner =
+  occurrence_rests true from index number past row guard items now lane is low placed guarded tied off few inner =
       let root_piece = rooted core ops layout true guard from in
       let base = from + length root_piece.widths in
       let behave_piece = ops.behavior number (Some (root_row core ops layout)) guard base in
@@ -369,11 +369,11 @@ module _ {R M A B C D E : Type 0} (core : Core R M) (ops : Operations) (layout :
       let placed3 = lies_left p.temps base behave_piece.widths rest.widths placed2 in
       let placed4 = lies_right p.temps base behave_piece.widths rest.widths placed2 in
       let same = one_root number is in
-      let r = (rooted_went from number guard false now lane low placed1 is_guard tied off (λ less. omega (arith, less, same))).0 in
+      let r = (rooted_went from number guard false now lane low placed1 guarded tied off (λ less. omega (arith, less, same))).0 in
       let lane1 = G root_piece.moves lane in
       let went1 : W from number now lane lane1 = record { tied = retied now.slot now lane1 refl r.tied; controls = r.controls; others = r.others; rows = r.rows } in
-      let off1 = guard_kept core ops layout p meant root before pins from number now lane lane1 guard is_guard went1 ∙ off in
-      let guard1 = guard_wider core ops layout p meant root before pins from base guard (omega arith) is_guard in
+      let off1 = guard_kept core ops layout p meant root before pins from number now lane lane1 guard guarded went1 ∙ off in
+      let guard1 = guard_wider core ops layout p meant root before pins from base guard (omega arith) guarded in
       let went2 = rests_went base number (Some (root_row core ops layout)) guard now lane1 (omega (arith, low)) placed3 guard1 went1.tied off1 in
       let lane2 = G behave_piece.moves lane1 in
       let off2 = guard_kept core ops layout p meant root before pins base number now lane1 lane2 guard guard1 went2 ∙ off1 in
@@ -382,7 +382,7 @@ module _ {R M A B C D E : Type 0} (core : Core R M) (ops : Operations) (layout :
       (went_chain core ops layout p meant root before pins from number now now (rooted core ops layout true guard) (chain (ops.behavior number (Some (root_row core ops layout)) guard) items) lane went1
       (went_chain core ops layout p meant root before pins base number now now (ops.behavior number (Some (root_row core ops layout)) guard) items lane1 went2
       (went_wider core ops layout p meant root before pins base' base' number (suc number) now lane2 (G rest.moves lane2) (omega arith) (omega arith) went3)))
-  occurrence_rests false from index number past row guard items now lane is low placed is_guard tied off few inner =
+  occurrence_rests false from index number past row guard items now lane is low placed guarded tied off few inner =
       let base = from + 0 in
       let behave_piece = ops.behavior number (cond past row None) guard base in
       let base' = base + length behave_piece.widths in
@@ -390,7 +390,7 @@ module _ {R M A B C D E : Type 0} (core : Core R M) (ops : Operations) (layout :
       let placed0 : Lies p.temps base (behave_piece.widths ++ rest.widths) = subst (λ (n : ℕ). Lies p.temps n (behave_piece.widths ++ rest.widths)) {x = from} {y = base} (omega arith) placed in
       let placed3 = lies_left p.temps base behave_piece.widths rest.widths placed0 in
       let placed4 = lies_right p.temps base behave_piece.widths rest.widths placed0 in
-      let guard1 = guard_wider core ops layout p meant root before pins from base guard (omega arith) is_guard in
+      let guard1 = guard_wider core ops layout p meant root before pins from base guard (omega arith) guarded in
       let went2 = rests_went base number (cond past row None) guard now lane (omega (arith, low)) placed3 guard1 tied off in
       let lane2 = G behave_piece.moves lane in
       let off2 = guard_kept core ops layout p meant root before pins base number now lane lane2 guard guard1 went2 ∙ off in
@@ -404,7 +404,7 @@ module _ {R M A B C D E : Type 0} (core : Core R M) (ops : Operations) (layout :
   -- whether an item is chosen: a guard of its own, or the one that is there
   pub record Choice (from : ℕ) (guard : Made) (on : Bool) (index : ℕ) (now : Running M) (lane : Moment) : Type 0 where
     pub went : W from index now lane (G guard.piece.moves lane)
-    pub is_guard : IsGuard layout (from + length guard.piece.widths) guard.out
+    pub guarded : IsGuard layout (from + length guard.piece.widths) guard.out
     pub is : V (G guard.piece.moves lane) guard.out ≡ bit on
 
   zero_and : (n : ℕ) → bit_and 0 n ≡ 0
@@ -414,7 +414,7 @@ module _ {R M A B C D E : Type 0} (core : Core R M) (ops : Operations) (layout :
   pub one_more : (from index : ℕ) (guard test : Expr) (on : Bool) (now : Running M) (lane : Moment) → layout.lasting ≤ from → Lies p.temps from (1 ∷ []) → T now lane → V lane guard ≡ 1 → V lane test ≡ bit on → Choice from (holding 1 (both guard test) from) on index now lane
   one_more from index guard test on now lane low placed tied it is = record {
     went = went_holding core ops layout p meant root before pins lowered from index 1 (both guard test) now lane low lasts tied;
-    is_guard = held_guard low (omega arith);
+    guarded = held_guard low (omega arith);
     is = holding_is core ops layout p meant root before pins from 1 (both guard test) lane (omega (arith, placed.room, tied.temp_count)) ∙ both_is p before pins lane guard test true on it is;
   }
 
@@ -422,34 +422,34 @@ module _ {R M A B C D E : Type 0} (core : Core R M) (ops : Operations) (layout :
   pub none_more : (from index : ℕ) (guard test : Expr) (now : Running M) (lane : Moment) → layout.lasting ≤ from → Lies p.temps from (1 ∷ []) → T now lane → V lane guard ≡ 0 → Choice from (holding 1 (both guard test) from) false index now lane
   none_more from index guard test now lane low placed tied it = record {
     went = went_holding core ops layout p meant root before pins lowered from index 1 (both guard test) now lane low lasts tied;
-    is_guard = held_guard low (omega arith);
+    guarded = held_guard low (omega arith);
     is = holding_is core ops layout p meant root before pins from 1 (both guard test) lane (omega (arith, placed.room, tied.temp_count)) ∙ ap (λ (n : ℕ). bit_and n (V lane test)) it ∙ zero_and (V lane test);
   }
 
   same_guard : (from index : ℕ) (guard : Expr) (on : Bool) (now : Running M) (lane : Moment) → IsGuard layout from guard → T now lane → V lane guard ≡ bit on → Choice from (record { piece = nothing from; out = guard }) on index now lane
-  same_guard from index guard on now lane is_guard tied is = record {
+  same_guard from index guard on now lane guarded tied is = record {
     went = went_here core ops layout p meant root before pins from index now lane tied;
-    is_guard = guard_wider core ops layout p meant root before pins from (from + 0) guard (omega arith) is_guard;
+    guarded = guard_wider core ops layout p meant root before pins from (from + 0) guard (omega arith) guarded;
     is = is;
   }
 
   chosen_on : (from index number word : ℕ) (past : Bool) (row : Option ℕ) (guard : Expr) (now : Running M) (lane : Moment) → layout.lasting ≤ from → Lies p.temps from (chosen core ops layout number past row guard from).piece.widths → IsGuard layout from guard → T now lane → V lane guard ≡ 1
       → number < suc (size core.acts) → is_past core number ≡ past → (past ≡ true → (r : ℕ) × (row ≡ Some r)) → RowHas meant row word lane
       → Choice from (chosen core ops layout number past row guard from) (core.chooses number word) index now lane
-  chosen_on from index number word false row guard now lane low placed is_guard tied on less is some has =
-      same_guard from index guard (core.chooses number word) now lane is_guard tied (on ∙ sym (ap bit (lowered.chosen number word is)))
-  chosen_on from index number word true None guard now lane low placed is_guard tied on less is some has = let s = some refl in absurd (none_is_some s.0 s.1)
+  chosen_on from index number word false row guard now lane low placed guarded tied on less is some has =
+      same_guard from index guard (core.chooses number word) now lane guarded tied (on ∙ sym (ap bit (lowered.chosen number word is)))
+  chosen_on from index number word true None guard now lane low placed guarded tied on less is some has = let s = some refl in absurd (none_is_some s.0 s.1)
     where
       none_is_some : (r : ℕ) → None ≡ Some r → ⊥
       none_is_some r e = cc
-  chosen_on from index number word true (Some row) guard now lane low placed is_guard tied on less is some has =
+  chosen_on from index number word true (Some row) guard now lane low placed guarded tied on less is some has =
       one_more from index guard (ops.chooses row number) (core.chooses number word) now lane low placed tied on ((lowered.row_is before pins row word lane has).2 number less is)
 
   chosen_off : (from index number : ℕ) (past : Bool) (row : Option ℕ) (guard : Expr) (now : Running M) (lane : Moment) → layout.lasting ≤ from → Lies p.temps from (chosen core ops layout number past row guard from).piece.widths → IsGuard layout from guard → T now lane → V lane guard ≡ 0
       → Choice from (chosen core ops layout number past row guard from) false index now lane
-  chosen_off from index number false row guard now lane low placed is_guard tied off = same_guard from index guard false now lane is_guard tied off
-  chosen_off from index number true None guard now lane low placed is_guard tied off = same_guard from index guard false now lane is_guard tied off
-  chosen_off from index number true (Some row) guard now lane low placed is_guard tied off = none_more from index guard (ops.chooses row number) now lane low placed tied off
+  chosen_off from index number false row guard now lane low placed guarded tied off = same_guard from index guard false now lane guarded tied off
+  chosen_off from index number true None guard now lane low placed guarded tied off = same_guard from index guard false now lane guarded tied off
+  chosen_off from index number true (Some row) guard now lane low placed guarded tied off = none_more from index guard (ops.chooses row number) now lane low placed tied off
 
   abbrev items_of : ℕ → Option ℕ → Expr → Acts → Builder
   items_of here row guard acts = active core ops layout here row guard acts
@@ -463,15 +463,15 @@ module _ {R M A B C D E : Type 0} (core : Core R M) (ops : Operations) (layout :
   item_rests : (same : Bool) (from index here number : ℕ) (past : Bool) (row : Option ℕ) (own : Acts) (guard : Expr) (now : Running M) (lane : Moment) → layout.lasting ≤ from → Lies p.temps from (item_by same here number past row own guard from).widths → IsGuard layout from guard → T now lane → V lane guard ≡ 0 → index ≤ number
       → ItemsRest (active core ops layout here (own_row core ops layout number past row) guard own) from guard number now
       → W from index now lane (G (item_by same here number past row own guard from).moves lane)
-  item_rests true from index here number past row own guard now lane low placed is_guard tied off few inner =
-      occurrence_rests (core.is_root number) from index number past row guard (active core ops layout here (own_row core ops layout number past row) guard own) now lane refl low placed is_guard tied off few inner
-  item_rests false from index here number past row own guard now lane low placed is_guard tied off few inner = none_recorded from index number guard now lane tied off
+  item_rests true from index here number past row own guard now lane low placed guarded tied off few inner =
+      occurrence_rests (core.is_root number) from index number past row guard (active core ops layout here (own_row core ops layout number past row) guard own) now lane refl low placed guarded tied off few inner
+  item_rests false from index here number past row own guard now lane low placed guarded tied off few inner = none_recorded from index number guard now lane tied off
 
   pub active_rests : (here : ℕ) (row : Option ℕ) (acts : Acts) (above from index : ℕ) (inside : Bool) (guard : Expr) (now : Running M) (lane : Moment) → IsGoodTree core root above inside index acts
       → layout.lasting ≤ from → Lies p.temps from (items_of here row guard acts from).widths → IsGuard layout from guard → T now lane → V lane guard ≡ 0
       → W from index now lane (G (items_of here row guard acts from).moves lane)
-  active_rests here row Done above from index inside guard now lane tree low placed is_guard tied off = went_here core ops layout p meant root before pins from index now lane tied
-  active_rests here row (Act number level past own rest) above from index inside guard now lane tree low placed is_guard tied off =
+  active_rests here row Done above from index inside guard now lane tree low placed guarded tied off = went_here core ops layout p meant root before pins from index now lane tied
+  active_rests here row (Act number level past own rest) above from index inside guard now lane tree low placed guarded tied off =
       let choose = chosen core ops layout number past row guard in
       let c = choose from in
       let same = nat_eq level here in
@@ -485,19 +485,19 @@ module _ {R M A B C D E : Type 0} (core : Core R M) (ops : Operations) (layout :
       let placed2 = lies_right p.temps from (c.piece.widths ++ item.widths) after.widths placed in
       let placed3 = lies_left p.temps from c.piece.widths item.widths placed1 in
       let placed4 = lies_right p.temps from c.piece.widths item.widths placed1 in
-      let choice = chosen_off from number number past row guard now lane low placed3 is_guard tied off in
+      let choice = chosen_off from number number past row guard now lane low placed3 guarded tied off in
       let lane1 = G c.piece.moves lane in
       let went2 : W base number now lane1 (G item.moves lane1) =
-      item_rests same base number here number past row own c.out now lane1 (omega (arith, low)) placed4 choice.is_guard choice.went.tied choice.is (omega arith)
-      (λ from' lane' more placed' tied' off'. active_rests here (own_row core ops layout number past row) own level from' (suc number) (past || core.is_root number) c.out now lane' (subst (λ (n : ℕ). IsGoodTree core root level (past || core.is_root number) (suc n) own) (sym tree.0) tree.4) (omega (arith, low, more)) placed' (guard_wider core ops layout p meant root before pins base from' c.out more choice.is_guard) tied' off') in
+      item_rests same base number here number past row own c.out now lane1 (omega (arith, low)) placed4 choice.guarded choice.went.tied choice.is (omega arith)
+      (λ from' lane' more placed' tied' off'. active_rests here (own_row core ops layout number past row) own level from' (suc number) (past || core.is_root number) c.out now lane' (subst (λ (n : ℕ). IsGoodTree core root level (past || core.is_root number) (suc n) own) (sym tree.0) tree.4) (omega (arith, low, more)) placed' (guard_wider core ops layout p meant root before pins base from' c.out more choice.guarded) tied' off') in
       let went1 : W from index now lane (G (first from).moves lane) =
       went_wider core ops layout p meant root before pins from from index number now lane (G (first from).moves lane) (omega arith) (omega (arith, tree.0))
       (went_bind core ops layout p meant root before pins from number now now choose user lane choice.went went2) in
       went_chain core ops layout p meant root before pins from index now now first (items_of here row guard rest) lane went1
       (went_wider core ops layout p meant root before pins base' base' index (suc (index + size own)) now (G (first from).moves lane) (G after.moves (G (first from).moves lane)) (omega arith) (omega arith)
-      (active_rests here row rest above base' (suc (index + size own)) inside guard now (G (first from).moves lane) tree.5 (omega (arith, low)) placed2 (guard_wider core ops layout p meant root before pins from base' guard (omega arith) is_guard) went1.tied
-      (guard_kept core ops layout p meant root before pins from index now lane (G (first from).moves lane) guard is_guard went1 ∙ off)))
-  active_rests here row (When number test taken other rest) above from index inside guard now lane tree low placed is_guard tied off =
+      (active_rests here row rest above base' (suc (index + size own)) inside guard now (G (first from).moves lane) tree.5 (omega (arith, low)) placed2 (guard_wider core ops layout p meant root before pins from base' guard (omega arith) guarded) went1.tied
+      (guard_kept core ops layout p meant root before pins from index now lane (G (first from).moves lane) guard guarded went1 ∙ off)))
+  active_rests here row (When number test taken other rest) above from index inside guard now lane tree low placed guarded tied off =
       let maker = ops.condition number test row in
       let c = maker from in
       let user2 = λ (holds taking : Expr). bind (holding 1 (both guard (none holds))) (λ leaving. chain (items_of here row taking taken) (items_of here row leaving other)) in
@@ -527,18 +527,18 @@ module _ {R M A B C D E : Type 0} (core : Core R M) (ops : Operations) (layout :
       let l = lowered.condition_leaves number test row from before pins now.moment lane (part from c.piece.widths now lane low placed3 tied) in
       let lane1 = G c.piece.moves lane in
       let went1 : W from index now lane lane1 = went_part core ops layout p meant root before pins from index now now lane lane1 tied l.0.keeps l.0.agrees refl refl refl (λ r w kept has. l.1 r w tt has) in
-      let off1 = guard_kept core ops layout p meant root before pins from index now lane lane1 guard is_guard went1 ∙ off in
+      let off1 = guard_kept core ops layout p meant root before pins from index now lane lane1 guard guarded went1 ∙ off in
       let choice1 = none_more base1 index guard c.out now lane1 (omega (arith, low)) placed5 went1.tied off1 in
       let lane2 = G (holding 1 (both guard c.out) base1).piece.moves lane1 in
-      let off2 = guard_kept core ops layout p meant root before pins base1 index now lane1 lane2 guard (guard_wider core ops layout p meant root before pins from base1 guard (omega arith) is_guard) choice1.went ∙ off1 in
+      let off2 = guard_kept core ops layout p meant root before pins base1 index now lane1 lane2 guard (guard_wider core ops layout p meant root before pins from base1 guard (omega arith) guarded) choice1.went ∙ off1 in
       let choice2 = none_more base2 index guard (none c.out) now lane2 (omega (arith, low)) placed7 choice1.went.tied off2 in
       let lane3 = G (holding 1 (both guard (none c.out)) base2).piece.moves lane2 in
-      let yes_off = guard_kept core ops layout p meant root before pins base2 index now lane2 lane3 taking choice1.is_guard choice2.went ∙ choice1.is in
-      let yes_guard = guard_wider core ops layout p meant root before pins base2 base3 taking (omega arith) choice1.is_guard in
+      let yes_off = guard_kept core ops layout p meant root before pins base2 index now lane2 lane3 taking choice1.guarded choice2.went ∙ choice1.is in
+      let yes_guard = guard_wider core ops layout p meant root before pins base2 base3 taking (omega arith) choice1.guarded in
       let went4 = active_rests here row taken above base3 index inside taking now lane3 tree.0 (omega (arith, low)) placed9 yes_guard choice2.went.tied yes_off in
       let lane4 = G one.moves lane3 in
-      let no_off = guard_kept core ops layout p meant root before pins base3 index now lane3 lane4 leaving choice2.is_guard went4 ∙ choice2.is in
-      let went5 = active_rests here row other above base4 (index + size taken) inside leaving now lane4 tree.1 (omega (arith, low)) placed10 (guard_wider core ops layout p meant root before pins base3 base4 leaving (omega arith) choice2.is_guard) went4.tied no_off in
+      let no_off = guard_kept core ops layout p meant root before pins base3 index now lane3 lane4 leaving choice2.guarded went4 ∙ choice2.is in
+      let went5 = active_rests here row other above base4 (index + size taken) inside leaving now lane4 tree.1 (omega (arith, low)) placed10 (guard_wider core ops layout p meant root before pins base3 base4 leaving (omega arith) choice2.guarded) went4.tied no_off in
       let went45 : W base3 index now lane3 (G (chain (items_of here row taking taken) (items_of here row leaving other) base3).moves lane3) =
       went_chain core ops layout p meant root before pins base3 index now now (items_of here row taking taken) (items_of here row leaving other) lane3 went4
       (went_wider core ops layout p meant root before pins base4 base4 index (index + size taken) now lane4 (G two.moves lane4) (omega arith) (omega arith) went5) in
@@ -548,8 +548,8 @@ module _ {R M A B C D E : Type 0} (core : Core R M) (ops : Operations) (layout :
       (went_bind core ops layout p meant root before pins base2 index now now (holding 1 (both guard (none c.out))) (λ leaving. chain (items_of here row taking taken) (items_of here row leaving other)) lane2 choice2.went went45)) in
       went_chain core ops layout p meant root before pins from index now now first (items_of here row guard rest) lane went_first
       (went_wider core ops layout p meant root before pins base' base' index (index + (size taken + size other)) now (G (first from).moves lane) (G after.moves (G (first from).moves lane)) (omega arith) (omega arith)
-      (active_rests here row rest above base' (index + (size taken + size other)) inside guard now (G (first from).moves lane) tree.2 (omega (arith, low)) placed2 (guard_wider core ops layout p meant root before pins from base' guard (omega arith) is_guard) went_first.tied
-      (guard_kept core ops layout p meant root before pins from index now lane (G (first from).moves lane) guard is_guard went_first ∙ off)))
+      (active_rests here row rest above base' (index + (size taken + size other)) inside guard now (G (first from).moves lane) tree.2 (omega (arith, low)) placed2 (guard_wider core ops layout p meant root before pins from base' guard (omega arith) guarded) went_first.tied
+      (guard_kept core ops layout p meant root before pins from index now lane (G (first from).moves lane) guard guarded went_first ∙ off)))
 
   -- ---- what runs under a guard that is 1
 
@@ -568,9 +568,9 @@ module _ {R M A B C D E : Type 0} (core : Core R M) (ops : Operations) (layout :
       → Runs core ops layout p meant number (own_word core number past word now)
       → (same ≡ true → ItemsRun (active core ops layout here (own_row core ops layout number past row) guard own) from guard number (own_row core ops layout number past row) (own_word core number past word now) (behavior core number (own_word core number past word now) now) (run core here (own_word core number past word now) own (behavior core number (own_word core number past word now) now)))
       → W from index (then_by same here number past word own now) lane (G (item_by same here number past row own guard from).moves lane)
-  item_runs true from index here number word past row own guard now lane low placed is_guard tied on few at has kept runs inner =
-      occurrence_went (core.is_root number) from index number word past row guard (active core ops layout here (own_row core ops layout number past row) guard own) now (run core here (own_word core number past word now) own (behavior core number (own_word core number past word now) now)) lane refl low placed is_guard tied on few has kept runs (inner refl)
-  item_runs false from index here number word past row own guard now lane low placed is_guard tied on few at has kept runs inner =
+  item_runs true from index here number word past row own guard now lane low placed guarded tied on few at has kept runs inner =
+      occurrence_went (core.is_root number) from index number word past row guard (active core ops layout here (own_row core ops layout number past row) guard own) now (run core here (own_word core number past word now) own (behavior core number (own_word core number past word now) now)) lane refl low placed guarded tied on few has kept runs (inner refl)
+  item_runs false from index here number word past row own guard now lane low placed guarded tied on few at has kept runs inner =
       one_recorded from index number here (word_below past word) guard now lane runs.0 at tied on
 
   abbrev RowFor : ℕ → Bool → Option ℕ → Type 0
@@ -601,8 +601,8 @@ module _ {R M A B C D E : Type 0} (core : Core R M) (ops : Operations) (layout :
       → (on ≡ true → W from index (then_by same here number past word own now) lane (G (item_by same here number past row own guard from).moves lane))
       → (on ≡ false → W from index now lane (G (item_by same here number past row own guard from).moves lane))
       → W from index (cond on (then_by same here number past word own now) now) lane (G (item_by same here number past row own guard from).moves lane)
-  item_either true same from index here number word past row own guard now lane low placed is_guard tied is few taking leaving = taking refl
-  item_either false same from index here number word past row own guard now lane low placed is_guard tied is few taking leaving = leaving refl
+  item_either true same from index here number word past row own guard now lane low placed guarded tied is few taking leaving = taking refl
+  item_either false same from index here number word past row own guard now lane low placed guarded tied is few taking leaving = leaving refl
 
   branch_either : (on : Bool) (from index : ℕ) (first second : Builder) (now a b : Running M) (lane : Moment)
       → (on ≡ true → W from index a lane (G (chain first second from).moves lane)) → (on ≡ false → W from index b lane (G (chain first second from).moves lane))
@@ -614,8 +614,8 @@ module _ {R M A B C D E : Type 0} (core : Core R M) (ops : Operations) (layout :
       → layout.lasting ≤ from → Lies p.temps from (items_of here row guard acts from).widths → IsGuard layout from guard → T now lane → V lane guard ≡ 1
       → RowFor index inside row → RowHas meant row word lane → Runs core ops layout p meant owner word
       → W from index (run core here word acts now) lane (G (items_of here row guard acts from).moves lane)
-  active_runs here row Done from index owner word inside guard now lane tree owned below low placed is_guard tied on row_for has runs = went_here core ops layout p meant root before pins from index now lane tied
-  active_runs here row (Act number level past own rest) from index owner word inside guard now lane tree owned below low placed is_guard tied on row_for has runs =
+  active_runs here row Done from index owner word inside guard now lane tree owned below low placed guarded tied on row_for has runs = went_here core ops layout p meant root before pins from index now lane tied
+  active_runs here row (Act number level past own rest) from index owner word inside guard now lane tree owned below low placed guarded tied on row_for has runs =
       let good = tree.1 in
       let choose = chosen core ops layout number past row guard in
       let c = choose from in
@@ -631,35 +631,35 @@ module _ {R M A B C D E : Type 0} (core : Core R M) (ops : Operations) (layout :
       let placed3 = lies_left p.temps from c.piece.widths item.widths placed1 in
       let placed4 = lies_right p.temps from c.piece.widths item.widths placed1 in
       let less : number < suc (size core.acts) = omega (arith, tree.0, below) in
-      let choice = chosen_on from number number word past row guard now lane low placed3 is_guard tied on less good.past_is (λ is. row_for.0 (tree.2 is)) has in
+      let choice = chosen_on from number number word past row guard now lane low placed3 guarded tied on less good.past_is (λ is. row_for.0 (tree.2 is)) has in
       let on_chosen = core.chooses number word in
       let lane1 = G c.piece.moves lane in
       let up : (r : ℕ) → row ≡ Some r → Kept number r = λ r e is. let k = row_for.1 r e is in omega (arith, k, tree.0) in
       let has1 : RowHas meant row word lane1 = row_kept core ops layout p meant root before pins from number now lane lane1 row word up choice.went has in
       let taking = λ (chosen_is : on_chosen ≡ true).
       let mine_runs = own_runs number word past now (core.is_root number) refl less good.past_is (not_root number past inside tree.2 tree.3) (λ is. (good.chosen is word chosen_is, chosen_is)) in
-      item_runs same base number here number word past row own c.out now lane1 (omega (arith, low)) placed4 choice.is_guard choice.went.tied (choice.is ∙ ap bit chosen_is) (omega arith) good.above_is (λ is. has1) up mine_runs
+      item_runs same base number here number word past row own c.out now lane1 (omega (arith, low)) placed4 choice.guarded choice.went.tied (choice.is ∙ ap bit chosen_is) (omega arith) good.above_is (λ is. has1) up mine_runs
       (λ same_is from' lane' more placed' tied' on' has'.
       let level_is : level ≡ here = eqb-true level here same_is in
       active_runs here (own_row core ops layout number past row) own from' (suc number) number (own_word core number past word now) (past || core.is_root number) c.out (behavior core number (own_word core number past word now) now) lane'
       (subst (λ (l : ℕ). IsGoodTree core root l (past || core.is_root number) (suc number) own) level_is (subst (λ (n : ℕ). IsGoodTree core root level (past || core.is_root number) (suc n) own) (sym tree.0) tree.4))
-      owned.0 (omega (arith, tree.0, below)) (omega (arith, low, more)) placed' (guard_wider core ops layout p meant root before pins base from' c.out more choice.is_guard) tied' on'
+      owned.0 (omega (arith, tree.0, below)) (omega (arith, low, more)) placed' (guard_wider core ops layout p meant root before pins base from' c.out more choice.guarded) tied' on'
       (own_row_for number index past inside row (core.is_root number) refl tree.2 (omega (arith, tree.0)) row_for) has' mine_runs) in
       let leaving = λ (chosen_is : on_chosen ≡ false).
-      item_rests same base number here number past row own c.out now lane1 (omega (arith, low)) placed4 choice.is_guard choice.went.tied (choice.is ∙ ap bit chosen_is) (omega arith)
-      (λ from' lane' more placed' tied' off'. active_rests here (own_row core ops layout number past row) own level from' (suc number) (past || core.is_root number) c.out now lane' (subst (λ (n : ℕ). IsGoodTree core root level (past || core.is_root number) (suc n) own) (sym tree.0) tree.4) (omega (arith, low, more)) placed' (guard_wider core ops layout p meant root before pins base from' c.out more choice.is_guard) tied' off') in
+      item_rests same base number here number past row own c.out now lane1 (omega (arith, low)) placed4 choice.guarded choice.went.tied (choice.is ∙ ap bit chosen_is) (omega arith)
+      (λ from' lane' more placed' tied' off'. active_rests here (own_row core ops layout number past row) own level from' (suc number) (past || core.is_root number) c.out now lane' (subst (λ (n : ℕ). IsGoodTree core root level (past || core.is_root number) (suc n) own) (sym tree.0) tree.4) (omega (arith, low, more)) placed' (guard_wider core ops layout p meant root before pins base from' c.out more choice.guarded) tied' off') in
       let middle = cond on_chosen (then_by same here number past word own now) now in
-      let went2 : W base number middle lane1 (G item.moves lane1) = item_either on_chosen same base number here number word past row own c.out now lane1 (omega (arith, low)) placed4 choice.is_guard choice.went.tied choice.is (omega arith) taking leaving in
+      let went2 : W base number middle lane1 (G item.moves lane1) = item_either on_chosen same base number here number word past row own c.out now lane1 (omega (arith, low)) placed4 choice.guarded choice.went.tied choice.is (omega arith) taking leaving in
       let went1 : W from index middle lane (G (first from).moves lane) =
       went_wider core ops layout p meant root before pins from from index number middle lane (G (first from).moves lane) (omega arith) (omega (arith, tree.0))
       (went_bind core ops layout p meant root before pins from number now middle choose user lane choice.went went2) in
       went_chain core ops layout p meant root before pins from index middle (run core here word rest middle) first (items_of here row guard rest) lane went1
       (went_wider core ops layout p meant root before pins base' base' index (suc (index + size own)) (run core here word rest middle) (G (first from).moves lane) (G after.moves (G (first from).moves lane)) (omega arith) (omega arith)
-      (active_runs here row rest base' (suc (index + size own)) owner word inside guard middle (G (first from).moves lane) tree.5 owned.1 (omega (arith, below)) (omega (arith, low)) placed2 (guard_wider core ops layout p meant root before pins from base' guard (omega arith) is_guard) went1.tied
-      (guard_kept core ops layout p meant root before pins from index middle lane (G (first from).moves lane) guard is_guard went1 ∙ on)
+      (active_runs here row rest base' (suc (index + size own)) owner word inside guard middle (G (first from).moves lane) tree.5 owned.1 (omega (arith, below)) (omega (arith, low)) placed2 (guard_wider core ops layout p meant root before pins from base' guard (omega arith) guarded) went1.tied
+      (guard_kept core ops layout p meant root before pins from index middle lane (G (first from).moves lane) guard guarded went1 ∙ on)
       (row_for.0, λ r e is. let k = row_for.1 r e is in omega (arith, k))
       (row_kept core ops layout p meant root before pins from index middle lane (G (first from).moves lane) row word row_for.1 went1 has) runs))
-  active_runs here row (When number test taken other rest) from index owner word inside guard now lane tree owned below low placed is_guard tied on row_for has runs =
+  active_runs here row (When number test taken other rest) from index owner word inside guard now lane tree owned below low placed guarded tied on row_for has runs =
       let maker = ops.condition number test row in
       let c = maker from in
       let user2 = λ (holds taking : Expr). bind (holding 1 (both guard (none holds))) (λ leaving. chain (items_of here row taking taken) (items_of here row leaving other)) in
@@ -692,15 +692,15 @@ module _ {R M A B C D E : Type 0} (core : Core R M) (ops : Operations) (layout :
       let lane1 = G c.piece.moves lane in
       let is1 : V lane1 c.out ≡ bit holds = lowered.condition_is number test row from before pins now.moment lane word here_part has (subst (λ (n : ℕ). Runs core ops layout p meant n word) (sym owned.0) runs) in
       let went1 : W from index now lane lane1 = went_part core ops layout p meant root before pins from index now now lane lane1 tied l.0.keeps l.0.agrees refl refl refl (λ r w kept h. l.1 r w tt h) in
-      let on1 = guard_kept core ops layout p meant root before pins from index now lane lane1 guard is_guard went1 ∙ on in
+      let on1 = guard_kept core ops layout p meant root before pins from index now lane lane1 guard guarded went1 ∙ on in
       let choice1 = one_more base1 index guard c.out holds now lane1 (omega (arith, low)) placed5 went1.tied on1 is1 in
       let lane2 = G (holding 1 (both guard c.out) base1).piece.moves lane1 in
-      let on2 = guard_kept core ops layout p meant root before pins base1 index now lane1 lane2 guard (guard_wider core ops layout p meant root before pins from base1 guard (omega arith) is_guard) choice1.went ∙ on1 in
+      let on2 = guard_kept core ops layout p meant root before pins base1 index now lane1 lane2 guard (guard_wider core ops layout p meant root before pins from base1 guard (omega arith) guarded) choice1.went ∙ on1 in
       let is2 = guard_kept core ops layout p meant root before pins base1 index now lane1 lane2 c.out l.2 choice1.went ∙ is1 in
       let choice2 = one_more base2 index guard (none c.out) (not holds) now lane2 (omega (arith, low)) placed7 choice1.went.tied on2 (none_is p before pins lane2 c.out holds is2) in
       let lane3 = G (holding 1 (both guard (none c.out)) base2).piece.moves lane2 in
-      let yes_is = guard_kept core ops layout p meant root before pins base2 index now lane2 lane3 taking choice1.is_guard choice2.went ∙ choice1.is in
-      let yes_guard = guard_wider core ops layout p meant root before pins base2 base3 taking (omega arith) choice1.is_guard in
+      let yes_is = guard_kept core ops layout p meant root before pins base2 index now lane2 lane3 taking choice1.guarded choice2.went ∙ choice1.is in
+      let yes_guard = guard_wider core ops layout p meant root before pins base2 base3 taking (omega arith) choice1.guarded in
       let has3 = row_kept core ops layout p meant root before pins base2 index now lane2 lane3 row word row_for.1 choice2.went (row_kept core ops layout p meant root before pins base1 index now lane1 lane2 row word row_for.1 choice1.went (row_kept core ops layout p meant root before pins from index now lane lane1 row word row_for.1 went1 has)) in
       let row_later : RowFor (index + size taken) inside row = (row_for.0, λ r e is. let k = row_for.1 r e is in omega (arith, k)) in
       let lane4 = G one.moves lane3 in
@@ -711,23 +711,23 @@ module _ {R M A B C D E : Type 0} (core : Core R M) (ops : Operations) (layout :
       branch_either holds base3 index (items_of here row taking taken) (items_of here row leaving other) now yes_run no_run lane3
       (λ it.
       let went4 = active_runs here row taken base3 index owner word inside taking now lane3 tree.0 owned.1 (omega (arith, below)) (omega (arith, low)) placed9 yes_guard choice2.went.tied (yes_is ∙ ap bit it) row_for has3 runs in
-      let no_off = guard_kept core ops layout p meant root before pins base3 index yes_run lane3 lane4 leaving choice2.is_guard went4 ∙ choice2.is ∙ ap (λ (b : Bool). bit (not b)) it in
+      let no_off = guard_kept core ops layout p meant root before pins base3 index yes_run lane3 lane4 leaving choice2.guarded went4 ∙ choice2.is ∙ ap (λ (b : Bool). bit (not b)) it in
       went_chain core ops layout p meant root before pins base3 index yes_run yes_run (items_of here row taking taken) (items_of here row leaving other) lane3 went4
       (went_wider core ops layout p meant root before pins base4 base4 index (index + size taken) yes_run lane4 (G two.moves lane4) (omega arith) (omega arith)
-      (active_rests here row other here base4 (index + size taken) inside leaving yes_run lane4 tree.1 (omega (arith, low)) placed10 (guard_wider core ops layout p meant root before pins base3 base4 leaving (omega arith) choice2.is_guard) went4.tied no_off)))
+      (active_rests here row other here base4 (index + size taken) inside leaving yes_run lane4 tree.1 (omega (arith, low)) placed10 (guard_wider core ops layout p meant root before pins base3 base4 leaving (omega arith) choice2.guarded) went4.tied no_off)))
       (λ it.
       let went4 = active_rests here row taken here base3 index inside taking now lane3 tree.0 (omega (arith, low)) placed9 yes_guard choice2.went.tied (yes_is ∙ ap bit it) in
-      let no_on = guard_kept core ops layout p meant root before pins base3 index now lane3 lane4 leaving choice2.is_guard went4 ∙ choice2.is ∙ ap (λ (b : Bool). bit (not b)) it in
+      let no_on = guard_kept core ops layout p meant root before pins base3 index now lane3 lane4 leaving choice2.guarded went4 ∙ choice2.is ∙ ap (λ (b : Bool). bit (not b)) it in
       went_chain core ops layout p meant root before pins base3 index now no_run (items_of here row taking taken) (items_of here row leaving other) lane3 went4
       (went_wider core ops layout p meant root before pins base4 base4 index (index + size taken) no_run lane4 (G two.moves lane4) (omega arith) (omega arith)
-      (active_runs here row other base4 (index + size taken) owner word inside leaving now lane4 tree.1 owned.2 (omega (arith, below)) (omega (arith, low)) placed10 (guard_wider core ops layout p meant root before pins base3 base4 leaving (omega arith) choice2.is_guard) went4.tied no_on row_later (row_kept core ops layout p meant root before pins base3 index now lane3 lane4 row word row_for.1 went4 has3) runs))) in
+      (active_runs here row other base4 (index + size taken) owner word inside leaving now lane4 tree.1 owned.2 (omega (arith, below)) (omega (arith, low)) placed10 (guard_wider core ops layout p meant root before pins base3 base4 leaving (omega arith) choice2.guarded) went4.tied no_on row_later (row_kept core ops layout p meant root before pins base3 index now lane3 lane4 row word row_for.1 went4 has3) runs))) in
       let went_first : W from index middle lane (G (first from).moves lane) =
       went_bind core ops layout p meant root before pins from index now middle maker user1 lane went1
       (went_bind core ops layout p meant root before pins base1 index now middle (holding 1 (both guard c.out)) (user2 c.out) lane1 choice1.went
       (went_bind core ops layout p meant root before pins base2 index now middle (holding 1 (both guard (none c.out))) (λ leaving. chain (items_of here row taking taken) (items_of here row leaving other)) lane2 choice2.went went45)) in
       went_chain core ops layout p meant root before pins from index middle (run core here word rest middle) first (items_of here row guard rest) lane went_first
       (went_wider core ops layout p meant root before pins base' base' index (index + (size taken + size other)) (run core here word rest middle) (G (first from).moves lane) (G after.moves (G (first from).moves lane)) (omega arith) (omega arith)
-      (active_runs here row rest base' (index + (size taken + size other)) owner word inside guard middle (G (first from).moves lane) tree.2 owned.3 (omega (arith, below)) (omega (arith, low)) placed2 (guard_wider core ops layout p meant root before pins from base' guard (omega arith) is_guard) went_first.tied
-      (guard_kept core ops layout p meant root before pins from index middle lane (G (first from).moves lane) guard is_guard went_first ∙ on)
+      (active_runs here row rest base' (index + (size taken + size other)) owner word inside guard middle (G (first from).moves lane) tree.2 owned.3 (omega (arith, below)) (omega (arith, low)) placed2 (guard_wider core ops layout p meant root before pins from base' guard (omega arith) guarded) went_first.tied
+      (guard_kept core ops layout p meant root before pins from index middle lane (G (first from).moves lane) guard guarded went_first ∙ on)
       (row_for.0, λ r e is. let k = row_for.1 r e is in omega (arith, k))
       (row_kept core ops layout p meant root before pins from index middle lane (G (first from).moves lane) row word row_for.1 went_first has) runs))

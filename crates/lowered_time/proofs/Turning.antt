@@ -165,8 +165,8 @@ module _ {R M A B C D E : Type 0} (core : Core R M) (sound : IsSound core) (ops 
       let lane1 = G (maker from).piece.moves lane in
       went_bind core ops layout p meant root before pins from index now now maker user lane c.went
       (went_wider core ops layout p meant root before pins base base index number now lane1 (G rest.moves lane1) (omega arith) few
-      (occurrence_rests core ops layout p meant root before pins lowered laid.lasts enough sound.one_root (core.is_root number) base number number past' (Some (row_of core ops layout level)) (Temp from) (active core ops layout level (own_row core ops layout number past' (Some (row_of core ops layout level))) (Temp from) own) now lane1 refl (omega (arith, low)) placed2 c.is_guard c.went.tied c.is (omega arith)
-      (λ from' lane' more placed' tied' off'. active_rests core ops layout p meant root before pins lowered laid.lasts enough sound.one_root level (own_row core ops layout number past' (Some (row_of core ops layout level))) own own_level from' (suc number) (past' || core.is_root number) (Temp from) now lane' tree (omega (arith, low, more)) placed' (guard_wider core ops layout p meant root before pins base from' (Temp from) more c.is_guard) tied' off')))
+      (occurrence_rests core ops layout p meant root before pins lowered laid.lasts enough sound.one_root (core.is_root number) base number number past' (Some (row_of core ops layout level)) (Temp from) (active core ops layout level (own_row core ops layout number past' (Some (row_of core ops layout level))) (Temp from) own) now lane1 refl (omega (arith, low)) placed2 c.guarded c.went.tied c.is (omega arith)
+      (λ from' lane' more placed' tied' off'. active_rests core ops layout p meant root before pins lowered laid.lasts enough sound.one_root level (own_row core ops layout number past' (Some (row_of core ops layout level))) own own_level from' (suc number) (past' || core.is_root number) (Temp from) now lane' tree (omega (arith, low, more)) placed' (guard_wider core ops layout p meant root before pins base from' (Temp from) more c.guarded) tied' off')))
 
   abbrev turn_by : Bool → ℕ → ℕ → ℕ → Bool → Acts → Builder
   turn_by here above own_level number past' own = cond here (due core ops layout level number past' own (waits core ops layout level above number)) (turn_of core ops layout level own_level own)
@@ -250,8 +250,8 @@ module _ {R M A B C D E : Type 0} (core : Core R M) (sound : IsSound core) (ops 
       let lane1 = G (maker from).piece.moves lane in
       went_bind core ops layout p meant root before pins from index now now maker user lane c.went
       (went_wider core ops layout p meant root before pins base base index number now lane1 (G rest.moves lane1) (omega arith) few
-      (occurrence_rests core ops layout p meant root before pins lowered laid.lasts enough sound.one_root (core.is_root number) base number number past' (Some (row_of core ops layout level)) (Temp from) (active core ops layout level (own_row core ops layout number past' (Some (row_of core ops layout level))) (Temp from) own) now lane1 refl (omega (arith, low)) placed2 c.is_guard c.went.tied c.is (omega arith)
-      (λ from' lane' more placed' tied' off'. active_rests core ops layout p meant root before pins lowered laid.lasts enough sound.one_root level (own_row core ops layout number past' (Some (row_of core ops layout level))) own level from' (suc number) (past' || core.is_root number) (Temp from) now lane' tree (omega (arith, low, more)) placed' (guard_wider core ops layout p meant root before pins base from' (Temp from) more c.is_guard) tied' off')))
+      (occurrence_rests core ops layout p meant root before pins lowered laid.lasts enough sound.one_root (core.is_root number) base number number past' (Some (row_of core ops layout level)) (Temp from) (active core ops layout level (own_row core ops layout number past' (Some (row_of core ops layout level))) (Temp from) own) now lane1 refl (omega (arith, low)) placed2 c.guarded c.went.tied c.is (omega arith)
+      (λ from' lane' more placed' tied' off'. active_rests core ops layout p meant root before pins lowered laid.lasts enough sound.one_root level (own_row core ops layout number past' (Some (row_of core ops layout level))) own level from' (suc number) (past' || core.is_root number) (Temp from) now lane' tree (omega (arith, low, more)) placed' (guard_wider core ops layout p meant root before pins base from' (Temp from) more c.guarded) tied' off')))
   due_runs true from index number above past' inside own (Some e) now lane is is_good so after tree owned below low placed tied on few has tests =
       let node : Node = record { number = number; above = above; level = level; past = past'; own = own } in
       let row = Some (row_of core ops layout level) in
@@ -277,9 +277,9 @@ module _ {R M A B C D E : Type 0} (core : Core R M) (sound : IsSound core) (ops 
       let row_for : (inside ≡ true → (r' : ℕ) × (row ≡ Some r')) × ((r' : ℕ) → row ≡ Some r' → IsRowKept core ops layout p meant root before pins number r') = ((λ e. (row_of core ops layout level, refl)), kept) in
       went_bind core ops layout p meant root before pins from index now end maker user lane c.went
       (went_wider core ops layout p meant root before pins base base index number end lane1 (G rest.moves lane1) (omega arith) few
-      (occurrence_went core ops layout p meant root before pins lowered laid.lasts enough sound.one_root (core.is_root number) base number number word past' row (Temp from) (active core ops layout level (own_row core ops layout number past' row) (Temp from) own) now end lane1 refl (omega (arith, low)) placed2 c.is_guard c.went.tied c.is (omega arith)
+      (occurrence_went core ops layout p meant root before pins lowered laid.lasts enough sound.one_root (core.is_root number) base number number word past' row (Temp from) (active core ops layout level (own_row core ops layout number past' row) (Temp from) own) now end lane1 refl (omega (arith, low)) placed2 c.guarded c.went.tied c.is (omega arith)
       (λ e. subst (λ (w : ℕ). HasRowWord meant (row_of core ops layout level) w lane1) (word_is e) has1) kept runs
-      (λ from' lane' more placed' tied' on' has'. active_runs core ops layout p meant root before pins lowered laid.lasts enough sound.one_root level (own_row core ops layout number past' row) own from' (suc number) number mine (past' || core.is_root number) (Temp from) begun lane' tree owned (omega (arith, below)) (omega (arith, low, more)) placed' (guard_wider core ops layout p meant root before pins base from' (Temp from) more c.is_guard) tied' on'
+      (λ from' lane' more placed' tied' on' has'. active_runs core ops layout p meant root before pins lowered laid.lasts enough sound.one_root level (own_row core ops layout number past' row) own from' (suc number) number mine (past' || core.is_root number) (Temp from) begun lane' tree owned (omega (arith, below)) (omega (arith, low, more)) placed' (guard_wider core ops layout p meant root before pins base from' (Temp from) more c.guarded) tied' on'
       (own_row_for core ops layout p meant root before pins lowered laid.lasts enough sound.one_root number number past' inside row (core.is_root number) refl so (omega arith) row_for) has' runs)))
     where
       apart : row_of core ops layout level ≡ root_row core ops layout → ⊥
