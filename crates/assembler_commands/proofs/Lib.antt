@@ -1,0 +1,6 @@
+mod ObjectFiles
+mod Digested
+mod Powers
+mod MemoryRules
+mod Linked
+mod ListingEnds

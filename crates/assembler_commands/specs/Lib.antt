@@ -1,0 +1,5 @@
+pub mod DescriptionObjects
+pub mod ObjectViews
+pub mod Links
+pub mod Listed
+pub mod Unlinked

@@ -1,0 +1,69 @@
+//! Pieces that are drafted: temps and steps are put behind those that are there.
+ghost use Rattle.std.specs.Prelude.{◌≡◌, ◌≤◌, IfOk, OnOk, [], ◌∷◌, length};
+ghost use Rattle.step_program.specs.Programs.{Temp, expr_tree, move_of};
+ghost use Rattle.step_pieces.specs.Pieces.{held, top, behind, nothing};
+ghost use Rattle.lowered_values.specs.Operands.{operand_of};
+ghost use Rattle.lowered_values.specs.Code.{made, plain, piece_of};
+
+use crate::operands::{Formula, Leaf, Source};
+use lisa_words::{NoMemory, Word};
+use std::alloc::Global;
+use step_program::{Step, StepExpr, Target};
+
+/// The widths of temps, from the first one on, and steps.
+#[derive(Debug, Drop)]
+pub struct Draft {
+    pub temps: Vec<u32>,
+    pub steps: Vec<Step>,
+}
+
+impl Draft {
+    /// A draft without temps and steps.
+    pub fn new(alloc: Global) -> Draft
+        ensures { piece_of result ≡ nothing }
+    {
+        Draft {
+            temps: Vec::new(alloc),
+            steps: Vec::new(alloc),
+        }
+    }
+
+    /// The number of the next temp. Where the program has as many temps as there are numbers, memory is wanting.
+    pub fn next(&self) -> Result<u32, NoMemory>
+        ensures { IfOk result (λ temp. temp ≡ length (piece_of self.now).widths) }
+    {
+        match u32::try_from(self.temps.len()) {
+            Ok(temp) => Ok(temp),
+            Err(_) => Err(NoMemory),
+        }
+    }
+
+    /// One temp more, which a step gives a value.
+    pub fn hold(&mut self, width: u32, value: StepExpr) -> Result<u32, NoMemory>
+        ensures draft { OnOk result (piece_of self.new ≡ held 0 (piece_of self.old) width (expr_tree value)) }
+        ensures temp { IfOk result (λ temp. temp ≡ top 0 (piece_of self.old)) }
+    {
+        let temp = self.next()?;
+        self.temps.push(width)?;
+        self.steps.push(Step {
+            guard: StepExpr::Const(Word { bits: 1, width: 1 }),
+            target: Target::Temp(temp),
+            value,
+        })?;
+        Ok(temp)
+    }
+}
+
+// One temp more, which holds what is made of operands.
+pub(crate) fn keep(draft: &mut Draft, formula: Formula) -> Result<Source, NoMemory>
+    ensures draft { OnOk result (piece_of draft.new ≡ held 0 (piece_of draft.old) (made formula).width (made formula).at) }
+    ensures out { IfOk result (λ x. plain x ≡ operand_of (made formula).kind (made formula).width (Temp (top 0 (piece_of draft.old)))) }
+{
+    let Formula { at, kind, width } = formula;
+    let temp = draft.hold(width, at)?;
+    Ok(Source {
+        at: Leaf::Temp(temp),
+        kind,
+        width,
+    })
+}
