@@ -39,12 +39,9 @@ IsForOther digest all end = (refusal : Refusal) × (end ≡ ends.Refused refusal
 
 pub one_other : (digest : List ℕ) (all : List PlainObject) (object : PlainObject) (rest : List PlainObject) (number : ℕ) → object.digest ≢ digest → HasDigests digest all (object ∷ rest) number
     → IsForOther digest all (ends.Refused (refusals.Object (objects.OtherDescription number object.digest digest)))
-one_other digest all object rest number other has = (
-  refusals.Object (objects.OtherDescription number object.digest digest),
-  refl,
-  object_refusal (objects.OtherDescription number object.digest digest) (λ e. cc),
-  has.other (refusals.Object (objects.OtherDescription number object.digest digest)) (inl (other, refl)),
-)
+one_other digest all object rest number other has =
+    (refusals.Object (objects.OtherDescription number object.digest digest), refl, object_refusal (objects.OtherDescription number object.digest digest) (λ e. cc),
+    has.other (refusals.Object (objects.OtherDescription number object.digest digest)) (inl (other, refl)))
 
 -- digests that are compared
 pub same_of : (a b : List ℕ) (t : Bool) → t ≡ not (bytes_eq a b) → t ≡ false → a ≡ b
@@ -72,7 +69,7 @@ digests_find unique digest files read (Ok all) are same other =
     (subst (AreObjectsFor digest files) (sym is) (are, same.1))
     (λ others for. is ∙ one_list unique files (trees_of read.items) others are for.0)
     (λ refusal wrong. ⊎_elim (λ u. none_unspelled files 1 (trees_of read.items) refusal are u)
-    (λ e. none_elsewhere digest 1 e.0 refusal (subst (HaveDigest digest) (one_list unique files (trees_of read.items) e.0 are e.1) same.1) e.2) wrong)
+        (λ e. none_elsewhere digest 1 e.0 refusal (subst (HaveDigest digest) (one_list unique files (trees_of read.items) e.0 are e.1) same.1) e.2) wrong)
 digests_find unique digest files read (Err end) are same other =
     subst (λ (e : End). Finds {X = Vec Object} (λ all. trees_of all.items) (AreObjectsFor digest files) (AreNoObjectsFor digest files) (Err e)) (sym other.1)
     (found_refused (λ (v : Vec Object). trees_of v.items) (AreObjectsFor digest files) (AreNoObjectsFor digest files) other.0 other.2 (inr (trees_of read.items, are, other.3))

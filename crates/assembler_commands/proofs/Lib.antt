@@ -4,3 +4,6 @@ mod Powers
 mod MemoryRules
 mod Linked
 mod ListingEnds
+mod LineCounts
+mod Sourced
+mod OneAnswer

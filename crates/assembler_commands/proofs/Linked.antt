@@ -42,8 +42,8 @@ unlinked_finds d objects f broken = ⊎_elim
     (λ m. subst (λ (e : End). Finds {X = List Memory} (λ image. image) (IsLinked d objects) (IsUnlinked d objects) (Err e)) (sym m) (found_memory (λ (i : List Memory). i) (IsLinked d objects) (IsUnlinked d objects)))
     (λ r. subst (λ (e : End). Finds {X = List Memory} (λ image. image) (IsLinked d objects) (IsUnlinked d objects) (Err e)) (sym r)
     (⊎_elim (λ w. absurd (wanted w r))
-    (λ b. found_refused (λ (i : List Memory). i) (IsLinked d objects) (IsUnlinked d objects) (refusals.Link f) (link_refusal f (λ e. wanted e r)) (f, b, refl)
-    (λ image linked. none_is_no_some _ (sym linked.whole ∙ b))) broken))
+        (λ b. found_refused (λ (i : List Memory). i) (IsLinked d objects) (IsUnlinked d objects) (refusals.Link f) (link_refusal f (λ e. wanted e r)) (f, b, refl)
+            (λ image linked. none_is_no_some _ (sym linked.whole ∙ b))) broken))
     (unlinked_is f)
   where
     wanted : f ≡ links.NoMemory → unlinked_end f ≡ ends.Refused (refusals.Link f) → ⊥

@@ -1,3 +1,4 @@
+pub mod Assembled
 pub mod DescriptionObjects
 pub mod ObjectViews
 pub mod Links

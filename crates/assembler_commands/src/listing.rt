@@ -75,7 +75,12 @@ fn check_memories(alloc: Global, machine: &Machine, image: &Image) -> Result<(),
 }
 
 // Writes the listing of an image.
-fn write_lines<O: Sink>(alloc: Global, tools: &Tools, image: &Image, out: &mut O) -> Result<(), End>
+fn write_lines<O: Sink>(
+    alloc: Global,
+    tools: &Tools,
+    image: &Image,
+    out: &mut O,
+) -> Result<(), End>
     requires { AreTools tools.now }
     ensures { Replies (IsListed (checked_of tools.now).tree image.now) (O.written out.old) (O.written out.new) (O.faults out.old) (O.faults out.new) result }
 {

@@ -49,11 +49,7 @@ pub(crate) fn memories_of(alloc: Global, machine: &Machine) -> Result<Vec<ArrayI
     let arrays = machine.arrays();
     let mut memories = Vec::new(alloc);
     for place in 0..arrays.len() {
-        push_marked(
-            &mut memories,
-            &arrays[place],
-            machine.is_memory(place as u32),
-        )?;
+        push_marked(&mut memories, &arrays[place], machine.is_memory(place as u32))?;
     }
     Ok(memories)
 }

@@ -7,6 +7,7 @@ use Rattle.lisa_outcomes.specs.RunFiles.{RunNames, run_files, image_limit}
 use Rattle.description_commands.specs.Descriptions.{description_limit}
 use Rattle.module_commands.specs.Clocks.{module_limit}
 use Rattle.assembler_commands.specs.Links.{object_limit}
+use Rattle.assembler_commands.specs.Assembled.{source_limit}
 use Rattle.engine_commands.specs.declared.tasks.Task.{Task}
 use Rattle.engine_commands.specs.declared.tasks.Task.TheVariants as tasks
 use Rattle.engine_commands.specs.Tasks.{takes_input}
@@ -16,6 +17,8 @@ pub data Request : Type 0 where
   -- description
   Format : List ℕ → Request
   Check : List ℕ → Request
+  -- description and source
+  Assemble : List ℕ → List ℕ → Request
   -- description and objects
   Link : List ℕ → List (List ℕ) → Request
   -- description and image
@@ -55,6 +58,7 @@ run_words names counts = names.main ∷ file_word names.image ∷ file_word name
 abbrev pub request_words : Request → List (List ℕ)
 request_words (Format description) = codes "fmt" ∷ description ∷ []
 request_words (Check description) = codes "check" ∷ description ∷ []
+request_words (Assemble description source) = codes "asm" ∷ description ∷ source ∷ []
 request_words (Link description objects) = codes "link" ∷ description ∷ objects
 request_words (Disassemble description image) = codes "dis" ∷ description ∷ image ∷ []
 request_words (Simulate task names) = simulator_word task ∷ run_words names (count_words task)
@@ -90,6 +94,7 @@ pub record AreObjectNames (objects : List (List ℕ)) : Type 0 where
 abbrev pub IsAllowed : Request → Type 0
 IsAllowed (Format description) = IsFileName description
 IsAllowed (Check description) = IsFileName description
+IsAllowed (Assemble description source) = IsFileName description × IsFileName source
 IsAllowed (Link description objects) = IsFileName description × AreObjectNames objects
 IsAllowed (Disassemble description image) = IsFileName description × IsFileName image
 IsAllowed (Simulate task names) = AreNames names × IsCounted task
@@ -99,6 +104,7 @@ IsAllowed (Clock task names) = AreNames names × IsCounted task
 abbrev pub files_of : Request → List NamedFile
 files_of (Format description) = named description description_limit ∷ []
 files_of (Check description) = named description description_limit ∷ []
+files_of (Assemble description source) = named description description_limit ∷ named source source_limit ∷ []
 files_of (Link description objects) = named description description_limit ∷ map (λ object. named object object_limit) objects
 files_of (Disassemble description image) = named description description_limit ∷ named image image_limit ∷ []
 files_of (Simulate task names) = run_files names description_limit
@@ -108,6 +114,7 @@ files_of (Clock task names) = run_files names module_limit
 abbrev pub reads_input : Request → Bool
 reads_input (Format description) = false
 reads_input (Check description) = false
+reads_input (Assemble description source) = false
 reads_input (Link description objects) = false
 reads_input (Disassemble description image) = false
 reads_input (Simulate task names) = takes_input task

@@ -15,7 +15,7 @@ ghost use Rattle.lisa_cli.specs.Gives.{Gives, GivesOver};
 ghost use Rattle.lisa_cli.specs.Worlds.{readings, IsGiven, IsHeard, HasFailed, IsCutOver, Blamed};
 
 use crate::requests::Command;
-use assembler_commands::{link_objects, list_image};
+use assembler_commands::{assemble_source, link_objects, list_image};
 use description_commands::{check_description, do_with_description, format_description};
 use lisa_io::{Files, Flush, Source};
 use lisa_outcomes::{End, NamedFile, RunNames, file_at, load_files, run_bytes};
@@ -26,6 +26,8 @@ use std::alloc::Global;
 const DESCRIPTION_LIMIT: u32 = 1_048_576;
 
 const MODULE_LIMIT: u32 = 134_217_728;
+
+const SOURCE_LIMIT: u32 = 4_194_304;
 
 const OBJECT_LIMIT: u32 = 50_331_648;
 
@@ -136,6 +138,10 @@ fn files_of<'a>(alloc: Global, command: &Command<'a>) -> Result<Vec<NamedFile<'a
     match command {
         Command::Format { description } => description_files(alloc, description),
         Command::Check { description } => description_files(alloc, description),
+        Command::Assemble {
+            description,
+            source,
+        } => two_files(alloc, description, source, SOURCE_LIMIT),
         Command::Link {
             description,
             objects,
@@ -178,6 +184,7 @@ fn perform_with<I: Source, O: Flush>(
     match command {
         Command::Format { .. } => format_description(alloc, file_at(all, 0), out),
         Command::Check { .. } => check_description(alloc, file_at(all, 0), out),
+        Command::Assemble { .. } => assemble_source(alloc, file_at(all, 0), file_at(all, 1), out),
         Command::Link { .. } => link_objects(alloc, file_at(all, 0), behind(all), out),
         Command::Disassemble { .. } => list_image(alloc, file_at(all, 0), file_at(all, 1), out),
         Command::Simulate { names, task } => {

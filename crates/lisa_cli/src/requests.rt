@@ -6,7 +6,7 @@ ghost use Rattle.lisa_outcomes.specs.RunFiles.{RunNames as TheNames};
 ghost use Rattle.lisa_outcomes.specs.RunViews.{names_of};
 ghost use Rattle.engine_commands.specs.declared.tasks.Task.{Task as TheTask};
 ghost use Rattle.engine_commands.specs.declared.tasks.Task.TheVariants.{Answers};
-ghost use Rattle.lisa_cli.specs.Requests.{Request, Link, Disassemble, Simulate, Clock, Asks, AreObjectNames, IsFileName, IsAnyName, AreNames, IsCounted, file_word, simulator_word, is_simulator_word, clock_word, count_words, run_words};
+ghost use Rattle.lisa_cli.specs.Requests.{Request, Assemble, Link, Disassemble, Simulate, Clock, Asks, AreObjectNames, IsFileName, IsAnyName, AreNames, IsCounted, file_word, simulator_word, is_simulator_word, clock_word, count_words, run_words};
 ghost use Rattle.lisa_cli.specs.Asked.{request_of};
 
 use engine_commands::Task;
@@ -17,12 +17,13 @@ use lisa_words::canonical_decimal;
 #[derive(Clone, Copy, Debug)]
 pub enum Command<'a> {
     /// `fmt DESC`
-    Format {
-        description: &'a str,
-    },
+    Format { description: &'a str },
     /// `check DESC`
-    Check {
+    Check { description: &'a str },
+    /// `asm DESC SOURCE`
+    Assemble {
         description: &'a str,
+        source: &'a str,
     },
     /// `link DESC OBJECT ..`
     Link {
@@ -35,15 +36,9 @@ pub enum Command<'a> {
         image: &'a str,
     },
     /// `run DESC IMAGE SCHED N`, `trace DESC IMAGE SCHED N` or `debug DESC IMAGE SCHED`
-    Simulate {
-        names: RunNames<'a>,
-        task: Task,
-    },
+    Simulate { names: RunNames<'a>, task: Task },
     /// `clock VFILE IMAGE SCHED N`, `clocktrace VFILE IMAGE SCHED N` or `vdebug VFILE IMAGE SCHED`
-    Clock {
-        names: RunNames<'a>,
-        task: Task,
-    },
+    Clock { names: RunNames<'a>, task: Task },
 }
 
 // A word that names a file.
@@ -106,7 +101,7 @@ fn check_command(operands: &[String]) -> Option<Command<'_>>
 // The names of two files.
 fn two_files(operands: &[String]) -> Option<(&str, &str)>
     ensures found { IfSome result (λ n. (map string_bytes operands.now ≡ n.0.now ∷ n.1.now ∷ []) × IsFileName n.0.now × IsFileName n.1.now) }
-    ensures only { (x y : List ℕ) → map string_bytes operands.now ≡ x ∷ y ∷ [] → IsFileName x → IsFileName y → option_map {U = List ℕ × List ℕ} (λ n. (n.0.now, n.1.now)) result ≡ Some (x, y) }
+    ensures only { (x y : List ℕ) → map string_bytes operands.now ≡ x ∷ y ∷ [] → IsFileName x → IsFileName y → option_map (λ n. (n.0.now, n.1.now)) result ≡ Some (x, y) }
 {
     let [first, second] = operands else {
         return None;
@@ -114,6 +109,18 @@ fn two_files(operands: &[String]) -> Option<(&str, &str)>
     let first = file_name(first.as_str())?;
     let second = file_name(second.as_str())?;
     Some((first, second))
+}
+
+// The operands of `asm`.
+fn assemble_command(operands: &[String]) -> Option<Command<'_>>
+    ensures found { IfSome result (λ c. Asks (codes "asm" ∷ map string_bytes operands.now) (request_of c)) }
+    ensures only { (r : Request) → Asks (codes "asm" ∷ map string_bytes operands.now) r → option_map request_of result ≡ Some r }
+{
+    let (description, source) = two_files(operands)?;
+    Some(Command::Assemble {
+        description,
+        source,
+    })
 }
 
 // The operands of `dis`.
@@ -289,6 +296,7 @@ fn clock_command<'a>(command: &str, operands: &'a [String]) -> Option<Command<'a
 fn task_command<'a>(command: &str, operands: &'a [String]) -> Option<Command<'a>>
     requires fmt { command.now ≢ codes "fmt" }
     requires check { command.now ≢ codes "check" }
+    requires asm { command.now ≢ codes "asm" }
     requires link { command.now ≢ codes "link" }
     requires dis { command.now ≢ codes "dis" }
     ensures found { IfSome result (λ c. Asks (command.now ∷ map string_bytes operands.now) (request_of c)) }
@@ -312,6 +320,7 @@ pub fn request(words: &[String]) -> Option<Command<'_>>
     match command.as_str() {
         "fmt" => format_command(operands),
         "check" => check_command(operands),
+        "asm" => assemble_command(operands),
         "link" => link_command(operands),
         "dis" => disassemble_command(operands),
         other => task_command(other, operands),

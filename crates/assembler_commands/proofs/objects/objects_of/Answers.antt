@@ -10,16 +10,16 @@ pub returns-in-Err : goal.returns-in-Err
 returns-in-Err c =
     let files = c.args.files.now in
     let left : drop c.loop-place.place files ≡ c.index-files-place.result ∷ drop (c.loop-place.place + 1) files =
-    drop_more files c.loop-place.place c.index-files-place.result (omega arith) ∙ ap (λ (x : Vec ℕ). x ∷ drop (c.loop-place.place + 1) files) (sym c.index-files-place.is) in
+        drop_more files c.loop-place.place c.index-files-place.result (omega arith) ∙ ap (λ (x : Vec ℕ). x ∷ drop (c.loop-place.place + 1) files) (sym c.index-files-place.is) in
     next_unread (texts_of files) _ _ _ _ c.in-Err.end (rw left at c.loop-place.invariant) (rw c.deref.ensures.value at c.in-Err.ensures)
 
 pub loop-place-preserved : goal.loop-place-preserved
 loop-place-preserved c =
     let files = c.args.files.now in
     let left : drop c.loop-place.place files ≡ c.index-files-place.result ∷ drop (c.loop-place.place + 1) files =
-    drop_more files c.loop-place.place c.index-files-place.result (omega arith) ∙ ap (λ (x : Vec ℕ). x ∷ drop (c.loop-place.place + 1) files) (sym c.index-files-place.is) in
+        drop_more files c.loop-place.place c.index-files-place.result (omega arith) ∙ ap (λ (x : Vec ℕ). x ∷ drop (c.loop-place.place + 1) files) (sym c.index-files-place.is) in
     let more : trees_of c.push.new.self.items ≡ trees_of c.loop-place.all.items ++ (object_tree c.in-Ok.object ∷ []) =
-    ap trees_of c.in-Ok-push.ensures.items ∙ map-append object_tree c.loop-place.all.items (c.in-Ok.object ∷ []) in
+        ap trees_of c.in-Ok-push.ensures.items ∙ map-append object_tree c.loop-place.all.items (c.in-Ok.object ∷ []) in
     rw more (one_more (texts_of files) _ _ _ _ _ (rw c.deref.ensures.value at c.in-Ok.ensures).found (rw left at c.loop-place.invariant))
 
 pub returns : goal.returns

@@ -15,6 +15,10 @@ returns-in-Simulate-clause-ends g c = rw c.in-Simulate.is (rw c.run_bytes.ensure
 pub returns-in-Clock-clause-ends : goal.returns-in-Clock-clause-ends
 returns-in-Clock-clause-ends g c = rw c.in-Clock.is (rw c.run_bytes-in-Clock.ensures at c.do_with_module.ensures.ends)
 
+pub returns-in-Assemble-clause-ends : goal.returns-in-Assemble-clause-ends
+returns-in-Assemble-clause-ends g c =
+    rw c.in-Assemble.is (replies_end {T = Unit {0}} {W = List ℕ} _ _ _ _ _ _ _ _ (rw c.file_at-in-Assemble.ensures at (rw c.file_at-in-Assemble-2.ensures at c.assemble_source.ensures)))
+
 pub returns-in-Disassemble-clause-ends : goal.returns-in-Disassemble-clause-ends
 returns-in-Disassemble-clause-ends g c =
     rw c.in-Disassemble.is (replies_end {T = Unit {0}} {W = List ℕ} _ _ _ _ _ _ _ _ (rw c.file_at-in-Disassemble.ensures at (rw c.file_at-in-Disassemble-2.ensures at c.list_image.ensures)))
