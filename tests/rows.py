@@ -609,45 +609,6 @@ row("check of no file", {}, step("check X", err="lisa: read fault\n", status=3))
 row("check of two words", {"A": A}, step("check A A", err=USAGE, status=2))
 row("check of too long a file", {"A": A + " " * 1048576}, step("check A", err="lisa: file 1 TooLong name=A\n"))
 
-# ---------------------------------------------------------------- link, dis
-
-C = SAMPLES["c.lisa"]
-
-
-def image_of(description, *memories):
-    return lines(f"image 1 {digest(description)}", *memories, "end")
-
-
-def object_of(description, *rest):
-    return lines(f"object 1 {digest(description)}", *rest, "end")
-
-
-CALLER = object_of(C, "section prog 8", "global start", "label start", "cell 80", "fix 0 6 s -2 +far -$")
-CALLED = object_of(C, "section prog 8", "global far", "space 3", "label far", "cell 0")
-BRANCH = ["section prog 8", "cell 80"]
-
-row("a listing", {"C": C, "I": image_of(C, "memory prog 8 16 3", "67", "c0", "5")},
-    step("dis C I", lines(".section prog", "ADDI R1,7", ".word 0xc0", ".word 0x5 ; NOP")))
-row("objects that use each other", {"C": C, "O": CALLER, "P": CALLED},
-    step("link C O P", image_of(C, "memory prog 8 16 5", "82", "0", "0", "0", "0")),
-    step("link C O", err="lisa: link 4 Undefined object=1 name=far\n"),
-    step("link C O O", err="lisa: link 2 DuplicateGlobal name=start\n"),
-    step("link C " + "O " * 33, err=USAGE, status=2), step("link C", err=USAGE, status=2), step("link C -", err=USAGE, status=2))
-row("a branch within its field", {"C": C, "O": object_of(C, *BRANCH, "fix 0 6 s 31")}, step("link C O", image_of(C, "memory prog 8 16 1", "9f")))
-row("a branch past its field", {"C": C, "O": object_of(C, *BRANCH, "fix 0 6 s 32")},
-    step("link C O", err="lisa: link 5 FieldRange object=1 memory=prog address=0 value=32 width=6\n"))
-row("a branch below its field", {"C": C, "O": object_of(C, *BRANCH, "fix 0 6 s -33")},
-    step("link C O", err="lisa: link 5 FieldRange object=1 memory=prog address=0 value=-33 width=6\n"))
-row("too many cells", {"C": C, "O": object_of(C, "section prog 8", "space 17")}, step("link C O", err="lisa: link 3 DoesNotFit memory=prog cells=17 depth=16\n"))
-row("a section of no memory", {"C": C, "O": object_of(C, "section prog 4")}, step("link C O", err="lisa: link 1 NoSuchMemory name=prog\n"))
-row("an object of another description behind one that is none", {"C": C, "A": A, "O": object_of(A), "P": object_of(C) + "\n"},
-    step("link C O P", err=re.compile("lisa: object 1 NotAnObject object=2 line=[0-9]\n")),
-    step("link C O", err=f"lisa: object 2 OtherDescription object=1 kept={digest(A)} expected={digest(C)}\n"))
-row("an image of another description", {"C": C, "I": image_of(A)}, step("dis C I", err=f"lisa: image 2 OtherDescription kept={digest(A)} expected={digest(C)}\n"))
-row("an image with a register array", {"C": C, "I": image_of(C, "memory R 8 2 1", "1")}, step("dis C I", err="lisa: image 3 NoSuchMemory name=R\n"))
-row("a listing of no image", {"C": C}, step("dis C -", err=USAGE, status=2))
-row("a linked object over its limit", {"C": C, "O": " " * 50331649}, step("link C O", err="lisa: file 1 TooLong name=O\n"))
-
 # ---------------------------------------------------------------- running
 
 

@@ -3,4 +3,3 @@ pub mod Computing
 pub mod Operating
 pub mod Forming
 pub mod Lowering
-pub mod Drafting

@@ -2,5 +2,4 @@ pub mod Operands
 pub mod Templates
 pub mod Sources
 pub mod Computed
-pub mod Code
 pub mod Laws

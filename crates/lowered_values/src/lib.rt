@@ -2,13 +2,4 @@
 //! has the value that is defined.
 #![tactic(auto)]
 
-mod drafts;
-mod expressions;
-mod formulas;
 pub mod laws;
-mod operands;
-
-pub use drafts::Draft;
-pub use expressions::{Names, compute};
-pub use formulas::{fitted, leaf_expr, number, picked};
-pub use operands::{ArraySource, Leaf, Source};

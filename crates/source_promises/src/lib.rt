@@ -1,8 +1,0 @@
-//! What is promised of sources, their objects and their images. Each is the contract of a function that does nothing.
-#![tactic(auto)]
-
-mod answers;
-mod images;
-
-pub use answers::sources_have_one_answer;
-pub use images::{memories_are_places, sources_link_to_their_image};
