@@ -2,3 +2,4 @@ pub mod Pieces
 pub mod Running
 pub mod Formed
 pub mod Laws
+pub mod Drafts

@@ -1,0 +1,22 @@
+-- What the code's drafts and leaves stand for.
+use Rattle.std.specs.Prelude.{[], ◌∷◌, map}
+use Rattle.step_program.specs.Programs.{Expr, Const, Now, Before, Pin, Temp, Move, move_of}
+use Rattle.step_pieces.specs.declared.leaves.Leaf.{Leaf}
+use Rattle.step_pieces.specs.declared.leaves.Leaf.TheVariants as leaves
+use Rattle.step_pieces.specs.declared.drafts.Draft.{Draft}
+use Rattle.step_pieces.specs.Pieces.{Piece}
+
+abbrev pub leaf_tree : Leaf → Expr
+leaf_tree (leaves.Const word) = Const word.width word.bits
+leaf_tree (leaves.Item item) = Now item
+leaf_tree (leaves.Before item) = Before item
+leaf_tree (leaves.Pin pin) = Pin pin
+leaf_tree (leaves.Temp temp) = Temp temp
+
+-- what has been drafted
+abbrev pub piece_of : Draft → Piece
+piece_of draft = record { widths = draft.temps.items; moves = map move_of draft.steps.items }
+
+-- one step, without temps
+abbrev pub one_step : Move → Piece
+one_step move = record { widths = []; moves = move ∷ [] }
