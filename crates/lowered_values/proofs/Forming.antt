@@ -1,5 +1,5 @@
 -- What operators make of operands is well formed, and not deep.
-use Rattle.std.proofs.Common.{◌≡◌, ℕ, zero, suc, ◌<◌, ◌≤◌, ◌-◌, ◌^◌, Bool, true, false, List, Option, None, Some, refl, sym, ap, ap₂, ◌∙◌, subst, arith, nat_eq, nat_lt, cond, max}
+use Rattle.std.proofs.Common.{◌≡◌, ℕ, zero, suc, ◌<◌, ◌≤◌, ◌-◌, ◌*◌, ◌%◌, ◌^◌, Bool, true, false, List, Option, None, Some, refl, sym, ap, ap₂, ◌∙◌, subst, arith, nat_eq, nat_lt, cond, max}
 use Rattle.std.specs.Prelude.{nat_le, ◌&&◌}
 use Rattle.std.proofs.lemmas.Bool.Decides.{nat_tests}
 use Rattle.std.proofs.lemmas.Nat.{pow_pos}
@@ -112,6 +112,12 @@ half_low w h =
     let e = double w h in
     let some = pow_pos (w - 1) in
     omega (arith, e, some)
+
+pub half_within : (w to : ℕ) → 1 ≤ w → w ≤ to → 1 * 2 ^ (w - 1) % 18446744073709551616 < 2 ^ to
+half_within w to h le =
+    let low = half_low w h in
+    let grows : 2 ^ w ≤ 2 ^ to = pow-le-pow_right {n = 2} (omega arith) le in
+    omega (arith, low, grows)
 
 half_good : (p : Program) (w : ℕ) → IsWidth w → Good p w 1 (half w)
 half_good p w h = const_good p w (2 ^ (w - 1)) h (half_low w h.0)

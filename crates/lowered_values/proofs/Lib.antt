@@ -3,3 +3,4 @@ pub mod Computing
 pub mod Operating
 pub mod Forming
 pub mod Lowering
+pub mod Drafting

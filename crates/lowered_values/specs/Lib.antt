@@ -2,4 +2,5 @@ pub mod Operands
 pub mod Templates
 pub mod Sources
 pub mod Computed
+pub mod Code
 pub mod Laws

@@ -2,4 +2,13 @@
 //! has the value that is defined.
 #![tactic(auto)]
 
+mod drafts;
+mod expressions;
+mod formulas;
 pub mod laws;
+mod operands;
+
+pub use drafts::keep;
+pub use expressions::{Names, compute};
+pub use formulas::{as_shape, bit, choose, fitted, number, one, picked, two, word_width};
+pub use operands::{ArraySource, Formula, Source};

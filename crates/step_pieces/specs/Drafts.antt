@@ -1,6 +1,6 @@
 -- What the code's drafts and leaves stand for.
-use Rattle.std.specs.Prelude.{[], ◌∷◌, map}
-use Rattle.step_program.specs.Programs.{Expr, Const, Now, Before, Pin, Temp, Move, move_of}
+use Rattle.std.specs.Prelude.{ℕ, [], ◌∷◌, map}
+use Rattle.step_program.specs.Programs.{Expr, Const, Now, Before, Pin, Temp, Aim, Move, move_of}
 use Rattle.step_pieces.specs.declared.leaves.Leaf.{Leaf}
 use Rattle.step_pieces.specs.declared.leaves.Leaf.TheVariants as leaves
 use Rattle.step_pieces.specs.declared.drafts.Draft.{Draft}
@@ -20,3 +20,10 @@ piece_of draft = record { widths = draft.temps.items; moves = map move_of draft.
 -- one step, without temps
 abbrev pub one_step : Move → Piece
 one_step move = record { widths = []; moves = move ∷ [] }
+
+abbrev pub move : (guard : Expr) → Aim → (value : Expr) → Move
+move guard aim value = record { guard = guard; aim = aim; value = value }
+
+-- a temp that no step gives a value
+abbrev pub one_temp : (width : ℕ) → Piece
+one_temp width = record { widths = width ∷ []; moves = [] }

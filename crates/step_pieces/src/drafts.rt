@@ -1,8 +1,8 @@
 // Pieces that are drafted: temps and steps are put behind those that are there.
 ghost use Rattle.std.specs.Prelude.{◌≡◌, IfOk, OnOk};
-ghost use Rattle.step_program.specs.Programs.{expr_tree, move_of};
-ghost use Rattle.step_pieces.specs.Pieces.{held, top, behind, nothing};
-ghost use Rattle.step_pieces.specs.Drafts.{piece_of, one_step};
+ghost use Rattle.step_program.specs.Programs.{ToTemp, aim_of, expr_tree, move_of};
+ghost use Rattle.step_pieces.specs.Pieces.{always, behind, held, nothing, top};
+ghost use Rattle.step_pieces.specs.Drafts.{move, one_step, one_temp, piece_of};
 
 use lisa_words::{NoMemory, Word};
 use std::alloc::Global;
@@ -41,6 +41,37 @@ impl Draft {
         ensures { OnOk result (piece_of self.new ≡ behind (piece_of self.old) (one_step (move_of step))) }
     {
         self.steps.push(step)?;
+        Ok(())
+    }
+
+    /// One temp more, which no step has given a value.
+    pub fn reserve(&mut self, width: u32) -> Result<u32, NoMemory>
+        ensures draft { OnOk result (piece_of self.new ≡ behind (piece_of self.old) (one_temp width)) }
+        ensures temp { IfOk result (λ temp. temp ≡ top 0 (piece_of self.old)) }
+    {
+        let temp = self.next()?;
+        self.temps.push(width)?;
+        Ok(temp)
+    }
+
+    /// One step more, by its parts.
+    pub fn step(&mut self, guard: StepExpr, target: Target, value: StepExpr) -> Result<(), NoMemory>
+        ensures { OnOk result (piece_of self.new ≡ behind (piece_of self.old) (one_step (move (expr_tree guard) (aim_of target) (expr_tree value)))) }
+    {
+        self.push(Step {
+            guard,
+            target,
+            value,
+        })?;
+        Ok(())
+    }
+
+    /// A temp is given a value, whatever holds.
+    pub fn set(&mut self, temp: u32, value: StepExpr) -> Result<(), NoMemory>
+        ensures { OnOk result (piece_of self.new ≡ behind (piece_of self.old) (one_step (move always (ToTemp temp) (expr_tree value)))) }
+    {
+        let guard = StepExpr::Const(Word { bits: 1, width: 1 });
+        self.step(guard, Target::Temp(temp), value)?;
         Ok(())
     }
 
