@@ -1,0 +1,10 @@
+pub mod Depths
+pub mod Standing
+pub mod Locals
+pub mod Reading
+pub mod Forming
+pub mod Fitting
+pub mod Holding
+pub mod Resting
+pub mod Placing
+pub mod Assigning

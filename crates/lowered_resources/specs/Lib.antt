@@ -1,0 +1,5 @@
+pub mod Places
+pub mod Reading
+pub mod Putting
+pub mod Holding
+pub mod Laws

@@ -1,0 +1,10 @@
+pub mod Widths
+pub mod Paired
+pub mod Agreeing
+pub mod Reaching
+pub mod Choices
+pub mod Instructed
+pub mod Loaded
+pub mod Leaving
+pub mod Telling
+pub mod Labelled
