@@ -1,0 +1,6 @@
+pub mod Growing
+pub mod Marked
+pub mod Drawn
+pub mod Stepping
+pub mod Widths
+pub mod Programmed

@@ -1,0 +1,16 @@
+pub mod Scratch
+pub mod Choosing
+pub mod Resting
+pub mod Once
+pub mod Kept
+pub mod Chains
+pub mod Prepared
+pub mod Sources
+pub mod Evaluating
+pub mod Valued
+pub mod Forming
+pub mod Acting
+pub mod Typed
+pub mod Putting
+pub mod Assigning
+pub mod Doing

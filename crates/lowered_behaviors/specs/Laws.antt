@@ -1,0 +1,84 @@
+-- What holds of behaviours and expressions that are lowered.
+use Rattle.std.specs.Prelude.{ℕ, ◌≡◌, ◌≤◌, ◌+◌, suc, List, [], Some, All}
+use Rattle.lisa_tree.specs.Expressions.{ExprTree}
+use Rattle.lisa_tree.specs.Descriptions.{DescriptionTree}
+use Rattle.description_places.specs.declared.sites.Region.{Region}
+use Rattle.description_sizes.specs.Texts.{levels}
+use Rattle.description_types.specs.Tables.{Known, AreKinds}
+use Rattle.lisa_machine.specs.Verdicts.{IsAccepted}
+use Rattle.step_program.specs.Programs.{Program, Expr}
+use Rattle.step_program.specs.Effects as steps
+use Rattle.typed_values.specs.Laws.{HasNumbers}
+use Rattle.lisa_meaning.specs.Moments.{Moment, with_locals}
+use Rattle.lisa_meaning.specs.Scenes.{Link, Scene}
+use Rattle.lisa_meaning.specs.Values.{value_of}
+use Rattle.lisa_meaning.specs.Effects.{doing, run_behavior}
+use Rattle.meaning_promises.specs.Running.{Runs}
+use Rattle.meaning_promises.specs.Fitting.{HaveNumbers}
+use Rattle.step_pieces.specs.Pieces.{IsScratch}
+use Rattle.step_pieces.specs.Running.{ran, Rests, HasTemps}
+use Rattle.step_pieces.specs.Formed.{Lies, IsPiece}
+use Rattle.lowered_values.specs.Operands.{StandsFor}
+use Rattle.lowered_values.specs.Computed.{IsComputed}
+use Rattle.lowered_statements.specs.Scopes.{Scope, names_of, IsScope}
+use Rattle.lowered_statements.specs.Agreement.{Agrees, Spares, IsGuard, Idles}
+use Rattle.lowered_resources.specs.Places.{ArePlaced}
+use Rattle.lowered_words.specs.Rows.{IsWordWidth, row_size, row_widths}
+use Rattle.lowered_behaviors.specs.Standpoints.{Standpoint, running}
+use Rattle.lowered_behaviors.specs.Values.{Ground, value_within}
+use Rattle.lowered_behaviors.specs.Behaviors.{behavior}
+use Rattle.lowered_behaviors.specs.Agreement.{IsScene, HoldsIn, IsRead, HaveNumbersInBehaviors}
+
+-- An accepted description with its types, in a program in which its things stand below `told`, and the row between that and `lasts`.
+pub record IsGround (g : Ground) (p : Program) (first lasts : ℕ) : Type 0 where
+  pub accepted : IsAccepted g.description
+  pub numbers : HaveNumbers g.description
+  pub bodies : HaveNumbersInBehaviors g.description
+  pub known : Known
+  pub kinds : AreKinds g.description known
+  pub types : known.types ≡ g.types
+  pub told : ℕ
+  pub told_low : told ≤ lasts
+  pub placed : ArePlaced g.description g.places p first told
+  pub width : IsWordWidth g.description g.width
+  pub row_lies : (base : ℕ) → g.row ≡ Some base → Lies p.temps base (row_widths g.description g.width)
+  pub row_lasts : (base : ℕ) → g.row ≡ Some base → (told ≤ base) × (base + row_size g.description ≤ lasts)
+
+module _ (g : Ground) (p : Program) (before pins : List ℕ) where
+  -- an expression that stands in the operation has its value, where something runs
+  abbrev pub ValuesAreComputed : Type 0
+  ValuesAreComputed =
+      (first lasts : ℕ) → IsGround g p first lasts
+      → (standpoint : Standpoint) (scene : Scene) (region : Region) (scope : Scope) (from : ℕ) (e : ExprTree) (call : List Link → Moment → Moment) (m : Moment) (now : steps.Moment)
+      → IsScene standpoint scene → Runs g.description scene → IsRead g.description (running standpoint) region (names_of scope) e → HasNumbers e
+      → IsScope p lasts from scope → Lies p.temps from (value_within (suc (levels g.description)) g standpoint scope from e).piece.widths
+      → Agrees (doing call g.description scene) p before pins (HoldsIn g scene p before pins) scope m now
+      → StandsFor p before pins (ran p before pins now (value_within (suc (levels g.description)) g standpoint scope from e).piece.moves)
+      (value_within (suc (levels g.description)) g standpoint scope from e).out (value_of g.description scene m e)
+
+  -- whatever it names, it changes temps of its own alone
+  abbrev pub ValuesAreScratch : Type 0
+  ValuesAreScratch =
+      (more : ℕ) (standpoint : Standpoint) (scope : Scope) (from : ℕ) (e : ExprTree) → All (λ move. IsScratch from move.aim) (value_within more g standpoint scope from e).piece.moves
+
+  -- under a guard that is 0 a behaviour changes temps of its own alone
+  abbrev pub BehaviorsRest : Type 0
+  BehaviorsRest = (standpoint : Standpoint) → Idles p before pins (behavior g standpoint)
+
+  -- under a guard that is 1 it does what is done where something runs
+  abbrev pub BehaviorsDo : Type 0
+  BehaviorsDo =
+      (first lasts : ℕ) → IsGround g p first lasts
+      → (standpoint : Standpoint) (scene : Scene) (guard : Expr) (from : ℕ) (m : Moment) (now : steps.Moment)
+      → IsScene standpoint scene → Runs g.description scene
+      → lasts ≤ from → IsGuard p lasts from [] guard → steps.value p before pins now guard ≡ 1
+      → Lies p.temps from (behavior g standpoint guard from).widths → HasTemps p now → HoldsIn g scene p before pins m now
+      → HoldsIn g scene p before pins (run_behavior g.description scene m) (ran p before pins now (behavior g standpoint guard from).moves)
+      × Spares lasts from [] now (ran p before pins now (behavior g standpoint guard from).moves)
+
+-- their steps are well formed
+abbrev pub BehaviorsAreFormed : Ground → Program → Type 0
+BehaviorsAreFormed g p =
+    (first lasts : ℕ) → IsGround g p first lasts
+    → (standpoint : Standpoint) (guard : Expr) (from : ℕ) → lasts ≤ from → IsGuard p lasts from [] guard
+    → Lies p.temps from (behavior g standpoint guard from).widths → IsPiece p (behavior g standpoint guard from)

@@ -1,0 +1,5 @@
+pub mod Standpoints
+pub mod Values
+pub mod Behaviors
+pub mod Agreement
+pub mod Laws
