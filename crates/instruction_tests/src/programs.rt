@@ -31,7 +31,10 @@ fn sources_are_as_drawn_elsewhere(rt: HostRuntime) -> Result<(), Fail> {
         ),
     ];
     for (number, count, source) in cases {
-        assert_eq!(rt; drawn(rt.alloc(), PROCESSOR, number, count)?.as_slice(), source);
+        assert_eq!(rt;
+            drawn(rt.alloc(), PROCESSOR, number, count)?.as_slice(),
+            source
+        );
     }
     Ok(())
 }
