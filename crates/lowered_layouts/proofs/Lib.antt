@@ -1,0 +1,10 @@
+pub mod Blocks
+pub mod Temps
+pub mod Widths
+pub mod Items
+pub mod Ends
+pub mod Forming
+pub mod Roots
+pub mod Laying
+pub mod Starting
+pub mod States

@@ -1,0 +1,5 @@
+pub mod Temps
+pub mod Items
+pub mod Ends
+pub mod States
+pub mod Laws
