@@ -14,3 +14,5 @@ pub mod Typed
 pub mod Putting
 pub mod Assigning
 pub mod Doing
+pub mod Aiming
+pub mod Keeping

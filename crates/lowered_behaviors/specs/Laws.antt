@@ -1,11 +1,12 @@
 -- What holds of behaviours and expressions that are lowered.
-use Rattle.std.specs.Prelude.{ℕ, ◌≡◌, ◌≤◌, ◌+◌, suc, List, [], Some, All}
+use Rattle.std.specs.Prelude.{ℕ, ◌≡◌, ◌≤◌, ◌<◌, ◌+◌, suc, List, [], Some, All, length, slice_index}
 use Rattle.lisa_tree.specs.Expressions.{ExprTree}
 use Rattle.lisa_tree.specs.Descriptions.{DescriptionTree}
 use Rattle.description_places.specs.declared.sites.Region.{Region}
 use Rattle.description_sizes.specs.Texts.{levels}
 use Rattle.description_types.specs.Tables.{Known, AreKinds}
 use Rattle.lisa_machine.specs.Verdicts.{IsAccepted}
+use Rattle.machine_parts.specs.Parts.{registers_of}
 use Rattle.step_program.specs.Programs.{Program, Expr}
 use Rattle.step_program.specs.Effects as steps
 use Rattle.typed_values.specs.Laws.{HasNumbers}
@@ -44,6 +45,14 @@ pub record IsGround (g : Ground) (p : Program) (first lasts : ℕ) : Type 0 wher
   pub row_lies : (base : ℕ) → g.row ≡ Some base → Lies p.temps base (row_widths g.description g.width)
   pub row_lasts : (base : ℕ) → g.row ≡ Some base → (told ≤ base) × (base + row_size g.description ≤ lasts)
 
+-- From one moment to another all is as it was but registers, cells, the temps from `first` up to `told`, and those from `from` on.
+pub record KeepsElse (d : DescriptionTree) (first told from : ℕ) (a b : steps.Moment) : Type 0 where
+  pub item_count : length b.items ≡ length a.items
+  pub items : (place : ℕ) → length (registers_of d) ≤ place → slice_index b.items place ≡ slice_index a.items place
+  pub temp_count : length b.temps ≡ length a.temps
+  pub temps_before : (k : ℕ) → k < first → k < from → slice_index b.temps k ≡ slice_index a.temps k
+  pub temps_behind : (k : ℕ) → told ≤ k → k < from → slice_index b.temps k ≡ slice_index a.temps k
+
 module _ (g : Ground) (p : Program) (before pins : List ℕ) where
   -- an expression that stands in the operation has its value, where something runs
   abbrev pub ValuesAreComputed : Type 0
@@ -75,6 +84,13 @@ module _ (g : Ground) (p : Program) (before pins : List ℕ) where
       → Lies p.temps from (behavior g standpoint guard from).widths → HasTemps p now → HoldsIn g scene p before pins m now
       → HoldsIn g scene p before pins (run_behavior g.description scene m) (ran p before pins now (behavior g standpoint guard from).moves)
       × Spares lasts from [] now (ran p before pins now (behavior g standpoint guard from).moves)
+
+  -- whatever the guard and the word, a behaviour gives values to registers, cells, temps that tell what lasts and temps of its own alone
+  abbrev pub BehaviorsKeep : Type 0
+  BehaviorsKeep =
+      (first lasts : ℕ) (ground : IsGround g p first lasts)
+      → (standpoint : Standpoint) (guard : Expr) (from : ℕ) (now : steps.Moment)
+      → KeepsElse g.description first ground.told from now (ran p before pins now (behavior g standpoint guard from).moves)
 
 -- their steps are well formed
 abbrev pub BehaviorsAreFormed : Ground → Program → Type 0

@@ -2,7 +2,7 @@
 ghost use Rattle.std.specs.Prelude.{ℕ, List};
 ghost use Rattle.step_program.specs.Programs.{Program};
 ghost use Rattle.lowered_behaviors.specs.Values.{Ground};
-ghost use Rattle.lowered_behaviors.specs.Laws.{ValuesAreComputed, ValuesAreScratch, BehaviorsRest, BehaviorsDo, BehaviorsAreFormed};
+ghost use Rattle.lowered_behaviors.specs.Laws.{ValuesAreComputed, ValuesAreScratch, BehaviorsRest, BehaviorsDo, BehaviorsKeep, BehaviorsAreFormed};
 
 /// The steps of an expression leave its value in its operand, and give values to temps of their own alone.
 pub fn values_are_computed()
@@ -14,6 +14,11 @@ pub fn values_are_computed()
 pub fn behaviors_do()
     ensures rest { (g : Ground) (p : Program) (before pins : List ℕ) → BehaviorsRest g p before pins }
     ensures act { (g : Ground) (p : Program) (before pins : List ℕ) → BehaviorsDo g p before pins }
+{}
+
+/// Whatever the guard and the word, the steps of a behaviour leave all but registers, cells, what lasts and temps of their own as it was.
+pub fn behaviors_keep()
+    ensures { (g : Ground) (p : Program) (before pins : List ℕ) → BehaviorsKeep g p before pins }
 {}
 
 /// The steps of a behaviour are well formed and not deep.
