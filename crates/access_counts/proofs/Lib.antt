@@ -1,0 +1,4 @@
+pub mod Worth
+pub mod Noting
+pub mod Lists
+pub mod Rounding

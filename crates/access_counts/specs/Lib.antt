@@ -1,0 +1,4 @@
+pub mod Accesses
+pub mod Unfolded
+pub mod Ledgers
+pub mod Rounds
