@@ -3,4 +3,3 @@ pub mod Building
 pub mod Lowering
 pub mod Laws
 pub mod Forming
-pub mod Code

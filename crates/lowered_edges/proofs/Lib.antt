@@ -1,0 +1,14 @@
+pub mod Scenes
+pub mod Moments
+pub mod Rowed
+pub mod Staged
+pub mod Holding
+pub mod Owned
+pub mod Behaving
+pub mod Closing
+pub mod Conditions
+pub mod Testing
+pub mod Fetching
+pub mod Lowered
+pub mod Made
+pub mod Shown
