@@ -2,4 +2,3 @@ mod OtherWords
 mod FieldTexts
 mod Ran
 mod Flushed
-mod FileCounts

@@ -4,7 +4,6 @@ pub mod Lines
 pub mod LineViews
 pub mod DescriptionLines
 pub mod ModuleLines
-pub mod SourceLines
 pub mod Gives
 pub mod Worlds
 pub mod Says

@@ -1,4 +1,0 @@
-pub mod Counting
-pub mod Choosing
-pub mod Unfolding
-pub mod Parts

@@ -1,3 +1,0 @@
-pub mod Unfolded
-pub mod Weights
-pub mod Sums

@@ -1,4 +1,0 @@
-pub mod Parts
-pub mod Programs
-pub mod Meaning
-pub mod Laws
