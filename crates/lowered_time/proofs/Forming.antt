@@ -19,7 +19,7 @@ use Rattle.pipeline_time.proofs.Tree.{IsGoodTree, tree_of}
 use Rattle.lowered_time.specs.Pieces.{Maker, steps, chain, bind, given, both, either, none, holding}
 use Rattle.lowered_time.specs.Building.{Operations, Layout, taken_at, slot_at, held_at, open_at, recorded_at, time_temps, root_row, row_of, own_row, chosen, slotted, rooted, recorded, occurrence, active, waits, due, turn_of, place_word, stage_word, held_after, controls, turn, turns, main_run, stood, came, next_bit, next_word, set_place, bit_ends, ends, edge}
 use Rattle.lowered_time.specs.Forming.{IsLeaf, time_width, IsRowFor, AreFormed}
-use Rattle.lowered_time.specs.Lowering.{IsLaidOut, IsOwned}
+use Rattle.lowered_time.specs.Lowering.{IsLaidOut, IsOwned, IsGuard, no_guard, held_guard, IsRow}
 
 module _ {R M : Type 0} (core : Core R M) (sound : IsSound core) (ops : Operations) (layout : Layout) (p : Program) (formed : AreFormed core ops layout p) (laid : IsLaidOut core layout p) where
   abbrev root : ℕ
@@ -53,6 +53,30 @@ module _ {R M : Type 0} (core : Core R M) (sound : IsSound core) (ops : Operatio
   -- a scratch temp of one bit
   new_bit : (from : ℕ) (rest : List ℕ) → Lies p.temps from (1 ∷ rest) → IsLeaf p 1 (Temp from)
   new_bit from rest lies = let one = lies_one p.temps from 1 rest lies in record { fits = one.0; wide = one.1; leaf = omega arith }
+
+  -- ---- guards
+
+  record IsOn (from : ℕ) (guard : Expr) : Type 0 where
+    leaf : IsLeaf p 1 guard
+    guards : IsGuard p layout from guard
+
+  on_always : (from : ℕ) → IsOn from always
+  on_always from = record { leaf = bit_always; guards = no_guard }
+
+  on_new : (from : ℕ) (rest : List ℕ) → layout.lasting ≤ from → Lies p.temps from (1 ∷ rest) → IsOn (from + 1) (Temp from)
+  on_new from rest low lies = record { leaf = new_bit from rest lies; guards = held_guard low (omega arith) (lies_one p.temps from 1 rest lies).1 }
+
+  guard_later : (from to : ℕ) (guard : Expr) → from ≤ to → IsGuard p layout from guard → IsGuard p layout to guard
+  guard_later from to _ more no_guard = no_guard
+  guard_later from to _ more (held_guard low less one) = held_guard low (omega (arith, less, more)) one
+
+  on_later : (from to : ℕ) (guard : Expr) → from ≤ to → IsOn from guard → IsOn to guard
+  on_later from to guard more is = record { leaf = is.leaf; guards = guard_later from to guard more is.guards }
+
+  -- ---- rows
+
+  is_root_row : IsRow core (root_row core ops layout)
+  is_root_row = omega arith
 
   -- ---- steps
 
@@ -116,9 +140,9 @@ module _ {R M : Type 0} (core : Core R M) (sound : IsSound core) (ops : Operatio
       let test = both guard (ops.decodes (root_row core ops layout)) in
       let user = λ (decoded : Expr). steps (given decoded (ToTemp slot_at) (ops.word (root_row core ops layout)) ∷ given decoded (ToTemp taken_at) always ∷ []) in
       bind_formed (holding 1 test) user from lies
-      (λ l. holding_formed from test l (two_bits guard (ops.decodes (root_row core ops layout)) is (formed.row_decodes (root_row core ops layout))))
+      (λ l. holding_formed from test l (two_bits guard (ops.decodes (root_row core ops layout)) is (formed.row_decodes (root_row core ops layout) is_root_row)))
       (λ l r. steps_formed (given (Temp from) (ToTemp slot_at) (ops.word (root_row core ops layout)) ∷ given (Temp from) (ToTemp taken_at) always ∷ []) (from + 1) (all_two _ _
-      (step_formed layout.width slot_at (Temp from) (ops.word (root_row core ops layout)) (new_bit from [] l) slot_temp (of_leaf layout.width (ops.word (root_row core ops layout)) (formed.row_words (root_row core ops layout))))
+      (step_formed layout.width slot_at (Temp from) (ops.word (root_row core ops layout)) (new_bit from [] l) slot_temp (of_leaf layout.width (ops.word (root_row core ops layout)) (formed.row_words (root_row core ops layout) is_root_row)))
       (step_formed 1 taken_at (Temp from) always (new_bit from [] l) (bit_temp taken_at (omega arith) (λ e. omega (arith, e))) (of_leaf 1 always bit_always))))
 
   rooted_formed : (b : Bool) (guard : Expr) (from : ℕ) → layout.lasting ≤ from → IsLeaf p 1 guard → Lies p.temps from (rooted core ops layout b guard from).widths → IsPiece p (rooted core ops layout b guard from)
@@ -127,14 +151,14 @@ module _ {R M : Type 0} (core : Core R M) (sound : IsSound core) (ops : Operatio
       let base = from + length (ops.fetch from).piece.widths in
       bind_formed ops.fetch (λ word. chain (ops.load (root_row core ops layout) word) (slotted core ops layout guard)) from lies (λ l. (formed.fetches from low l).0)
       (λ l r. chain_formed (ops.load (root_row core ops layout) (ops.fetch from).out) (slotted core ops layout guard) base r
-      (λ l'. formed.loads (root_row core ops layout) (ops.fetch from).out base (omega (arith, low)) (formed.fetches from low l).1 l')
+      (λ l'. formed.loads (root_row core ops layout) (ops.fetch from).out base is_root_row (omega (arith, low)) (formed.fetches from low l).1 l')
       (λ r'. slotted_formed guard (base + length (ops.load (root_row core ops layout) (ops.fetch from).out base).widths) is r'))
 
   recorded_formed : (number : ℕ) (guard : Expr) (from : ℕ) → number < suc (size core.acts) → IsLeaf p 1 guard → IsPiece p (recorded core ops layout number guard from)
   recorded_formed number guard from less is =
       steps_formed _ from (all_one (IsStep p) _ (step_formed 1 (recorded_at core.stages number) guard always is (bit_temp (recorded_at core.stages number) (omega (arith, less)) (λ e. omega (arith, e))) (of_leaf 1 always bit_always)))
 
-  occurrence_formed : (number : ℕ) (past : Bool) (row : Option ℕ) (guard : Expr) (items : Builder) (from : ℕ) → layout.lasting ≤ from → IsLeaf p 1 guard → IsRowFor core ops layout p number (own_row core ops layout number past row)
+  occurrence_formed : (number : ℕ) (past : Bool) (row : Option ℕ) (guard : Expr) (items : Builder) (from : ℕ) → layout.lasting ≤ from → IsOn from guard → IsRowFor core ops layout p number (own_row core ops layout number past row)
       → Lies p.temps from (occurrence core ops layout number past row guard items from).widths
       → ((from' : ℕ) → from ≤ from' → Lies p.temps from' (items from').widths → IsPiece p (items from'))
       → IsPiece p (occurrence core ops layout number past row guard items from)
@@ -143,35 +167,61 @@ module _ {R M : Type 0} (core : Core R M) (sound : IsSound core) (ops : Operatio
       let behave_part = ops.behavior number (own_row core ops layout number past row) guard in
       let base = from + length (root_part from).widths in
       chain_formed root_part (chain behave_part items) from lies
-      (λ l. rooted_formed (core.is_root number) guard from low is l)
+      (λ l. rooted_formed (core.is_root number) guard from low is.leaf l)
       (λ r. chain_formed behave_part items base r
-      (λ l. formed.behaviors number (own_row core ops layout number past row) guard base (omega (arith, low)) is row_is l)
+      (λ l. formed.behaviors number (own_row core ops layout number past row) guard base (omega (arith, low)) (on_later from base guard (omega arith) is).guards row_is l)
       (λ r'. inner (base + length (behave_part base).widths) (omega arith) r'))
 
-  chosen_formed : (number : ℕ) (past : Bool) (row : Option ℕ) (guard : Expr) (from : ℕ) → number < suc (size core.acts) → is_past core number ≡ past → IsLeaf p 1 guard → Lies p.temps from (chosen core ops layout number past row guard from).piece.widths
-      → IsPiece p (chosen core ops layout number past row guard from).piece × IsLeaf p 1 (chosen core ops layout number past row guard from).out
-  chosen_formed number false row guard from less past_is is lies = (nothing_formed p, is)
-  chosen_formed number true None guard from less past_is is lies = (nothing_formed p, is)
-  chosen_formed number true (Some row) guard from less past_is is lies =
-      (holding_formed from (both guard (ops.chooses row number)) lies (two_bits guard (ops.chooses row number) is (formed.row_chooses row number less past_is)), new_bit from [] lies)
+  abbrev AreRows : Option ℕ → Type 0
+  AreRows row = (r : ℕ) → row ≡ Some r → IsRow core r
 
-  abbrev RowFor : Bool → Option ℕ → Type 0
-  RowFor inside row = inside ≡ true → is_some row ≡ true
+  chosen_formed : (number : ℕ) (past : Bool) (row : Option ℕ) (guard : Expr) (from : ℕ) → number < suc (size core.acts) → is_past core number ≡ past → AreRows row → layout.lasting ≤ from → IsOn from guard
+      → Lies p.temps from (chosen core ops layout number past row guard from).piece.widths
+      → IsPiece p (chosen core ops layout number past row guard from).piece
+      × IsOn (from + length (chosen core ops layout number past row guard from).piece.widths) (chosen core ops layout number past row guard from).out
+  chosen_formed number false row guard from less past_is rows low is lies = (nothing_formed p, on_later from (from + 0) guard (omega arith) is)
+  chosen_formed number true None guard from less past_is rows low is lies = (nothing_formed p, on_later from (from + 0) guard (omega arith) is)
+  chosen_formed number true (Some row) guard from less past_is rows low is lies =
+      (holding_formed from (both guard (ops.chooses row number)) lies (two_bits guard (ops.chooses row number) is.leaf (formed.row_chooses row number (rows row refl) less past_is)), on_new from [] low lies)
+
+  record RowFor (inside : Bool) (row : Option ℕ) : Type 0 where
+    some : inside ≡ true → is_some row ≡ true
+    rows : AreRows row
+
+  no_rows : AreRows None
+  no_rows r e = absurd (none_is e)
+    where
+      none_is : None ≡ Some r → ⊥
+      none_is at = cc
+
+  no_row_for : RowFor false None
+  no_row_for = record { some = λ e. absurd (both_ways false refl e); rows = no_rows }
+
+  same_some : (a b : ℕ) → Some a ≡ Some b → a ≡ b
+  same_some a b e = cc
+
+  one_row : (row : ℕ) → IsRow core row → AreRows (Some row)
+  one_row row is r e = subst (IsRow core) (same_some row r e) is
+
+  row_for : (inside : Bool) (row : ℕ) → IsRow core row → RowFor inside (Some row)
+  row_for inside row is = record { some = λ e. refl; rows = one_row row is }
 
   own_row_for : (number : ℕ) (past inside : Bool) (row : Option ℕ) → (past ≡ true → inside ≡ true) → RowFor inside row → RowFor (past || core.is_root number) (own_row core ops layout number past row)
   own_row_for number past inside row so row_is = of (core.is_root number) past so
     where
       of : (b past : Bool) → (past ≡ true → inside ≡ true) → RowFor (past || b) (cond b (Some (root_row core ops layout)) (cond past row None))
-      of true past so e = refl
-      of false true so e = row_is (so refl)
-      of false false so e = absurd (both_ways false refl e)
+      of true past so = row_for (past || true) (root_row core ops layout) is_root_row
+      of false true so = record { some = λ e. row_is.some (so refl); rows = row_is.rows }
+      of false false so = no_row_for
 
   own_row_is : (number : ℕ) (past inside : Bool) (row : Option ℕ) → number < suc (size core.acts) → is_past core number ≡ past → (past ≡ true → inside ≡ true) → RowFor inside row → IsRowFor core ops layout p number (own_row core ops layout number past row)
-  own_row_is number past inside row less past_is so row_is = (less, λ e. own_row_for number past inside row so row_is (either_past past (sym past_is ∙ e)))
-    where
-      either_past : (b : Bool) → b ≡ true → (b || core.is_root number) ≡ true
-      either_past true e = refl
-      either_past false e = absurd (both_ways false refl e)
+  own_row_is number past inside row less past_is so row_is =
+      let own = own_row_for number past inside row so row_is in
+      record {
+        there = less;
+        own = λ e. own.some (ap (λ (b : Bool). b || core.is_root number) (sym past_is) ∙ e);
+        is_row = own.rows;
+      }
 
   -- an `if` reads by the row of its own occurrence
   abbrev Owner : ℕ → Option ℕ → Type 0
@@ -181,7 +231,7 @@ module _ {R M : Type 0} (core : Core R M) (sound : IsSound core) (ops : Operatio
   Below index acts = index + size acts ≤ suc (size core.acts)
 
   active_formed : (here : ℕ) (row : Option ℕ) (acts : Acts) (above index owner : ℕ) (inside : Bool) (guard : Expr) (from : ℕ) → IsGoodTree core root above inside index acts → IsOwned owner acts → Below index acts → RowFor inside row → Owner owner row
-      → layout.lasting ≤ from → IsLeaf p 1 guard → Lies p.temps from (active core ops layout here row guard acts from).widths → IsPiece p (active core ops layout here row guard acts from)
+      → layout.lasting ≤ from → IsOn from guard → Lies p.temps from (active core ops layout here row guard acts from).widths → IsPiece p (active core ops layout here row guard acts from)
   active_formed here row Done above index owner inside guard from tree owned below row_for own_is low is lies = nothing_formed p
   active_formed here row (Act number level past own rest) above index owner inside guard from tree owned below row_for own_is low is lies =
       let less : number < suc (size core.acts) = omega (arith, tree.0, below) in
@@ -192,17 +242,17 @@ module _ {R M : Type 0} (core : Core R M) (sound : IsSound core) (ops : Operatio
       let base = from + length (choose from).piece.widths in
       chain_formed first (active core ops layout here row guard rest) from lies
       (λ l. bind_formed choose user from l
-      (λ l'. (chosen_formed number past row guard from less good.past_is is l').0)
-      (λ l' r. by (nat_eq level here) (choose from).out base (omega (arith, low)) (chosen_formed number past row guard from less good.past_is is l').1 r
+      (λ l'. (chosen_formed number past row guard from less good.past_is row_for.rows low is l').0)
+      (λ l' r. by (nat_eq level here) (choose from).out base (omega (arith, low)) (chosen_formed number past row guard from less good.past_is row_for.rows low is l').1 r
       (λ g from' more g_is lies'. active_formed here (own_row core ops layout number past row) own level (suc number) number (past || core.is_root number) g from' (subst (λ (n : ℕ). IsGoodTree core root level (past || core.is_root number) (suc n) own) (sym tree.0) tree.4) owned.0 (omega (arith, tree.0, below)) (own_row_for number past inside row tree.2 row_for) (own_row_is number past inside row less good.past_is tree.2 row_for) more g_is lies')))
-      (λ r. active_formed here row rest above (suc (index + size own)) owner inside guard (from + length (first from).widths) tree.5 owned.1 (omega (arith, below)) row_for own_is (omega (arith, low)) is r)
+      (λ r. active_formed here row rest above (suc (index + size own)) owner inside guard (from + length (first from).widths) tree.5 owned.1 (omega (arith, below)) row_for own_is (omega (arith, low)) (on_later from (from + length (first from).widths) guard (omega arith) is) r)
     where
-      by : (b : Bool) (g : Expr) (base : ℕ) → layout.lasting ≤ base → IsLeaf p 1 g → Lies p.temps base (cond b (occurrence core ops layout number past row g (active core ops layout here (own_row core ops layout number past row) g own)) (recorded core ops layout number g) base).widths
-          → ((g : Expr) (from' : ℕ) → layout.lasting ≤ from' → IsLeaf p 1 g → Lies p.temps from' (active core ops layout here (own_row core ops layout number past row) g own from').widths → IsPiece p (active core ops layout here (own_row core ops layout number past row) g own from'))
+      by : (b : Bool) (g : Expr) (base : ℕ) → layout.lasting ≤ base → IsOn base g → Lies p.temps base (cond b (occurrence core ops layout number past row g (active core ops layout here (own_row core ops layout number past row) g own)) (recorded core ops layout number g) base).widths
+          → ((g : Expr) (from' : ℕ) → layout.lasting ≤ from' → IsOn from' g → Lies p.temps from' (active core ops layout here (own_row core ops layout number past row) g own from').widths → IsPiece p (active core ops layout here (own_row core ops layout number past row) g own from'))
           → IsPiece p (cond b (occurrence core ops layout number past row g (active core ops layout here (own_row core ops layout number past row) g own)) (recorded core ops layout number g) base)
       by true g base low' g_is lies' inner = occurrence_formed number past row g (active core ops layout here (own_row core ops layout number past row) g own) base low' g_is (own_row_is number past inside row (omega (arith, tree.0, below)) tree.1.past_is tree.2 row_for) lies'
-          (λ from' more l. inner g from' (omega (arith, low', more)) g_is l)
-      by false g base low' g_is lies' inner = recorded_formed number g base (omega (arith, tree.0, below)) g_is
+          (λ from' more l. inner g from' (omega (arith, low', more)) (on_later base from' g more g_is) l)
+      by false g base low' g_is lies' inner = recorded_formed number g base (omega (arith, tree.0, below)) g_is.leaf
   active_formed here row (When number test taken other rest) above index owner inside guard from tree owned below row_for own_is low is lies =
       let row_number = subst (λ (n : ℕ). IsRowFor core ops layout p n row) (sym owned.0) own_is in
       let maker = ops.condition number test row in
@@ -221,13 +271,13 @@ module _ {R M : Type 0} (core : Core R M) (sound : IsSound core) (ops : Operatio
       (λ l1 r1.
       let c = (formed.conditions number test row from low row_number l1).1 in
       bind_formed (holding 1 (both guard holds)) (user2 holds) base1 r1
-      (λ l2. holding_formed base1 (both guard holds) l2 (two_bits guard holds is c))
+      (λ l2. holding_formed base1 (both guard holds) l2 (two_bits guard holds is.leaf c))
       (λ l2 r2. bind_formed (holding 1 (both guard (none holds))) (λ leaving. chain one (active core ops layout here row leaving other)) base2 r2
-      (λ l3. holding_formed base2 (both guard (none holds)) l3 (and_none guard holds is c))
+      (λ l3. holding_formed base2 (both guard (none holds)) l3 (and_none guard holds is.leaf c))
       (λ l3 r3. chain_formed one two base3 r3
-      (λ l4. active_formed here row taken above index owner inside (Temp base1) base3 tree.0 owned.1 (omega (arith, below)) row_for own_is (omega (arith, low)) (new_bit base1 [] l2) l4)
-      (λ r4. active_formed here row other above (index + size taken) owner inside (Temp base2) (base3 + length (one base3).widths) tree.1 owned.2 (omega (arith, below)) row_for own_is (omega (arith, low)) (new_bit base2 [] l3) r4)))))
-      (λ r. active_formed here row rest above (index + (size taken + size other)) owner inside guard (from + length (first from).widths) tree.2 owned.3 (omega (arith, below)) row_for own_is (omega (arith, low)) is r)
+      (λ l4. active_formed here row taken above index owner inside (Temp base1) base3 tree.0 owned.1 (omega (arith, below)) row_for own_is (omega (arith, low)) (on_later (base1 + 1) base3 (Temp base1) (omega arith) (on_new base1 [] (omega (arith, low)) l2)) l4)
+      (λ r4. active_formed here row other above (index + size taken) owner inside (Temp base2) (base3 + length (one base3).widths) tree.1 owned.2 (omega (arith, below)) row_for own_is (omega (arith, low)) (on_later (base2 + 1) (base3 + length (one base3).widths) (Temp base2) (omega arith) (on_new base2 [] (omega (arith, low)) l3)) r4)))))
+      (λ r. active_formed here row rest above (index + (size taken + size other)) owner inside guard (from + length (first from).widths) tree.2 owned.3 (omega (arith, below)) row_for own_is (omega (arith, low)) (on_later from (from + length (first from).widths) guard (omega arith) is) r)
     where
       and_none : (x y : Expr) → IsLeaf p 1 x → IsLeaf p 1 y → IsShallow 1 (both x (none y))
       and_none x y a b = record {
@@ -269,13 +319,14 @@ module _ {R M : Type 0} (core : Core R M) (sound : IsSound core) (ops : Operatio
   due_formed level number above past inside own None from within tree owned below past_is leaf low lies = nothing_formed p
   due_formed level number above past inside own (Some e) from within tree owned below past_is leaf low lies =
       let row = Some (row_of core ops layout level) in
+      let given = row_for true (row_of core ops layout level) (omega (arith, within)) in
       let less : number < suc (size core.acts) = omega (arith, below) in
       let test = both (Temp (open_at level)) e in
       let items = active core ops layout level (own_row core ops layout number past row) (Temp from) own in
       bind_formed (holding 1 test) (λ g. occurrence core ops layout number past row g (active core ops layout level (own_row core ops layout number past row) g own)) from lies
       (λ l. holding_formed from test l (two_bits (Temp (open_at level)) e (open_bit level within) (leaf e refl)))
-      (λ l r. occurrence_formed number past row (Temp from) items (from + 1) (omega (arith, low)) (new_bit from [] l) (own_row_is number past true row less past_is (λ x. refl) (λ x. refl)) r
-      (λ from' more l'. active_formed level (own_row core ops layout number past row) own above (suc number) number (past || core.is_root number) (Temp from) from' tree owned (omega (arith, below)) (own_row_for number past true row (λ x. refl) (λ x. refl)) (own_row_is number past true row less past_is (λ x. refl) (λ x. refl)) (omega (arith, low, more)) (new_bit from [] l) l'))
+      (λ l r. occurrence_formed number past row (Temp from) items (from + 1) (omega (arith, low)) (on_new from [] low l) (own_row_is number past true row less past_is (λ x. refl) given) r
+      (λ from' more l'. active_formed level (own_row core ops layout number past row) own above (suc number) number (past || core.is_root number) (Temp from) from' tree owned (omega (arith, below)) (own_row_for number past true row (λ x. refl) given) (own_row_is number past true row less past_is (λ x. refl) given) (omega (arith, low, more)) (on_later (from + 1) from' (Temp from) more (on_new from [] low l)) l'))
 
   turn_formed : (level : ℕ) (acts : Acts) (above index owner : ℕ) (inside : Bool) (from : ℕ) → level ≤ core.stages → IsGoodTree core root above inside index acts → IsOwned owner acts → Below index acts
       → layout.lasting ≤ from → Lies p.temps from (turn_of core ops layout level above acts from).widths → IsPiece p (turn_of core ops layout level above acts from)
@@ -351,7 +402,7 @@ module _ {R M : Type 0} (core : Core R M) (sound : IsSound core) (ops : Operatio
       chain_formed (controls core ops layout level) (chain load body) from lies
       (λ l. controls_formed level from some within)
       (λ r. chain_formed load body (from + 0) r
-      (λ l. formed.loads (row_of core ops layout level) (stage_word core ops layout level) (from + 0) (omega (arith, low)) (stage_word_leaf level) l)
+      (λ l. formed.loads (row_of core ops layout level) (stage_word core ops layout level) (from + 0) (omega (arith, within)) (omega (arith, low)) (stage_word_leaf level) l)
       (λ r'. turn_formed level (Act 0 0 false core.acts Done) 0 0 0 false (from + 0 + length (load (from + 0)).widths) within (tree_of core sound) (owned, tt) (omega arith) (omega (arith, low)) r'))
 
   all_turns : (level from : ℕ) → level ≤ core.stages → layout.lasting ≤ from → IsOwned 0 core.acts → Lies p.temps from (turns core ops layout level from).widths → IsPiece p (turns core ops layout level from)
@@ -364,9 +415,9 @@ module _ {R M : Type 0} (core : Core R M) (sound : IsSound core) (ops : Operatio
   main_formed : (from : ℕ) → layout.lasting ≤ from → IsOwned 0 core.acts → Lies p.temps from (main_run core ops layout from).widths → IsPiece p (main_run core ops layout from)
   main_formed from low owned lies =
       let tree = tree_of core sound in
-      let row = own_row_is 0 false false None (omega arith) tree.1.past_is (λ e. e) (λ e. absurd (both_ways false refl e)) in
-      occurrence_formed 0 false None always (active core ops layout 0 (own_row core ops layout 0 false None) always core.acts) from low bit_always row lies
-      (λ from' more l. active_formed 0 (own_row core ops layout 0 false None) core.acts 0 1 0 (false || core.is_root 0) always from' tree.4 owned (omega arith) (own_row_for 0 false false None (λ e. e) (λ e. absurd (both_ways false refl e))) row (omega (arith, low, more)) bit_always l)
+      let row = own_row_is 0 false false None (omega arith) tree.1.past_is (λ e. e) no_row_for in
+      occurrence_formed 0 false None always (active core ops layout 0 (own_row core ops layout 0 false None) always core.acts) from low (on_always from) row lies
+      (λ from' more l. active_formed 0 (own_row core ops layout 0 false None) core.acts 0 1 0 (false || core.is_root 0) always from' tree.4 owned (omega arith) (own_row_for 0 false false None (λ e. e) no_row_for) row (omega (arith, low, more)) (on_always from') l)
 
   -- ---- ends
 

@@ -6,3 +6,6 @@ pub mod Turns
 pub mod Ends
 pub mod Edges
 pub mod Forming
+pub mod Adding
+pub mod Putting
+pub mod Planned

@@ -1,5 +1,5 @@
 -- What runs under a guard does what runs in the core, where the guard is 1, and nothing where it is 0.
-use Rattle.std.proofs.Common.{◌≡◌, ℕ, zero, suc, ◌+◌, ◌<◌, ◌≤◌, Bool, true, false, not, ◌&&◌, ◌||◌, cond, List, [], ◌∷◌, ◌++◌, length, get_or, Option, Some, None, refl, sym, ap, ◌∙◌, subst, arith, nat_eq, ⊎_elim, inl, inr, bit_and}
+use Rattle.std.proofs.Common.{◌≡◌, ℕ, zero, suc, ◌+◌, ◌<◌, ◌≤◌, Bool, true, false, not, ◌&&◌, ◌||◌, cond, List, [], ◌∷◌, ◌++◌, length, get_or, Option, Some, None, refl, sym, ap, ap₂, ◌∙◌, subst, arith, nat_eq, ⊎_elim, inl, inr, bit_and}
 use Rattle.std.specs.Prelude.{is_some}
 use Rattle.std.specs.Option.{unwrap_or, option_map}
 use Rattle.std.specs.List.{list_any, find}
@@ -8,7 +8,7 @@ use Rattle.std.proofs.lemmas.List.{get_or-set_same, get_or-set_other, length-set
 use Rattle.step_program.specs.Programs.{Expr, Temp, Aim, ToTemp, Move, Program}
 use Rattle.step_program.specs.Effects.{Moment, taken, chosen as picked}
 use Rattle.step_pieces.specs.Formed.{Lies}
-use Rattle.step_pieces.proofs.Laid.{lies_left, lies_right}
+use Rattle.step_pieces.proofs.Laid.{lies_left, lies_right, lies_one}
 use Rattle.pipeline_time.specs.Acts.{Acts, Done, Act, When, size}
 use Rattle.pipeline_time.specs.Cores.{Core, above_of, is_past}
 use Rattle.pipeline_time.specs.Running.{Activation, Running, word_below, own_word, behavior, activate, run}
@@ -123,7 +123,7 @@ module _ {R M A B C D E : Type 0} (core : Core R M) (ops : Operations) (layout :
   two_steps : (a b : Move) (lane : Moment) → G (a ∷ b ∷ []) lane ≡ G (b ∷ []) (G (a ∷ []) lane)
   two_steps a b lane = refl
 
-  taken_word : (from index word : ℕ) (test : Expr) (takes : Bool) (now : Running M) (lane : Moment) → T now lane → IsGuard layout from test → V lane test ≡ bit takes → (takes ≡ true → V lane (ops.word (root_row core ops layout)) ≡ word) → IsWordOf meant word
+  taken_word : (from index word : ℕ) (test : Expr) (takes : Bool) (now : Running M) (lane : Moment) → T now lane → IsGuard p layout from test → V lane test ≡ bit takes → (takes ≡ true → V lane (ops.word (root_row core ops layout)) ≡ word) → IsWordOf meant word
       → W from index (with_slot (slot_of takes word now.slot) now) lane (G (given test (ToTemp slot_at) (ops.word (root_row core ops layout)) ∷ given test (ToTemp taken_at) always ∷ []) lane)
   taken_word from index word test true now lane tied guard on is fits =
       let first = with_temp slot_at word lane in
@@ -156,9 +156,9 @@ module _ {R M A B C D E : Type 0} (core : Core R M) (ops : Operations) (layout :
       few : time_temps core ≤ length p.temps
       few = omega (arith, lasts, enough)
 
-      guard_at : (g : Expr) → IsGuard layout from g → (m : Moment) → ((temp : ℕ) → layout.lasting ≤ temp → temp < from → get_or m.temps temp 0 ≡ get_or lane.temps temp 0) → V m g ≡ V lane g
+      guard_at : (g : Expr) → IsGuard p layout from g → (m : Moment) → ((temp : ℕ) → layout.lasting ≤ temp → temp < from → get_or m.temps temp 0 ≡ get_or lane.temps temp 0) → V m g ≡ V lane g
       guard_at _ no_guard m same = refl
-      guard_at _ (held_guard low high) m same = same _ low high
+      guard_at _ (held_guard low high wide) m same = same _ low high
   taken_word from index word test false now lane tied guard off is fits =
       subst (λ (m : Moment). W from index (with_slot now.slot now) lane m)
       (sym (ap (λ (m : Moment). G (given test (ToTemp taken_at) always ∷ []) m) (idle test (ops.word (root_row core ops layout)) (ToTemp slot_at) lane off) ∙ idle test always (ToTemp taken_at) lane off))
@@ -172,7 +172,7 @@ module _ {R M A B C D E : Type 0} (core : Core R M) (ops : Operations) (layout :
   part from widths now lane low placed tied = record { lasting = low; placed = placed; agrees = tied.agrees }
 
   -- whether the word is an instruction's
-  slotted_went : (from index word : ℕ) (guard : Expr) (on : Bool) (now : Running M) (lane : Moment) → layout.lasting ≤ from → Lies p.temps from (slotted core ops layout guard from).widths → IsGuard layout from guard → T now lane → V lane guard ≡ bit on → HasRowWord meant (root_row core ops layout) word lane → IsWordOf meant word
+  slotted_went : (from index word : ℕ) (guard : Expr) (on : Bool) (now : Running M) (lane : Moment) → layout.lasting ≤ from → Lies p.temps from (slotted core ops layout guard from).widths → IsGuard p layout from guard → T now lane → V lane guard ≡ bit on → HasRowWord meant (root_row core ops layout) word lane → IsWordOf meant word
       → W from index (with_slot (slot_of (on && core.decodes word) word now.slot) now) lane (G (slotted core ops layout guard from).moves lane)
   slotted_went from index word guard on now lane low placed guarded tied is has fits =
       let test = both guard (ops.decodes (root_row core ops layout)) in
@@ -182,11 +182,11 @@ module _ {R M A B C D E : Type 0} (core : Core R M) (ops : Operations) (layout :
       holding_is core ops layout p meant root before pins from 1 test lane (omega (arith, placed.room, tied.temp_count))
       ∙ both_is p before pins lane guard (ops.decodes (root_row core ops layout)) on (core.decodes word) is (lowered.row_is before pins (root_row core ops layout) word lane has).1 in
       went_bind core ops layout p meant root before pins from index now (with_slot (slot_of (on && core.decodes word) word now.slot) now) (holding 1 test) (λ decoded. steps (given decoded (ToTemp slot_at) (ops.word (root_row core ops layout)) ∷ given decoded (ToTemp taken_at) always ∷ [])) lane held
-      (taken_word (from + 1) index word (Temp from) (on && core.decodes word) now middle held.tied (held_guard low (omega arith)) at
+      (taken_word (from + 1) index word (Temp from) (on && core.decodes word) now middle held.tied (held_guard low (omega arith) (lies_one p.temps from 1 [] placed).1) at
       (λ takes. (lowered.row_is before pins (root_row core ops layout) word middle (lowered.row_unseen (root_row core ops layout) word lane middle (unseen_temp core ops layout p meant root before pins from (V lane test) lane (inr low)) has)).0) fits)
 
   -- the root takes its word, which its row has then, and the slot where the guard is 1
-  rooted_went : (from index : ℕ) (guard : Expr) (on : Bool) (now : Running M) (lane : Moment) → layout.lasting ≤ from → Lies p.temps from (rooted core ops layout true guard from).widths → IsGuard layout from guard → T now lane → V lane guard ≡ bit on → (root < index → ⊥)
+  rooted_went : (from index : ℕ) (guard : Expr) (on : Bool) (now : Running M) (lane : Moment) → layout.lasting ≤ from → Lies p.temps from (rooted core ops layout true guard from).widths → IsGuard p layout from guard → T now lane → V lane guard ≡ bit on → (root < index → ⊥)
       → W from index (with_slot (slot_of (on && core.decodes (core.fetch now.moment)) (core.fetch now.moment) now.slot) now) lane (G (rooted core ops layout true guard from).moves lane)
       × HasRowWord meant (root_row core ops layout) (core.fetch now.moment) (G (rooted core ops layout true guard from).moves lane)
   rooted_went from index guard on now lane low placed guarded tied is outside =
@@ -204,10 +204,10 @@ module _ {R M A B C D E : Type 0} (core : Core R M) (ops : Operations) (layout :
       let lane1 = G fetched.piece.moves lane in
       let went1 : W from index now lane lane1 = went_part core ops layout p meant root before pins from index now now lane lane1 tied f.1.keeps f.1.agrees refl refl refl (λ row w kept has. f.2 row w tt has) in
       let part2 = part base load.widths now lane1 (omega (arith, low)) placed3 went1.tied in
-      let l = lowered.load_leaves (root_row core ops layout) fetched.out base before pins now.moment lane1 part2 in
+      let l = lowered.load_leaves (root_row core ops layout) fetched.out base before pins now.moment lane1 (omega arith) part2 in
       let lane2 = G load.moves lane1 in
       let went2 : W base index now lane1 lane2 = went_part core ops layout p meant root before pins base index now now lane1 lane2 went1.tied l.0.keeps l.0.agrees refl refl refl (λ row w kept has. l.1 row w (λ same. outside (kept same)) has) in
-      let has = lowered.loads (root_row core ops layout) fetched.out base before pins now.moment lane1 word part2 f.0 f.3 in
+      let has = lowered.loads (root_row core ops layout) fetched.out base before pins now.moment lane1 word (omega arith) part2 f.0 f.3 in
       let is2 : V lane2 guard ≡ bit on =
       guard_kept core ops layout p meant root before pins base index now lane1 lane2 guard (guard_wider core ops layout p meant root before pins from base guard (omega arith) guarded) went2
       ∙ guard_kept core ops layout p meant root before pins from index now lane lane1 guard guarded went1 ∙ is in
@@ -249,16 +249,15 @@ module _ {R M A B C D E : Type 0} (core : Core R M) (ops : Operations) (layout :
 
   -- a BEHAVIOR under a guard that is 1
   behavior_went : (b : Bool) (from number word : ℕ) (row : Option ℕ) (guard : Expr) (before' now : Running M) (lane : Moment) → core.is_root number ≡ b → now.moment ≡ before'.moment → now.made ≡ before'.made → now.first ≡ before'.first → now.slot ≡ slot_of (b && core.decodes word) word before'.slot
-      → layout.lasting ≤ from → Lies p.temps from (ops.behavior number row guard from).widths → IsGuard layout from guard → T now lane → V lane guard ≡ 1 → RowHas meant row word lane → Runs core ops layout p meant number word
+      → layout.lasting ≤ from → Lies p.temps from (ops.behavior number row guard from).widths → IsGuard p layout from guard → T now lane → V lane guard ≡ 1 → RowHas meant row word lane → Runs core ops layout p meant number row word
       → W from number (behavior core number word before') lane (G (ops.behavior number row guard from).moves lane)
   behavior_went b from number word row guard before' now lane is moment made first slot low placed guarded tied on has runs =
       let here = part from (ops.behavior number row guard from).widths now lane low placed tied in
-      let k = lowered.behavior_keeps number row guard from before pins now.moment lane here in
-      went_part core ops layout p meant root before pins from number now (behavior core number word before') lane (G (ops.behavior number row guard from).moves lane) tied k.0
-      (subst (λ (m : M). Agrees meant before pins m (G (ops.behavior number row guard from).moves lane)) (ap (λ (m : M). core.behave number word m) moment ∙ sym (begun_moment number word before'))
-      (lowered.behaves number row guard from before pins now.moment lane word here guarded on has runs))
+      let k = lowered.behaves number row guard from before pins now.moment lane word here guarded on has runs in
+      went_part core ops layout p meant root before pins from number now (behavior core number word before') lane (G (ops.behavior number row guard from).moves lane) tied k.leaves.keeps
+      (subst (λ (m : M). Agrees meant before pins m (G (ops.behavior number row guard from).moves lane)) (ap (λ (m : M). core.behave number word m) moment ∙ sym (begun_moment number word before')) k.leaves.agrees)
       (begun_made number word before' ∙ sym made) (begun_first number word before' ∙ sym first) (begun_slot b number word before' is ∙ sym slot)
-      (λ r w kept h. k.1 r w tt h)
+      (λ r w kept h. k.rows r w tt h)
 
   -- what its items do, under the guard
   abbrev ItemsRun : Builder → ℕ → Expr → ℕ → Option ℕ → ℕ → Running M → Running M → Type 0
@@ -267,9 +266,9 @@ module _ {R M A B C D E : Type 0} (core : Core R M) (ops : Operations) (layout :
       → W from' (suc number) end lane (G (items from').moves lane)
 
   pub occurrence_went : (b : Bool) (from index number word : ℕ) (past : Bool) (row : Option ℕ) (guard : Expr) (items : Builder) (now end : Running M) (lane : Moment) → core.is_root number ≡ b
-      → layout.lasting ≤ from → Lies p.temps from (occurrence_by b number past row guard items from).widths → IsGuard layout from guard → T now lane → V lane guard ≡ 1 → index ≤ number
+      → layout.lasting ≤ from → Lies p.temps from (occurrence_by b number past row guard items from).widths → IsGuard p layout from guard → T now lane → V lane guard ≡ 1 → index ≤ number
       → (past ≡ true → RowHas meant row word lane) → ((r : ℕ) → row ≡ Some r → Kept number r)
-      → Runs core ops layout p meant number (word_by b past word now)
+      → Runs core ops layout p meant number (row_by b past row) (word_by b past word now)
       → ItemsRun items from guard number (row_by b past row) (word_by b past word now) (behavior core number (word_by b past word now) now) end
       → W from index end lane (G (occurrence_by b number past row guard items from).moves lane)
   occurrence_went true from index number word past row guard items now end lane is low placed guarded tied on few has kept runs inner =
@@ -293,8 +292,8 @@ module _ {R M A B C D E : Type 0} (core : Core R M) (ops : Operations) (layout :
       let went2 = behavior_went true base number mine (Some (root_row core ops layout)) guard now now1 lane1 is refl refl refl refl (omega (arith, low)) placed3 guard1 r.0.tied on1 r.1 runs in
       let lane2 = G behave_piece.moves lane1 in
       let on2 = guard_kept core ops layout p meant root before pins base number begun lane1 lane2 guard guard1 went2 ∙ on1 in
-      let k = lowered.behavior_keeps number (Some (root_row core ops layout)) guard base before pins now1.moment lane1 (part base behave_piece.widths now1 lane1 (omega (arith, low)) placed3 r.0.tied) in
-      let went3 = inner base' lane2 (omega arith) placed4 went2.tied on2 (k.1 (root_row core ops layout) mine tt r.1) in
+      let k = lowered.behaves number (Some (root_row core ops layout)) guard base before pins now1.moment lane1 mine (part base behave_piece.widths now1 lane1 (omega (arith, low)) placed3 r.0.tied) guard1 on1 r.1 runs in
+      let went3 = inner base' lane2 (omega arith) placed4 went2.tied on2 (k.rows (root_row core ops layout) mine tt r.1) in
       went_wider core ops layout p meant root before pins from from index number end lane (G (occurrence_by true number past row guard items from).moves lane) (omega arith) few
       (went_chain core ops layout p meant root before pins from number now1 end (rooted core ops layout true guard) (chain (ops.behavior number (Some (root_row core ops layout)) guard) items) lane r.0
       (went_chain core ops layout p meant root before pins base number begun end (ops.behavior number (Some (root_row core ops layout)) guard) items lane1 went2
@@ -314,8 +313,8 @@ module _ {R M A B C D E : Type 0} (core : Core R M) (ops : Operations) (layout :
       let went2 = behavior_went false base number mine (cond past row None) guard now now lane is refl refl refl refl (omega (arith, low)) placed3 guard1 tied on has' runs in
       let lane2 = G behave_piece.moves lane in
       let on2 = guard_kept core ops layout p meant root before pins base number begun lane lane2 guard guard1 went2 ∙ on in
-      let k = lowered.behavior_keeps number (cond past row None) guard base before pins now.moment lane (part base behave_piece.widths now lane (omega (arith, low)) placed3 tied) in
-      let went3 = inner base' lane2 (omega arith) placed4 went2.tied on2 (has_after (cond past row None) mine lane2 has' k.1) in
+      let k = lowered.behaves number (cond past row None) guard base before pins now.moment lane mine (part base behave_piece.widths now lane (omega (arith, low)) placed3 tied) guard1 on has' runs in
+      let went3 = inner base' lane2 (omega arith) placed4 went2.tied on2 (has_after (cond past row None) mine lane2 has' k.rows) in
       went_wider core ops layout p meant root before pins from base index number end lane (G (chain (ops.behavior number (cond past row None) guard) items base).moves lane) (omega arith) few
       (went_chain core ops layout p meant root before pins base number begun end (ops.behavior number (cond past row None) guard) items lane went2
       (went_wider core ops layout p meant root before pins base' base' number (suc number) end lane2 (G rest.moves lane2) (omega arith) (omega arith) went3))
@@ -334,13 +333,12 @@ module _ {R M A B C D E : Type 0} (core : Core R M) (ops : Operations) (layout :
       (from' : ℕ) (lane : Moment) → from ≤ from' → Lies p.temps from' (items from').widths → T now lane → V lane guard ≡ 0
       → W from' (suc number) now lane (G (items from').moves lane)
 
-  rests_went : (from number : ℕ) (row : Option ℕ) (guard : Expr) (now : Running M) (lane : Moment) → layout.lasting ≤ from → Lies p.temps from (ops.behavior number row guard from).widths → IsGuard layout from guard → T now lane → V lane guard ≡ 0
+  rests_went : (from number : ℕ) (row : Option ℕ) (guard : Expr) (now : Running M) (lane : Moment) → layout.lasting ≤ from → Lies p.temps from (ops.behavior number row guard from).widths → IsGuard p layout from guard → T now lane → V lane guard ≡ 0
       → W from number now lane (G (ops.behavior number row guard from).moves lane)
   rests_went from number row guard now lane low placed guarded tied off =
       let here = part from (ops.behavior number row guard from).widths now lane low placed tied in
-      let k = lowered.behavior_keeps number row guard from before pins now.moment lane here in
-      went_part core ops layout p meant root before pins from number now now lane (G (ops.behavior number row guard from).moves lane) tied k.0
-      (lowered.rests number row guard from before pins now.moment lane here guarded off) refl refl refl (λ r w kept h. k.1 r w tt h)
+      let k = lowered.rests number row guard from before pins now.moment lane here guarded off in
+      went_part core ops layout p meant root before pins from number now now lane (G (ops.behavior number row guard from).moves lane) tied k.leaves.keeps k.leaves.agrees refl refl refl (λ r w kept h. k.rows r w tt h)
 
   retied : (slot : Option ℕ) (now : Running M) (lane : Moment) → slot ≡ now.slot → T (with_slot slot now) lane → T now lane
   retied slot now lane same t = record {
@@ -355,7 +353,7 @@ module _ {R M A B C D E : Type 0} (core : Core R M) (ops : Operations) (layout :
   }
 
   pub occurrence_rests : (b : Bool) (from index number : ℕ) (past : Bool) (row : Option ℕ) (guard : Expr) (items : Builder) (now : Running M) (lane : Moment) → core.is_root number ≡ b
-      → layout.lasting ≤ from → Lies p.temps from (occurrence_by b number past row guard items from).widths → IsGuard layout from guard → T now lane → V lane guard ≡ 0 → index ≤ number
+      → layout.lasting ≤ from → Lies p.temps from (occurrence_by b number past row guard items from).widths → IsGuard p layout from guard → T now lane → V lane guard ≡ 0 → index ≤ number
       → ItemsRest items from guard number now
       → W from index now lane (G (occurrence_by b number past row guard items from).moves lane)
   occurrence_rests true from index number past row guard items now lane is low placed guarded tied off few inner =
@@ -404,7 +402,7 @@ module _ {R M A B C D E : Type 0} (core : Core R M) (ops : Operations) (layout :
   -- whether an item is chosen: a guard of its own, or the one that is there
   pub record Choice (from : ℕ) (guard : Made) (on : Bool) (index : ℕ) (now : Running M) (lane : Moment) : Type 0 where
     pub went : W from index now lane (G guard.piece.moves lane)
-    pub guarded : IsGuard layout (from + length guard.piece.widths) guard.out
+    pub guarded : IsGuard p layout (from + length guard.piece.widths) guard.out
     pub is : V (G guard.piece.moves lane) guard.out ≡ bit on
 
   zero_and : (n : ℕ) → bit_and 0 n ≡ 0
@@ -414,7 +412,7 @@ module _ {R M A B C D E : Type 0} (core : Core R M) (ops : Operations) (layout :
   pub one_more : (from index : ℕ) (guard test : Expr) (on : Bool) (now : Running M) (lane : Moment) → layout.lasting ≤ from → Lies p.temps from (1 ∷ []) → T now lane → V lane guard ≡ 1 → V lane test ≡ bit on → Choice from (holding 1 (both guard test) from) on index now lane
   one_more from index guard test on now lane low placed tied it is = record {
     went = went_holding core ops layout p meant root before pins lowered from index 1 (both guard test) now lane low lasts tied;
-    guarded = held_guard low (omega arith);
+    guarded = held_guard low (omega arith) (lies_one p.temps from 1 [] placed).1;
     is = holding_is core ops layout p meant root before pins from 1 (both guard test) lane (omega (arith, placed.room, tied.temp_count)) ∙ both_is p before pins lane guard test true on it is;
   }
 
@@ -422,18 +420,18 @@ module _ {R M A B C D E : Type 0} (core : Core R M) (ops : Operations) (layout :
   pub none_more : (from index : ℕ) (guard test : Expr) (now : Running M) (lane : Moment) → layout.lasting ≤ from → Lies p.temps from (1 ∷ []) → T now lane → V lane guard ≡ 0 → Choice from (holding 1 (both guard test) from) false index now lane
   none_more from index guard test now lane low placed tied it = record {
     went = went_holding core ops layout p meant root before pins lowered from index 1 (both guard test) now lane low lasts tied;
-    guarded = held_guard low (omega arith);
+    guarded = held_guard low (omega arith) (lies_one p.temps from 1 [] placed).1;
     is = holding_is core ops layout p meant root before pins from 1 (both guard test) lane (omega (arith, placed.room, tied.temp_count)) ∙ ap (λ (n : ℕ). bit_and n (V lane test)) it ∙ zero_and (V lane test);
   }
 
-  same_guard : (from index : ℕ) (guard : Expr) (on : Bool) (now : Running M) (lane : Moment) → IsGuard layout from guard → T now lane → V lane guard ≡ bit on → Choice from (record { piece = nothing from; out = guard }) on index now lane
+  same_guard : (from index : ℕ) (guard : Expr) (on : Bool) (now : Running M) (lane : Moment) → IsGuard p layout from guard → T now lane → V lane guard ≡ bit on → Choice from (record { piece = nothing from; out = guard }) on index now lane
   same_guard from index guard on now lane guarded tied is = record {
     went = went_here core ops layout p meant root before pins from index now lane tied;
     guarded = guard_wider core ops layout p meant root before pins from (from + 0) guard (omega arith) guarded;
     is = is;
   }
 
-  chosen_on : (from index number word : ℕ) (past : Bool) (row : Option ℕ) (guard : Expr) (now : Running M) (lane : Moment) → layout.lasting ≤ from → Lies p.temps from (chosen core ops layout number past row guard from).piece.widths → IsGuard layout from guard → T now lane → V lane guard ≡ 1
+  chosen_on : (from index number word : ℕ) (past : Bool) (row : Option ℕ) (guard : Expr) (now : Running M) (lane : Moment) → layout.lasting ≤ from → Lies p.temps from (chosen core ops layout number past row guard from).piece.widths → IsGuard p layout from guard → T now lane → V lane guard ≡ 1
       → number < suc (size core.acts) → is_past core number ≡ past → (past ≡ true → (r : ℕ) × (row ≡ Some r)) → RowHas meant row word lane
       → Choice from (chosen core ops layout number past row guard from) (core.chooses number word) index now lane
   chosen_on from index number word false row guard now lane low placed guarded tied on less is some has =
@@ -445,7 +443,7 @@ module _ {R M A B C D E : Type 0} (core : Core R M) (ops : Operations) (layout :
   chosen_on from index number word true (Some row) guard now lane low placed guarded tied on less is some has =
       one_more from index guard (ops.chooses row number) (core.chooses number word) now lane low placed tied on ((lowered.row_is before pins row word lane has).2 number less is)
 
-  chosen_off : (from index number : ℕ) (past : Bool) (row : Option ℕ) (guard : Expr) (now : Running M) (lane : Moment) → layout.lasting ≤ from → Lies p.temps from (chosen core ops layout number past row guard from).piece.widths → IsGuard layout from guard → T now lane → V lane guard ≡ 0
+  chosen_off : (from index number : ℕ) (past : Bool) (row : Option ℕ) (guard : Expr) (now : Running M) (lane : Moment) → layout.lasting ≤ from → Lies p.temps from (chosen core ops layout number past row guard from).piece.widths → IsGuard p layout from guard → T now lane → V lane guard ≡ 0
       → Choice from (chosen core ops layout number past row guard from) false index now lane
   chosen_off from index number false row guard now lane low placed guarded tied off = same_guard from index guard false now lane guarded tied off
   chosen_off from index number true None guard now lane low placed guarded tied off = same_guard from index guard false now lane guarded tied off
@@ -460,7 +458,7 @@ module _ {R M A B C D E : Type 0} (core : Core R M) (ops : Operations) (layout :
 
   -- ---- nothing under a guard that is 0
 
-  item_rests : (same : Bool) (from index here number : ℕ) (past : Bool) (row : Option ℕ) (own : Acts) (guard : Expr) (now : Running M) (lane : Moment) → layout.lasting ≤ from → Lies p.temps from (item_by same here number past row own guard from).widths → IsGuard layout from guard → T now lane → V lane guard ≡ 0 → index ≤ number
+  item_rests : (same : Bool) (from index here number : ℕ) (past : Bool) (row : Option ℕ) (own : Acts) (guard : Expr) (now : Running M) (lane : Moment) → layout.lasting ≤ from → Lies p.temps from (item_by same here number past row own guard from).widths → IsGuard p layout from guard → T now lane → V lane guard ≡ 0 → index ≤ number
       → ItemsRest (active core ops layout here (own_row core ops layout number past row) guard own) from guard number now
       → W from index now lane (G (item_by same here number past row own guard from).moves lane)
   item_rests true from index here number past row own guard now lane low placed guarded tied off few inner =
@@ -468,7 +466,7 @@ module _ {R M A B C D E : Type 0} (core : Core R M) (ops : Operations) (layout :
   item_rests false from index here number past row own guard now lane low placed guarded tied off few inner = none_recorded from index number guard now lane tied off
 
   pub active_rests : (here : ℕ) (row : Option ℕ) (acts : Acts) (above from index : ℕ) (inside : Bool) (guard : Expr) (now : Running M) (lane : Moment) → IsGoodTree core root above inside index acts
-      → layout.lasting ≤ from → Lies p.temps from (items_of here row guard acts from).widths → IsGuard layout from guard → T now lane → V lane guard ≡ 0
+      → layout.lasting ≤ from → Lies p.temps from (items_of here row guard acts from).widths → IsGuard p layout from guard → T now lane → V lane guard ≡ 0
       → W from index now lane (G (items_of here row guard acts from).moves lane)
   active_rests here row Done above from index inside guard now lane tree low placed guarded tied off = went_here core ops layout p meant root before pins from index now lane tied
   active_rests here row (Act number level past own rest) above from index inside guard now lane tree low placed guarded tied off =
@@ -562,10 +560,10 @@ module _ {R M A B C D E : Type 0} (core : Core R M) (ops : Operations) (layout :
   then_by same here number past word own now =
       cond same (run core here (own_word core number past word now) own (behavior core number (own_word core number past word now) now)) (activate core here number (word_below past word) now)
 
-  item_runs : (same : Bool) (from index here number word : ℕ) (past : Bool) (row : Option ℕ) (own : Acts) (guard : Expr) (now : Running M) (lane : Moment) → layout.lasting ≤ from → Lies p.temps from (item_by same here number past row own guard from).widths → IsGuard layout from guard → T now lane → V lane guard ≡ 1 → index ≤ number
+  item_runs : (same : Bool) (from index here number word : ℕ) (past : Bool) (row : Option ℕ) (own : Acts) (guard : Expr) (now : Running M) (lane : Moment) → layout.lasting ≤ from → Lies p.temps from (item_by same here number past row own guard from).widths → IsGuard p layout from guard → T now lane → V lane guard ≡ 1 → index ≤ number
       → above_of core number ≡ here
       → (past ≡ true → RowHas meant row word lane) → ((r : ℕ) → row ≡ Some r → Kept number r)
-      → Runs core ops layout p meant number (own_word core number past word now)
+      → Runs core ops layout p meant number (own_row core ops layout number past row) (own_word core number past word now)
       → (same ≡ true → ItemsRun (active core ops layout here (own_row core ops layout number past row) guard own) from guard number (own_row core ops layout number past row) (own_word core number past word now) (behavior core number (own_word core number past word now) now) (run core here (own_word core number past word now) own (behavior core number (own_word core number past word now) now)))
       → W from index (then_by same here number past word own now) lane (G (item_by same here number past row own guard from).moves lane)
   item_runs true from index here number word past row own guard now lane low placed guarded tied on few at has kept runs inner =
@@ -584,10 +582,11 @@ module _ {R M A B C D E : Type 0} (core : Core R M) (ops : Operations) (layout :
       none_is : (r : ℕ) → None ≡ Some r → ⊥
       none_is r e = cc
 
-  pub own_runs : (number word : ℕ) (past : Bool) (now : Running M) (b : Bool) → b ≡ core.is_root number → number < suc (size core.acts) → is_past core number ≡ past → (past ≡ true → b ≡ false) → (past ≡ true → (core.decodes word ≡ true) × (core.chooses number word ≡ true)) → Runs core ops layout p meant number (word_by b past word now)
-  own_runs number word past now true is less past_is apart so = (less, λ e. absurd (both_ways true (apart (sym past_is ∙ e)) refl))
-  own_runs number word true now false is less past_is apart so = (less, λ e. so refl)
-  own_runs number word false now false is less past_is apart so = (less, λ e. absurd (both_ways false refl (sym past_is ∙ e)))
+  pub own_runs : (number word : ℕ) (past : Bool) (row : Option ℕ) (now : Running M) (b : Bool) → b ≡ core.is_root number → number < suc (size core.acts) → is_past core number ≡ past → (past ≡ true → b ≡ false) → (past ≡ true → (core.decodes word ≡ true) × (core.chooses number word ≡ true)) → (past ≡ true → is_some row ≡ true) → Runs core ops layout p meant number (row_by b past row) (word_by b past word now)
+  own_runs number word past row now true is less past_is apart so some = (less, (λ e. absurd (both_ways true (apart (sym past_is ∙ e)) refl)), λ e. refl)
+  own_runs number word true row now false is less past_is apart so some = (less, (λ e. so refl), λ e. some refl)
+  own_runs number word false row now false is less past_is apart so some =
+      (less, (λ e. absurd (both_ways false refl (sym past_is ∙ e))), λ e. absurd (both_ways false refl (sym (ap₂ (λ (x y : Bool). x || y) past_is (sym is)) ∙ e)))
 
   pub not_root : (number : ℕ) (past inside : Bool) → (past ≡ true → inside ≡ true) → (inside ≡ true → root < number) → past ≡ true → core.is_root number ≡ false
   not_root number past inside so after is = of (core.is_root number) refl
@@ -597,7 +596,7 @@ module _ {R M A B C D E : Type 0} (core : Core R M) (ops : Operations) (layout :
       of false e = refl
 
   -- an item that is chosen, and one that isn't
-  item_either : (on same : Bool) (from index here number word : ℕ) (past : Bool) (row : Option ℕ) (own : Acts) (guard : Expr) (now : Running M) (lane : Moment) → layout.lasting ≤ from → Lies p.temps from (item_by same here number past row own guard from).widths → IsGuard layout from guard → T now lane → V lane guard ≡ bit on → index ≤ number
+  item_either : (on same : Bool) (from index here number word : ℕ) (past : Bool) (row : Option ℕ) (own : Acts) (guard : Expr) (now : Running M) (lane : Moment) → layout.lasting ≤ from → Lies p.temps from (item_by same here number past row own guard from).widths → IsGuard p layout from guard → T now lane → V lane guard ≡ bit on → index ≤ number
       → (on ≡ true → W from index (then_by same here number past word own now) lane (G (item_by same here number past row own guard from).moves lane))
       → (on ≡ false → W from index now lane (G (item_by same here number past row own guard from).moves lane))
       → W from index (cond on (then_by same here number past word own now) now) lane (G (item_by same here number past row own guard from).moves lane)
@@ -611,8 +610,8 @@ module _ {R M A B C D E : Type 0} (core : Core R M) (ops : Operations) (layout :
   branch_either false from index first second now a b lane one two = two refl
 
   pub active_runs : (here : ℕ) (row : Option ℕ) (acts : Acts) (from index owner word : ℕ) (inside : Bool) (guard : Expr) (now : Running M) (lane : Moment) → IsGoodTree core root here inside index acts → IsOwned owner acts → Below index acts
-      → layout.lasting ≤ from → Lies p.temps from (items_of here row guard acts from).widths → IsGuard layout from guard → T now lane → V lane guard ≡ 1
-      → RowFor index inside row → RowHas meant row word lane → Runs core ops layout p meant owner word
+      → layout.lasting ≤ from → Lies p.temps from (items_of here row guard acts from).widths → IsGuard p layout from guard → T now lane → V lane guard ≡ 1
+      → RowFor index inside row → RowHas meant row word lane → Runs core ops layout p meant owner row word
       → W from index (run core here word acts now) lane (G (items_of here row guard acts from).moves lane)
   active_runs here row Done from index owner word inside guard now lane tree owned below low placed guarded tied on row_for has runs = went_here core ops layout p meant root before pins from index now lane tied
   active_runs here row (Act number level past own rest) from index owner word inside guard now lane tree owned below low placed guarded tied on row_for has runs =
@@ -637,7 +636,7 @@ module _ {R M A B C D E : Type 0} (core : Core R M) (ops : Operations) (layout :
       let up : (r : ℕ) → row ≡ Some r → Kept number r = λ r e is. let k = row_for.1 r e is in omega (arith, k, tree.0) in
       let has1 : RowHas meant row word lane1 = row_kept core ops layout p meant root before pins from number now lane lane1 row word up choice.went has in
       let taking = λ (chosen_is : on_chosen ≡ true).
-      let mine_runs = own_runs number word past now (core.is_root number) refl less good.past_is (not_root number past inside tree.2 tree.3) (λ is. (good.chosen is word chosen_is, chosen_is)) in
+      let mine_runs = own_runs number word past row now (core.is_root number) refl less good.past_is (not_root number past inside tree.2 tree.3) (λ is. (good.chosen is word chosen_is, chosen_is)) (λ is. ap is_some (row_for.0 (tree.2 is)).1) in
       item_runs same base number here number word past row own c.out now lane1 (omega (arith, low)) placed4 choice.guarded choice.went.tied (choice.is ∙ ap bit chosen_is) (omega arith) good.above_is (λ is. has1) up mine_runs
       (λ same_is from' lane' more placed' tied' on' has'.
       let level_is : level ≡ here = eqb-true level here same_is in
@@ -690,7 +689,7 @@ module _ {R M A B C D E : Type 0} (core : Core R M) (ops : Operations) (layout :
       let here_part = part from c.piece.widths now lane low placed3 tied in
       let l = lowered.condition_leaves number test row from before pins now.moment lane here_part in
       let lane1 = G c.piece.moves lane in
-      let is1 : V lane1 c.out ≡ bit holds = lowered.condition_is number test row from before pins now.moment lane word here_part has (subst (λ (n : ℕ). Runs core ops layout p meant n word) (sym owned.0) runs) in
+      let is1 : V lane1 c.out ≡ bit holds = lowered.condition_is number test row from before pins now.moment lane word here_part has (subst (λ (n : ℕ). Runs core ops layout p meant n row word) (sym owned.0) runs) in
       let went1 : W from index now lane lane1 = went_part core ops layout p meant root before pins from index now now lane lane1 tied l.0.keeps l.0.agrees refl refl refl (λ r w kept h. l.1 r w tt h) in
       let on1 = guard_kept core ops layout p meant root before pins from index now lane lane1 guard guarded went1 ∙ on in
       let choice1 = one_more base1 index guard c.out holds now lane1 (omega (arith, low)) placed5 went1.tied on1 is1 in

@@ -269,7 +269,7 @@ module _ {R M A B C D E : Type 0} (core : Core R M) (sound : IsSound core) (ops 
       let has1 : HasRowWord meant (row_of core ops layout level) turn_word lane1 = c.went.rows (row_of core ops layout level) turn_word (λ same. absurd (apart same)) has in
       let word_is : past' ≡ true → turn_word ≡ word = λ e. sym (r.word.is ∙ ap (λ (b : Bool). word_below b turn_word) (is_good.past_is ∙ e)) in
       let chosen : past' ≡ true → (core.decodes word ≡ true) × (core.chooses number word ≡ true) = λ e. (is_good.chosen e word (r.word.chosen (is_good.past_is ∙ e)), r.word.chosen (is_good.past_is ∙ e)) in
-      let runs = own_runs core ops layout p meant root before pins lowered laid.lasts enough sound.one_root number word past' now (core.is_root number) refl (omega (arith, below)) is_good.past_is (not_root core ops layout p meant root before pins lowered laid.lasts enough sound.one_root number past' inside so after) chosen in
+      let runs = own_runs core ops layout p meant root before pins lowered laid.lasts enough sound.one_root number word past' row now (core.is_root number) refl (omega (arith, below)) is_good.past_is (not_root core ops layout p meant root before pins lowered laid.lasts enough sound.one_root number past' inside so after) chosen (λ e. refl) in
       let mine = own_word core number past' word now in
       let begun = behavior core number mine now in
       let end = run core level mine own begun in

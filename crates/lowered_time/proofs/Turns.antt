@@ -213,11 +213,11 @@ module _ {R M A B C D E : Type 0} (core : Core R M) (sound : IsSound core) (ops 
       let placed1 = lies_left p.temps base load.widths body.widths placed0 in
       let placed2 = lies_right p.temps base load.widths body.widths placed0 in
       let here : IsPart core ops layout p meant base load.widths before pins now.moment lane1 = record { lasting = omega (arith, low); placed = placed1; agrees = c.tied.agrees } in
-      let leaves = lowered.load_leaves (row_of core ops layout l) (stage_word core ops layout l) base before pins now.moment lane1 here in
+      let leaves = lowered.load_leaves (row_of core ops layout l) (stage_word core ops layout l) base before pins now.moment lane1 (omega (arith, within)) here in
       let lane2 = G load.moves lane1 in
       let tied2 : T now lane2 = tied_part core ops layout p meant root before pins base now now lane1 lane2 c.tied leaves.0.keeps leaves.0.agrees refl refl refl in
       let word = moving core words now.slot l in
-      let has = lowered.loads (row_of core ops layout l) (stage_word core ops layout l) base before pins now.moment lane1 word here (stage_word_is l now lane1 c.tied) (moving_word l now lane1 c.tied) in
+      let has = lowered.loads (row_of core ops layout l) (stage_word core ops layout l) base before pins now.moment lane1 word (omega (arith, within)) here (stage_word_is l now lane1 c.tied) (moving_word l now lane1 c.tied) in
       let right2 : AreControls level now lane2 = record {
         held = λ k above high. leaves.0.keeps.times (held_at k) (omega (arith, high)) ∙ c.right.held k above high;
         free = λ k above high. leaves.0.keeps.times (open_at k) (omega (arith, high)) ∙ c.right.free k above high;
@@ -288,7 +288,7 @@ module _ {R M A B C D E : Type 0} (core : Core R M) (sound : IsSound core) (ops 
       let begun' = behavior core 0 mine now in
       let end = run core 0 mine core.acts begun' in
       let past_is = tree.1.past_is in
-      let runs = own_runs core ops layout p meant root before pins lowered laid.lasts enough sound.one_root 0 0 false now (core.is_root 0) refl (omega arith) past_is (λ e. absurd (both_ways false refl e)) (λ e. absurd (both_ways false refl e)) in
+      let runs = own_runs core ops layout p meant root before pins lowered laid.lasts enough sound.one_root 0 0 false None now (core.is_root 0) refl (omega arith) past_is (λ e. absurd (both_ways false refl e)) (λ e. absurd (both_ways false refl e)) (λ e. absurd (both_ways false refl e)) in
       let went : W from 0 end (begun p old) (G (main_run core ops layout from).moves (begun p old)) =
       occurrence_went core ops layout p meant root before pins lowered laid.lasts enough sound.one_root (core.is_root 0) from 0 0 0 false None always (active core ops layout 0 (own_row core ops layout 0 false None) always core.acts) now end (begun p old) refl (omega arith) placed no_guard tied refl (omega arith)
       (λ e. absurd (both_ways false refl e)) (λ r e. absurd (none_is r e)) runs

@@ -100,13 +100,13 @@ module _ {R M A B C D E : Type 0} (core : Core R M) (ops : Operations) (layout :
 
   -- ---- what stays
 
-  pub guard_kept : (from index : ℕ) (now : Running M) (lane after : Moment) (guard : Expr) → IsGuard layout from guard → Went from index now lane after → val after guard ≡ val lane guard
+  pub guard_kept : (from index : ℕ) (now : Running M) (lane after : Moment) (guard : Expr) → IsGuard p layout from guard → Went from index now lane after → val after guard ≡ val lane guard
   guard_kept from index now lane after _ no_guard went = refl
-  guard_kept from index now lane after _ (held_guard low high) went = went.others _ low high
+  guard_kept from index now lane after _ (held_guard low high wide) went = went.others _ low high
 
-  pub guard_wider : (from from' : ℕ) (guard : Expr) → from ≤ from' → IsGuard layout from guard → IsGuard layout from' guard
+  pub guard_wider : (from from' : ℕ) (guard : Expr) → from ≤ from' → IsGuard p layout from guard → IsGuard p layout from' guard
   guard_wider from from' _ more no_guard = no_guard
-  guard_wider from from' _ more (held_guard low high) = held_guard low (omega (arith, more, high))
+  guard_wider from from' _ more (held_guard low high wide) = held_guard low (omega (arith, more, high)) wide
 
   pub row_kept : (from index : ℕ) (now : Running M) (lane after : Moment) (row : Option ℕ) (word : ℕ) → ((r : ℕ) → row ≡ Some r → IsRowKept index r) → Went from index now lane after → RowHas meant row word lane → RowHas meant row word after
   row_kept from index now lane after None word kept went has = has

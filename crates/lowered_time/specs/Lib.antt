@@ -3,3 +3,4 @@ pub mod Building
 pub mod Lowering
 pub mod Laws
 pub mod Forming
+pub mod Code

@@ -1,5 +1,5 @@
 -- What the parts of a description have to do, so that the steps of an edge make an edge. On the way to the program: nothing here needs to be trusted.
-use Rattle.std.specs.Prelude.{ℕ, suc, ◌+◌, ◌≡◌, ◌≢◌, ◌<◌, ◌≤◌, Bool, true, false, List, length, get_or, cond, Option, None, Some, is_some, nat_eq}
+use Rattle.std.specs.Prelude.{ℕ, suc, ◌+◌, ◌≡◌, ◌≢◌, ◌<◌, ◌≤◌, ◌||◌, Bool, true, false, List, length, get_or, slice_index, cond, Option, None, Some, is_some, nat_eq}
 use Rattle.std.specs.List.{list_any, AllByRecursion}
 use Rattle.lisa_engine.specs.State.{State}
 use Rattle.step_program.specs.Programs.{Expr, Temp, Move, Program}
@@ -27,10 +27,19 @@ IsOwned owner Done = Unit {0}
 IsOwned owner (Act number level past own rest) = IsOwned number own × IsOwned owner rest
 IsOwned owner (When number test taken other rest) = (number ≡ owner) × IsOwned owner taken × IsOwned owner other × IsOwned owner rest
 
--- a guard that a part leaves as it is: none, or a temp before the part's own
-pub data IsGuard (layout : Layout) (from : ℕ) : Expr → Type 0 where
-  no_guard : IsGuard layout from always
-  held_guard : {temp : ℕ} → layout.lasting ≤ temp → temp < from → IsGuard layout from (Temp temp)
+-- a guard that a part leaves as it is: none, or a temp of one bit before the part's own
+pub data IsGuard (p : Program) (layout : Layout) (from : ℕ) : Expr → Type 0 where
+  no_guard : IsGuard p layout from always
+  held_guard : {temp : ℕ} → layout.lasting ≤ temp → temp < from → slice_index p.temps temp ≡ 1 → IsGuard p layout from (Temp temp)
+
+module _ {R M : Type 0} (core : Core R M) where
+  -- that of the root's word, or that of a level's
+  abbrev pub IsRow : ℕ → Type 0
+  IsRow row = row < suc (suc core.stages)
+
+  -- the root has a row, and so has what is past it
+  abbrev pub HasOwnRow : ℕ → Option ℕ → Type 0
+  HasOwnRow number row = (is_past core number || core.is_root number) ≡ true → is_some row ≡ true
 
 module _ {R M : Type 0} (core : Core R M) (layout : Layout) where
   -- what time changes, which the parts don't see
@@ -94,9 +103,9 @@ RowHas meant None word now = word ≡ 0
 RowHas meant (Some row) word now = HasRowWord meant row word now
 
 module _ {R M A B C D E : Type 0} (core : Core R M) (ops : Operations) (layout : Layout) (p : Program) (meant : Meant R M A B C D E) where
-  -- an occurrence that runs with a word: what is past the root is what the word's instruction chooses
-  abbrev pub Runs : ℕ → ℕ → Type 0
-  Runs number word = (number < suc (size core.acts)) × (is_past core number ≡ true → (core.decodes word ≡ true) × (core.chooses number word ≡ true))
+  -- an occurrence that runs with a row and its word: what is past the root is what the word's instruction chooses
+  abbrev pub Runs : ℕ → Option ℕ → ℕ → Type 0
+  Runs number row word = (number < suc (size core.acts)) × (is_past core number ≡ true → (core.decodes word ≡ true) × (core.chooses number word ≡ true)) × HasOwnRow core number row
 
   -- a part, whose temps begin with this one, at a moment
   pub record IsPart (from : ℕ) (widths : List ℕ) (before pins : List ℕ) (m : M) (now : Moment) : Type 0 where
@@ -104,13 +113,18 @@ module _ {R M A B C D E : Type 0} (core : Core R M) (ops : Operations) (layout :
     pub placed : Lies p.temps from widths
     pub agrees : Agrees meant before pins m now
 
-  -- what a part that reads leaves
-  pub record Leaves (from : ℕ) (piece : Piece) (before pins : List ℕ) (m : M) (now : Moment) : Type 0 where
-    pub agrees : Agrees meant before pins m (ran p before pins now piece.moves)
+  -- what a part leaves, after which the moment is this one
+  pub record Leaves (from : ℕ) (piece : Piece) (before pins : List ℕ) (end : M) (now : Moment) : Type 0 where
+    pub agrees : Agrees meant before pins end (ran p before pins now piece.moves)
     pub keeps : Keeps core layout from now (ran p before pins now piece.moves)
 
   abbrev pub KeepsRows : List Move → (before pins : List ℕ) → Moment → (ℕ → Type 0) → Type 0
   KeepsRows moves before pins now IsKept = (row word : ℕ) → IsKept row → HasRowWord meant row word now → HasRowWord meant row word (ran p before pins now moves)
+
+  -- what a part that acts leaves, after which the moment is this one: rows have their words still
+  pub record Does (from : ℕ) (piece : Piece) (before pins : List ℕ) (end : M) (now : Moment) : Type 0 where
+    pub leaves : Leaves from piece before pins end now
+    pub rows : KeepsRows piece.moves before pins now (λ row. Unit {0})
 
   pub record AreLowered : Type 0 where
     pub owned : IsOwned 0 core.acts
@@ -121,25 +135,21 @@ module _ {R M A B C D E : Type 0} (core : Core R M) (ops : Operations) (layout :
     pub begins : (memory : R) (old : State) (pins : List ℕ) → IsEntry meant pins → Lasts meant memory old → Agrees meant old.items pins (core.begin pins memory) (begun p old)
     -- BEHAVIORs
     pub behaves : (number : ℕ) (row : Option ℕ) (guard : Expr) (from : ℕ) (before pins : List ℕ) (m : M) (now : Moment) (word : ℕ)
-        → IsPart from (ops.behavior number row guard from).widths before pins m now → IsGuard layout from guard → value p before pins now guard ≡ 1
-        → RowHas meant row word now → Runs number word
-        → Agrees meant before pins (core.behave number word m) (ran p before pins now (ops.behavior number row guard from).moves)
+        → IsPart from (ops.behavior number row guard from).widths before pins m now → IsGuard p layout from guard → value p before pins now guard ≡ 1
+        → RowHas meant row word now → Runs number row word
+        → Does from (ops.behavior number row guard from) before pins (core.behave number word m) now
     pub rests : (number : ℕ) (row : Option ℕ) (guard : Expr) (from : ℕ) (before pins : List ℕ) (m : M) (now : Moment)
-        → IsPart from (ops.behavior number row guard from).widths before pins m now → IsGuard layout from guard → value p before pins now guard ≡ 0
-        → Agrees meant before pins m (ran p before pins now (ops.behavior number row guard from).moves)
-    pub behavior_keeps : (number : ℕ) (row : Option ℕ) (guard : Expr) (from : ℕ) (before pins : List ℕ) (m : M) (now : Moment)
-        → IsPart from (ops.behavior number row guard from).widths before pins m now
-        → Keeps core layout from now (ran p before pins now (ops.behavior number row guard from).moves)
-        × KeepsRows (ops.behavior number row guard from).moves before pins now (λ row. Unit {0})
+        → IsPart from (ops.behavior number row guard from).widths before pins m now → IsGuard p layout from guard → value p before pins now guard ≡ 0
+        → Does from (ops.behavior number row guard from) before pins m now
     -- conditions
     pub condition_is : (number test : ℕ) (row : Option ℕ) (from : ℕ) (before pins : List ℕ) (m : M) (now : Moment) (word : ℕ)
-        → IsPart from (ops.condition number test row from).piece.widths before pins m now → RowHas meant row word now → Runs number word
+        → IsPart from (ops.condition number test row from).piece.widths before pins m now → RowHas meant row word now → Runs number row word
         → value p before pins (ran p before pins now (ops.condition number test row from).piece.moves) (ops.condition number test row from).out ≡ bit (core.holds number test word m)
     pub condition_leaves : (number test : ℕ) (row : Option ℕ) (from : ℕ) (before pins : List ℕ) (m : M) (now : Moment)
         → IsPart from (ops.condition number test row from).piece.widths before pins m now
         → Leaves from (ops.condition number test row from).piece before pins m now
         × KeepsRows (ops.condition number test row from).piece.moves before pins now (λ row. Unit {0})
-        × IsGuard layout (from + length (ops.condition number test row from).piece.widths) (ops.condition number test row from).out
+        × IsGuard p layout (from + length (ops.condition number test row from).piece.widths) (ops.condition number test row from).out
     -- the root's word
     pub fetches : (from : ℕ) (before pins : List ℕ) (m : M) (now : Moment)
         → IsPart from (ops.fetch from).piece.widths before pins m now
@@ -149,10 +159,10 @@ module _ {R M A B C D E : Type 0} (core : Core R M) (ops : Operations) (layout :
         × IsWordOf meant (core.fetch m)
     -- rows
     pub loads : (row : ℕ) (e : Expr) (from : ℕ) (before pins : List ℕ) (m : M) (now : Moment) (word : ℕ)
-        → IsPart from (ops.load row e from).widths before pins m now → value p before pins now e ≡ word → IsWordOf meant word
+        → IsRow core row → IsPart from (ops.load row e from).widths before pins m now → value p before pins now e ≡ word → IsWordOf meant word
         → HasRowWord meant row word (ran p before pins now (ops.load row e from).moves)
     pub load_leaves : (row : ℕ) (e : Expr) (from : ℕ) (before pins : List ℕ) (m : M) (now : Moment)
-        → IsPart from (ops.load row e from).widths before pins m now
+        → IsRow core row → IsPart from (ops.load row e from).widths before pins m now
         → Leaves from (ops.load row e from) before pins m now
         × KeepsRows (ops.load row e from).moves before pins now (λ other. other ≢ row)
     pub row_is : (before pins : List ℕ) (row word : ℕ) (now : Moment) → HasRowWord meant row word now

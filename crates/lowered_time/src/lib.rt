@@ -2,4 +2,15 @@
 
 #![tactic(auto)]
 
+mod edge_steps;
+mod end_steps;
+mod expressions;
 pub mod laws;
+mod occurrences;
+mod parts;
+mod temps;
+mod turn_steps;
+
+pub use edge_steps::lower_edge;
+pub use parts::Parts;
+pub use temps::{held_at, open_at, recorded_at, slot_at, taken_at};
