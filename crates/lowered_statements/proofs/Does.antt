@@ -78,7 +78,7 @@ module _ (ways : Ways) where
   extends stmts.Empty scope guard from = extends_none scope
   extends (stmts.Block all) scope guard from = extends_none scope
   extends (stmts.Local shape n e) scope guard from =
-      let x = first_of ways scope from shape e in
+      let x = first_of ways.reads scope from shape e in
       ((n, record { temp = top from x.piece; kind = x.out.kind; width = x.out.width }) ∷ [], refl)
   extends (stmts.Assign target e) scope guard from = extends_none scope
   extends (stmts.If test chosen) scope guard from = extends_none scope
@@ -287,8 +287,8 @@ module _ {M : Type 0} (doing : Doing M) (ways : Ways) (rules : Rules) (p : Progr
   -- ---- statements
 
   -- what a local holds first
-  first_stands : (scope : Scope) (from : ℕ) (shape : Shape) (e : Option ExprTree) (m : M) (now : Moment) → IsFirst rules (names_of scope) e → IsScope p lasts from scope → Lies p.temps from (first_of ways scope from shape e).piece.widths → AgreesIn scope m now
-      → Stands (run now (first_of ways scope from shape e).piece.moves) (first_of ways scope from shape e).out (first_value shape (doing.reader m) e)
+  first_stands : (scope : Scope) (from : ℕ) (shape : Shape) (e : Option ExprTree) (m : M) (now : Moment) → IsFirst rules (names_of scope) e → IsScope p lasts from scope → Lies p.temps from (first_of ways.reads scope from shape e).piece.widths → AgreesIn scope m now
+      → Stands (run now (first_of ways.reads scope from shape e).piece.moves) (first_of ways.reads scope from shape e).out (first_value shape (doing.reader m) e)
   first_stands scope from shape None m now typed is lies h = record { kind = refl; width = refl; wide = refl; bits = refl; fits = zero_fits shape }
   first_stands scope from shape (Some e) m now typed is lies h =
       let x = ways.reads scope from e in
@@ -311,7 +311,7 @@ module _ {M : Type 0} (doing : Doing M) (ways : Ways) (rules : Rules) (p : Progr
         let x = stated_all ways scope guard from all in
         left from scope x.scope m (effect_all doing all m) now now (run now x.piece.moves) (extends_all ways all scope guard from) h (does_all all scope guard from m now typed is guards one lies h)
     does_one (stmts.Local shape n e) scope guard from m now typed is guards one lies h =
-        let x = first_of ways scope from shape e in
+        let x = first_of ways.reads scope from shape e in
         let v = first_value shape (doing.reader m) e in
         let l : Local = record { temp = top from x.piece; kind = x.out.kind; width = x.out.width } in
         let piece = held from x.piece x.out.width x.out.at in

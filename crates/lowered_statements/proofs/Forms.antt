@@ -74,7 +74,7 @@ module _ (ways : Ways) (rules : Rules) (p : Program) (lasts : ℕ) (forms : Form
     piece_formed : IsPiece p piece
     formula : IsFormula p 7 x
 
-  first_formed : (scope : Scope) (from : ℕ) (shape : Shape) (e : Option ExprTree) → IsFirst rules (names_of scope) e → IsScope p lasts from scope → Lies p.temps from (first_of ways scope from shape e).piece.widths → IsFormed from (first_of ways scope from shape e).piece (first_of ways scope from shape e).out
+  first_formed : (scope : Scope) (from : ℕ) (shape : Shape) (e : Option ExprTree) → IsFirst rules (names_of scope) e → IsScope p lasts from scope → Lies p.temps from (first_of ways.reads scope from shape e).piece.widths → IsFormed from (first_of ways.reads scope from shape e).piece (first_of ways.reads scope from shape e).out
   first_formed scope from shape None typed is lies =
       let w = word_width_is shape.width in
       record { piece_formed = nothing_formed p; formula = record { fits = (w, pow_pos _); wide = refl; sized = w; shallow = omega arith } }
@@ -130,7 +130,7 @@ module _ (ways : Ways) (rules : Rules) (p : Program) (lasts : ℕ) (forms : Form
     stated_formed stmts.Empty scope guard from typed is guards lies = nothing_formed p
     stated_formed (stmts.Block all) scope guard from typed is guards lies = all_formed all scope guard from typed is guards lies
     stated_formed (stmts.Local shape n e) scope guard from typed is guards lies =
-        let x = first_of ways scope from shape e in
+        let x = first_of ways.reads scope from shape e in
         let formed = first_formed scope from shape e typed.1 is (lies_left p.temps from x.piece.widths (x.out.width ∷ []) lies) in
         (kept_formed p from x.piece x.out lies formed.piece_formed formed.formula).piece
     stated_formed (stmts.Assign target e) scope guard from typed is guards lies =

@@ -76,7 +76,7 @@ module _ (p : Program) (before pins : List ℕ) where
   pub off_zero : (x : Operand) (guard : Expr) (now : Moment) → val now guard ≡ 0 → val now (off x guard) ≡ 0
   off_zero x guard now h = picked_zero x (Const 1 0) guard now refl h
 
-  has_on : (from : ℕ) (a b : Moment) → Rests from a b → HasTemps p a → HasTemps p b
+  pub has_on : (from : ℕ) (a b : Moment) → Rests from a b → HasTemps p a → HasTemps p b
   has_on from a b r has = r.room ∙ has
 
   -- ---- loops
@@ -116,7 +116,7 @@ module _ (p : Program) (before pins : List ℕ) where
       go false lies = turns_rest from shape body guard low (idle (lies_right p.temps from ((counter_of from shape).width ∷ []) body.widths lies)) b (turns b) 0 now zero_guard has
 
   module _ (ways : Ways) (are : AreIdle ways p before pins) where
-    pub first_scratch : (scope : Scope) (from : ℕ) (shape : Shape) (e : Option ExprTree) → Scratch from (first_of ways scope from shape e).piece
+    pub first_scratch : (scope : Scope) (from : ℕ) (shape : Shape) (e : Option ExprTree) → Scratch from (first_of ways.reads scope from shape e).piece
     first_scratch scope from shape None = all_none (λ (m : Move). IsScratch from m.aim)
     first_scratch scope from shape (Some e) = are.reads scope from e
 
@@ -125,7 +125,7 @@ module _ (p : Program) (before pins : List ℕ) where
       rests stmts.Empty scope guard from now low idle has lies = rests_none from now
       rests (stmts.Block all) scope guard from now low idle has lies = all_rest all scope guard from now low idle has lies
       rests (stmts.Local shape n e) scope guard from now low idle has lies =
-          let x = first_of ways scope from shape e in
+          let x = first_of ways.reads scope from shape e in
           held_rests from x.piece x.out.width x.out.at now (first_scratch scope from shape e)
       rests (stmts.Assign target e) scope guard from now low idle has lies =
           let x = ways.reads scope from e in

@@ -2,3 +2,11 @@ pub mod Scoped
 pub mod Idle
 pub mod Does
 pub mod Forms
+pub mod Drafted
+pub mod Work
+pub mod Turned
+pub mod SceneRests
+pub mod SceneForms
+pub mod Blocks
+pub mod Branches
+pub mod Named

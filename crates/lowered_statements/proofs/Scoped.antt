@@ -178,7 +178,7 @@ module _ (ways : Ways) where
   free_after stmts.Empty scope guard from k lt f = f
   free_after (stmts.Block all) scope guard from k lt f = f
   free_after (stmts.Local shape n e) scope guard from k lt f =
-      let x = first_of ways scope from shape e in
+      let x = first_of ways.reads scope from shape e in
       free_entered scope n (record { temp = top from x.piece; kind = x.out.kind; width = x.out.width }) k f (omega (arith, top_low from x.piece))
   free_after (stmts.Assign target e) scope guard from k lt f = f
   free_after (stmts.If test chosen) scope guard from k lt f = f
@@ -191,11 +191,11 @@ module _ (ways : Ways) where
   free_after (stmts.Execute pipe) scope guard from k lt f = f
   free_after (stmts.Shift pipe) scope guard from k lt f = f
 
-  first_shape : (scope : Scope) (from : ℕ) (shape : Shape) (e : Option ExprTree) → (first_of ways scope from shape e).out.kind ≡ shape.kind
+  first_shape : (scope : Scope) (from : ℕ) (shape : Shape) (e : Option ExprTree) → (first_of ways.reads scope from shape e).out.kind ≡ shape.kind
   first_shape scope from shape None = refl
   first_shape scope from shape (Some e) = refl
 
-  first_width : (scope : Scope) (from : ℕ) (shape : Shape) (e : Option ExprTree) → (first_of ways scope from shape e).out.width ≡ (shaped shape).width
+  first_width : (scope : Scope) (from : ℕ) (shape : Shape) (e : Option ExprTree) → (first_of ways.reads scope from shape e).out.width ≡ (shaped shape).width
   first_width scope from shape None = refl
   first_width scope from shape (Some e) = refl
 
@@ -206,7 +206,7 @@ module _ (ways : Ways) where
   names_stated stmts.Empty scope guard from = refl
   names_stated (stmts.Block all) scope guard from = refl
   names_stated (stmts.Local shape n e) scope guard from =
-      let x = first_of ways scope from shape e in
+      let x = first_of ways.reads scope from shape e in
       let l : Local = record { temp = top from x.piece; kind = x.out.kind; width = x.out.width } in
       names_entered scope n l ∙ ap (λ (t : Shape). names_of scope ++ (n, t) ∷ []) (shapes (local_shape l) (shaped shape) (first_shape scope from shape e) (first_width scope from shape e))
   names_stated (stmts.Assign target e) scope guard from = refl
@@ -224,7 +224,7 @@ pub word_width_is : (w : ℕ) → IsWidth (word_width w)
 word_width_is w = (grind (arith, nat_tests), grind (arith, nat_tests))
 
 module _ (ways : Ways) (p : Program) (lasts : ℕ) where
-  first_wide : (scope : Scope) (from : ℕ) (shape : Shape) (e : Option ExprTree) → IsWidth (first_of ways scope from shape e).out.width
+  first_wide : (scope : Scope) (from : ℕ) (shape : Shape) (e : Option ExprTree) → IsWidth (first_of ways.reads scope from shape e).out.width
   first_wide scope from shape None = word_width_is shape.width
   first_wide scope from shape (Some e) = word_width_is shape.width
 
@@ -235,7 +235,7 @@ module _ (ways : Ways) (p : Program) (lasts : ℕ) where
   scope_after stmts.Empty scope guard from is lies = stays scope from (stated ways scope guard from stmts.Empty).piece is
   scope_after (stmts.Block all) scope guard from is lies = stays scope from (stated ways scope guard from (stmts.Block all)).piece is
   scope_after (stmts.Local shape n e) scope guard from is lies =
-      let x = first_of ways scope from shape e in
+      let x = first_of ways.reads scope from shape e in
       let l : Local = record { temp = top from x.piece; kind = x.out.kind; width = x.out.width } in
       let one = lies_one p.temps (top from x.piece) x.out.width [] (lies_right p.temps from x.piece.widths (x.out.width ∷ []) lies) in
       subst (λ (high : ℕ). IsScope p lasts high (entered scope n l)) (sym (top_held from x.piece x.out.width x.out.at))

@@ -1,6 +1,9 @@
 pub mod Scopes
 pub mod Ways
 pub mod Stated
+pub mod Scenes
 pub mod Typed
 pub mod Agreement
+pub mod SceneLaws
+pub mod Code
 pub mod Laws

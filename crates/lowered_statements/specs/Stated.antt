@@ -17,7 +17,7 @@ use Rattle.lowered_values.specs.Operands.{Operand, operand_of}
 use Rattle.lowered_values.specs.Templates.{picked, number_operand, as_shape}
 use Rattle.lowered_values.specs.Computed.{Computed, leaf}
 use Rattle.lowered_statements.specs.Scopes.{Local, Scope, entered}
-use Rattle.lowered_statements.specs.Ways.{Ways}
+use Rattle.lowered_statements.specs.Ways.{Reads, Ways}
 
 -- a piece, and the locals that are in scope behind it
 pub record Stated : Type 0 where
@@ -39,10 +39,10 @@ given None x kind = x
 given (Some v) x kind = number_operand kind v
 
 -- what a local holds first: 0, or what its declaration assigns
-abbrev pub first_of : Ways → Scope → ℕ → Shape → Option ExprTree → Computed
-first_of ways scope from shape None = leaf (operand_of shape.kind (word_width shape.width) (Const (word_width shape.width) 0))
-first_of ways scope from shape (Some e) =
-    let x = ways.reads scope from e in
+abbrev pub first_of : Reads → Scope → ℕ → Shape → Option ExprTree → Computed
+first_of reads scope from shape None = leaf (operand_of shape.kind (word_width shape.width) (Const (word_width shape.width) 0))
+first_of reads scope from shape (Some e) =
+    let x = reads scope from e in
     record { out = as_shape shape (given (literal e) x.out shape.kind); piece = x.piece }
 
 -- a local takes a temp, which is set whatever the guard
@@ -93,7 +93,7 @@ abbrev mutual
   pub stated : Ways → Scope → (guard : Expr) → ℕ → StmtTree → Stated
   stated ways scope guard from stmts.Empty = within scope nothing
   stated ways scope guard from (stmts.Block all) = within scope (stated_all ways scope guard from all).piece
-  stated ways scope guard from (stmts.Local shape n e) = with_local scope from n (first_of ways scope from shape e)
+  stated ways scope guard from (stmts.Local shape n e) = with_local scope from n (first_of ways.reads scope from shape e)
   stated ways scope guard from (stmts.Assign target e) =
       let x = ways.reads scope from e in
       within scope (behind x.piece (ways.puts scope guard (top from x.piece) target (given (literal e) x.out)))

@@ -7,6 +7,9 @@ ghost use Rattle.typed_values.specs.Effects.{Doing};
 ghost use Rattle.lowered_statements.specs.Ways.{Ways};
 ghost use Rattle.lowered_statements.specs.Typed.{Rules};
 ghost use Rattle.lowered_statements.specs.Laws.{StatementsRest, StatementsDo, StatementsAreFormed};
+ghost use Rattle.lowered_statements.specs.SceneLaws.{CallsRest, CallsAreFormed};
+
+use crate::scenes::Lowers;
 
 /// What statements do, what their steps are made of, and how a step program's moment stands for that of a behaviour.
 pub trait Lowered {
@@ -38,4 +41,21 @@ pub fn statements_do<L: Lowered>()
 /// The steps of statements are well formed and not deep.
 pub fn statements_are_formed<L: Lowered>()
     ensures { (x : L) (p : Program) → StatementsAreFormed (L.ways x) (L.rules x) (L.lasts x) p }
+{}
+
+/// Under a guard that is 0 calls change temps of their own alone, however deep they are, where all else that scenes are made of does.
+pub fn calls_rest<L: Lowers>()
+    ensures { (x : L) (p : Program) (old pins : List ℕ) → CallsRest (L.scenes x) p old pins }
+{}
+
+/// Scenes, with what is asked of their statements, and temps below a number that last through the edge.
+pub trait Ruled: Lowers {
+    ghost rules: { Self → Self.Scene → Rules };
+
+    ghost lasts: { Self → ℕ };
+}
+
+/// The steps of calls are well formed and not deep, however deep calls are, where all else that scenes are made of is.
+pub fn calls_are_formed<L: Ruled>()
+    ensures { (x : L) (p : Program) → CallsAreFormed (L.scenes x) (L.rules x) (L.lasts x) p }
 {}
