@@ -92,7 +92,7 @@ module _ (d : DescriptionTree) (places : Places) (low : ℕ) where
     pub flushes : (guard : Expr) (from : ℕ) (n : List ℕ) → Aimed (ways.flushes guard from n)
 
   module _ (ways : Ways) (rules : Rules) (aim : AimWays ways rules) where
-    first_aimed : (scope : Scope) (from : ℕ) (shape : Shape) (e : Option ExprTree) → low ≤ from → Aimed (first_of ways scope from shape e).piece
+    first_aimed : (scope : Scope) (from : ℕ) (shape : Shape) (e : Option ExprTree) → low ≤ from → Aimed (first_of ways.reads scope from shape e).piece
     first_aimed scope from shape None le = none_aimed
     first_aimed scope from shape (Some e) le = aim.reads scope from e le
 
@@ -121,7 +121,7 @@ module _ (d : DescriptionTree) (places : Places) (low : ℕ) where
     after_above stmts.Empty scope guard from le are = are
     after_above (stmts.Block all) scope guard from le are = are
     after_above (stmts.Local shape n e) scope guard from le are =
-        let x = first_of ways scope from shape e in
+        let x = first_of ways.reads scope from shape e in
         let up = top_low from x.piece in
         above_entered low scope n (record { temp = top from x.piece; kind = x.out.kind; width = x.out.width }) are (omega (arith, le, up))
     after_above (stmts.Assign target e) scope guard from le are = are
@@ -140,7 +140,7 @@ module _ (d : DescriptionTree) (places : Places) (low : ℕ) where
       stated_aimed stmts.Empty names scope guard from typed le are = none_aimed
       stated_aimed (stmts.Block all) names scope guard from typed le are = all_aimed all names scope guard from typed le are
       stated_aimed (stmts.Local shape n e) names scope guard from typed le are =
-          let x = first_of ways scope from shape e in
+          let x = first_of ways.reads scope from shape e in
           held_aimed from x.piece x.out.width x.out.at le (first_aimed scope from shape e le)
       stated_aimed (stmts.Assign target e) names scope guard from typed le are =
           let x = ways.reads scope from e in

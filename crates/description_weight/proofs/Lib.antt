@@ -1,0 +1,4 @@
+pub mod Counting
+pub mod Choosing
+pub mod Unfolding
+pub mod Parts

@@ -1,0 +1,3 @@
+pub mod Unfolded
+pub mod Weights
+pub mod Sums

@@ -1,0 +1,10 @@
+//! The weight of a description: how much there is of it, once it is unfolded.
+#![tactic(auto)]
+
+mod chosen;
+mod forms;
+mod pairs;
+mod texts;
+mod weights;
+
+pub use weights::weigh;

@@ -1,0 +1,5 @@
+pub mod Apart
+pub mod Naming
+pub mod Shown
+pub mod Depths
+pub mod Declared

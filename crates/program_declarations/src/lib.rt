@@ -1,0 +1,6 @@
+//! What an accepted description promises of a step program with its items, arrays and pins.
+#![tactic(auto)]
+
+mod laws;
+
+pub use laws::shown_is_declared;
