@@ -47,7 +47,7 @@ use Rattle.lowered_resources.specs.Places.{Stall, Flush}
 use Rattle.lowered_resources.specs.Putting.{Given, stalls, flushes}
 use Rattle.lowered_resources.proofs.Standing.{stage_level}
 use Rattle.lowered_resources.proofs.Assigning.{stall_leads, flush_leads}
-use Rattle.lowered_resources.proofs.Placing.{level_formed}
+use Rattle.lowered_resources.proofs.PutForms.{level_formed}
 use Rattle.lowered_behaviors.specs.Standpoints.{Standpoint, running, alternatives}
 use Rattle.lowered_behaviors.specs.Values.{Ground}
 use Rattle.lowered_behaviors.specs.Behaviors.{done_by_all, puts_within, ways_at, body_of, behavior_within}

@@ -48,7 +48,7 @@ use Rattle.lowered_values.proofs.Lowering.{top_low, operand_up}
 use Rattle.lowered_time.specs.Pieces.{both}
 use Rattle.lowered_resources.specs.Putting.{Given, Stores, Reads, element_put, meant_put, name_put, puts}
 use Rattle.lowered_resources.specs.Laws.{IsDeclared, IsPlace}
-use Rattle.lowered_resources.proofs.Placing.{puts_formed}
+use Rattle.lowered_resources.proofs.PutForms.{puts_formed}
 use Rattle.lowered_words.specs.Ways.{Way}
 use Rattle.lowered_behaviors.specs.Standpoints.{Standpoint, running, alternatives, own_way}
 use Rattle.lowered_behaviors.specs.Values.{Ground, flag}

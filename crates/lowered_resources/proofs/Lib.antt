@@ -6,5 +6,8 @@ pub mod Forming
 pub mod Fitting
 pub mod Holding
 pub mod Resting
-pub mod Placing
+pub mod PutForms
 pub mod Assigning
+pub mod Numbers
+pub mod Coded
+pub mod Adding

@@ -2,4 +2,5 @@ pub mod Places
 pub mod Reading
 pub mod Putting
 pub mod Holding
+pub mod Code
 pub mod Laws

@@ -1,6 +1,6 @@
 use Rattle.lowered_resources.proofs.Resting.{puts_rest}
 use Rattle.lowered_resources.proofs.Assigning.{puts_lead}
-use Rattle.lowered_resources.proofs.Placing.{puts_formed}
+use Rattle.lowered_resources.proofs.PutForms.{puts_formed}
 use Rattle.lowered_resources.proofs.laws.assignments_assign.Goals as goal
 
 pub returns-clause-rest : goal.returns-clause-rest

@@ -4,7 +4,7 @@ use Rattle.lowered_resources.specs.Places.{Stall, Flush}
 use Rattle.lowered_resources.proofs.Standing.{stage_level}
 use Rattle.lowered_resources.proofs.Resting.{told_rest}
 use Rattle.lowered_resources.proofs.Assigning.{stall_leads, flush_leads}
-use Rattle.lowered_resources.proofs.Placing.{level_formed}
+use Rattle.lowered_resources.proofs.PutForms.{level_formed}
 use Rattle.lowered_resources.proofs.laws.controls_act.Goals as goal
 
 pub returns-clause-rest : goal.returns-clause-rest
