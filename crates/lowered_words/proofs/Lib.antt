@@ -8,3 +8,8 @@ pub mod Loaded
 pub mod Leaving
 pub mod Telling
 pub mod Labelled
+pub mod Tabled
+pub mod Choosing
+pub mod Writing
+pub mod Keeping
+pub mod Linked

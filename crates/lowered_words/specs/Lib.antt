@@ -4,3 +4,7 @@ pub mod Rows
 pub mod Loading
 pub mod Labels
 pub mod Laws
+pub mod Links
+pub mod Tables
+pub mod Kept
+pub mod Code

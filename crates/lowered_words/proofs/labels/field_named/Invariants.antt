@@ -1,0 +1,8 @@
+use Rattle.std.proofs.Common.{◌≡◌, drop}
+use Rattle.std.specs.Prelude.{find}
+use Rattle.description_names.specs.Same.{same_name}
+use Rattle.instruction_forms.specs.declared.form.Field.{Field}
+use Rattle.lowered_words.proofs.labels.field_named.Given as goal
+
+abbrev pub invariant-each : goal.invariant-each
+invariant-each l = find (λ (own : Field). same_name l.name own.label) l.fields ≡ find (λ (own : Field). same_name l.name own.label) (drop l.own-index l.fields)
