@@ -103,7 +103,7 @@ some_has : {X : Type 0} (o : Option X) (x : X) → o ≡ Some x → is_some o �
 some_has o x e = ap is_some e
 
 module _ (d : DescriptionTree) (same : TreesAreOccurrences d) where
-  node_told : (k : ℕ) → option_map node_listed (node_of (core_of d) k) ≡ option_map (occurrence_listed k) (slice_get (occurrences d) k)
+  pub node_told : (k : ℕ) → option_map node_listed (node_of (core_of d) k) ≡ option_map (occurrence_listed k) (slice_get (occurrences d) k)
   node_told k = numbered 0 (all_nodes (core_of d)) (occurrences d) same k k (omega arith)
 
   above_is : (k : ℕ) (x : Occurrence) → slice_get (occurrences d) k ≡ Some x → above_of (core_of d) k ≡ level_of_stage x.from

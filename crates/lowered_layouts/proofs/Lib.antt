@@ -8,3 +8,7 @@ pub mod Roots
 pub mod Laying
 pub mod Starting
 pub mod States
+pub mod Counted
+pub mod Spotted
+pub mod Lasted
+pub mod Ended

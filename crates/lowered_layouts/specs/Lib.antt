@@ -3,3 +3,5 @@ pub mod Items
 pub mod Ends
 pub mod States
 pub mod Laws
+pub mod Spots
+pub mod Code

@@ -2,4 +2,14 @@
 //! that close the boundaries as an edge ends.
 #![tactic(auto)]
 
+mod closing;
+mod counting;
+mod lasting;
 pub mod laws;
+mod lookups;
+mod making;
+mod numbers;
+mod positions;
+mod spots;
+
+pub use positions::Positions;
