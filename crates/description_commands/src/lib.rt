@@ -12,6 +12,7 @@ mod running;
 mod tools;
 
 pub use checks::check_description;
+pub use images::image_for;
 pub use printing::format_description;
 pub use reading::description_of;
 pub use running::do_with_description;
