@@ -11,8 +11,8 @@ use Rattle.lisa_assembler.specs.Faults.{IsSourceFault}
 use Rattle.lisa_outcomes.specs.declared.status.Refusal.{Refusal}
 use Rattle.lisa_outcomes.specs.declared.status.Refusal.TheVariants as refusals
 use Rattle.lisa_outcomes.specs.Outcomes.{Outcome, Finished, After}
-use Rattle.description_commands.specs.Descriptions.{AfterSpelling}
-use Rattle.description_commands.specs.Checked.{Checked, AfterChecks}
+use Rattle.checked_descriptions.specs.Descriptions.{AfterSpelling}
+use Rattle.checked_descriptions.specs.Checked.{Checked, AfterChecks}
 
 -- the most bytes of a source
 abbrev pub source_limit : ℕ

@@ -14,8 +14,8 @@ use Rattle.lisa_assembler.specs.Memories.{memory_items}
 use Rattle.lisa_outcomes.specs.declared.status.Refusal.{Refusal}
 use Rattle.lisa_outcomes.specs.declared.status.Refusal.TheVariants as refusals
 use Rattle.lisa_outcomes.specs.Outcomes.{Outcome, Finished, After}
-use Rattle.description_commands.specs.Descriptions.{AfterSpelling}
-use Rattle.description_commands.specs.Checked.{Checked, AfterChecks}
+use Rattle.checked_descriptions.specs.Descriptions.{AfterSpelling}
+use Rattle.checked_descriptions.specs.Checked.{Checked, AfterChecks}
 use Rattle.assembler_commands.specs.DescriptionObjects.{AfterObjects}
 
 -- the most bytes of an object

@@ -7,9 +7,9 @@ use Rattle.lisa_assembler.specs.Memories.{memory_items}
 use Rattle.lisa_disasm.specs.Listings.{IsListing}
 use Rattle.lisa_outcomes.specs.Outcomes.{Outcome, Finished, After}
 use Rattle.engine_commands.specs.Images.{IsMissing}
-use Rattle.description_commands.specs.Descriptions.{AfterSpelling}
-use Rattle.description_commands.specs.Checked.{Checked, AfterChecks}
-use Rattle.description_commands.specs.DescriptionImages.{AfterImage}
+use Rattle.checked_descriptions.specs.Descriptions.{AfterSpelling}
+use Rattle.checked_descriptions.specs.Checked.{Checked, AfterChecks}
+use Rattle.checked_descriptions.specs.DescriptionImages.{AfterImage}
 
 -- these memories, each of which is one of the description's
 abbrev pub AreThere : DescriptionTree → List Memory → List Memory → Type 0

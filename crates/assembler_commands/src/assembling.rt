@@ -14,15 +14,15 @@ ghost use Rattle.lisa_linker.specs.Memories.{AreMemories};
 ghost use Rattle.lisa_outcomes.specs.Replies.{Replies};
 ghost use Rattle.lisa_outcomes.specs.Stages.{Finds};
 ghost use Rattle.lisa_outcomes.specs.Writes.{Writes};
-ghost use Rattle.description_commands.specs.Checked.{AfterChecks};
-ghost use Rattle.description_commands.specs.ToolViews.{checked_of, AreTools};
+ghost use Rattle.checked_descriptions.specs.Checked.{AfterChecks};
+ghost use Rattle.checked_descriptions.specs.ToolViews.{checked_of, AreTools};
 ghost use Rattle.assembler_commands.specs.Assembled.{IsSource, IsNoSource, IsUnassembled, Assembles, AssemblesChecked, GivesObject};
 ghost use Rattle.assembler_commands.specs.Unlinked.{unassembled_end};
 
 use crate::memories::memories_of;
 use crate::writing::write_text;
 use asm_source::{SourceFault, SourceLine, read_source};
-use description_commands::{Tools, description_of, tools_of};
+use checked_descriptions::{Tools, description_of, tools_of};
 use description_digest::digest;
 use lisa_assembler::{Tools as Assembler, assemble};
 use lisa_engine::ArrayItem;

@@ -13,13 +13,13 @@ ghost use Rattle.lisa_outcomes.specs.declared.status.End.TheVariants as ends;
 ghost use Rattle.lisa_outcomes.specs.declared.status.Refusal.TheVariants as refusals;
 ghost use Rattle.lisa_object.specs.declared.faults.ImageFault.TheVariants as images;
 ghost use Rattle.engine_commands.specs.Images.{IsMissing};
-ghost use Rattle.description_commands.specs.Checked.{AfterChecks};
-ghost use Rattle.description_commands.specs.DescriptionImages.{IsImageFor, IsNoImageFor};
-ghost use Rattle.description_commands.specs.ToolViews.{checked_of, AreTools};
+ghost use Rattle.checked_descriptions.specs.Checked.{AfterChecks};
+ghost use Rattle.checked_descriptions.specs.DescriptionImages.{IsImageFor, IsNoImageFor};
+ghost use Rattle.checked_descriptions.specs.ToolViews.{checked_of, AreTools};
 ghost use Rattle.assembler_commands.specs.Listed.{AreThere, IsListed, Lists, ListsChecked, GivesListing};
 
 use crate::memories::memories_of;
-use description_commands::{Tools, description_of, image_for, tools_of};
+use checked_descriptions::{Tools, description_of, image_for, tools_of};
 use lisa_disasm::write_listing;
 use lisa_engine::{ArrayItem, Image, ImageMemory, TraceEnd};
 use lisa_io::Sink;

@@ -7,7 +7,7 @@ use Rattle.std.proofs.lemmas.List.{length-map}
 use Rattle.std.proofs.lemmas.List.Elements.{All-drop, All-from_recursion}
 use Rattle.lisa_outcomes.specs.NamedFiles.{NamedFile, named, file_at}
 use Rattle.lisa_outcomes.specs.RunFiles.{any_file, image_limit, schedule_limit}
-use Rattle.description_commands.specs.Descriptions.{description_limit}
+use Rattle.checked_descriptions.specs.Descriptions.{description_limit}
 use Rattle.module_commands.specs.Clocks.{module_limit}
 use Rattle.assembler_commands.specs.Links.{object_limit}
 use Rattle.lisa_cli.specs.Requests.{Request, Format, Check, Assemble, Link, Disassemble, Simulate, Clock, IsAllowed, files_of}

@@ -3,7 +3,8 @@ use Rattle.std.specs.Prelude.{ℕ, List, drop}
 use Rattle.lisa_outcomes.specs.Outcomes.{Outcome, Given}
 use Rattle.lisa_outcomes.specs.NamedFiles.{AfterFiles, file_at}
 use Rattle.lisa_outcomes.specs.RunFiles.{run_bytes}
-use Rattle.description_commands.specs.Descriptions.{AfterSpelling, Formats}
+use Rattle.checked_descriptions.specs.Descriptions.{AfterSpelling}
+use Rattle.description_commands.specs.Formats.{Formats}
 use Rattle.description_commands.specs.Checks.{Checks}
 use Rattle.description_commands.specs.Runs.{GivesRun}
 use Rattle.module_commands.specs.Clocks.{GivesClock}

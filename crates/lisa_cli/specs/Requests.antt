@@ -4,7 +4,7 @@ use Rattle.std.specs.List.{AllByRecursion}
 use Rattle.std.specs.Str.{bytes_eq}
 use Rattle.lisa_outcomes.specs.NamedFiles.{NamedFile, named}
 use Rattle.lisa_outcomes.specs.RunFiles.{RunNames, run_files, image_limit}
-use Rattle.description_commands.specs.Descriptions.{description_limit}
+use Rattle.checked_descriptions.specs.Descriptions.{description_limit}
 use Rattle.module_commands.specs.Clocks.{module_limit}
 use Rattle.assembler_commands.specs.Links.{object_limit}
 use Rattle.assembler_commands.specs.Assembled.{source_limit}

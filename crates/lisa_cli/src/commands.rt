@@ -6,7 +6,7 @@ ghost use Rattle.lisa_outcomes.specs.FileViews.{named_of};
 ghost use Rattle.lisa_outcomes.specs.NamedFiles.{file_at, named};
 ghost use Rattle.lisa_outcomes.specs.RunFiles.{any_file, run_files};
 ghost use Rattle.lisa_outcomes.specs.RunViews.{names_of};
-ghost use Rattle.description_commands.specs.Descriptions.{description_limit};
+ghost use Rattle.checked_descriptions.specs.Descriptions.{description_limit};
 ghost use Rattle.assembler_commands.specs.Links.{object_limit};
 ghost use Rattle.module_commands.specs.Clocks.{module_limit};
 ghost use Rattle.lisa_cli.specs.Requests.{reads_input, files_of};

@@ -1,6 +1,6 @@
 use Rattle.lisa_tree.specs.Descriptions.{description_tree}
 use Rattle.lisa_outcomes.proofs.Stages.{passed_replies, stopped_replies}
-use Rattle.description_commands.specs.Checked.{AfterChecks}
+use Rattle.checked_descriptions.specs.Checked.{AfterChecks}
 use Rattle.assembler_commands.specs.Assembled.{AssemblesChecked}
 use Rattle.assembler_commands.proofs.assembling.assemble_source.Goals as goal
 

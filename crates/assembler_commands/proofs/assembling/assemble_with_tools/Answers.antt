@@ -3,7 +3,7 @@ use Rattle.std.specs.Global.{Vec}
 use Rattle.asm_source.specs.Plain.{line_tree}
 use Rattle.asm_source.specs.declared.parts.SourceLine.{SourceLine}
 use Rattle.lisa_outcomes.proofs.Stages.{passed_replies, stopped_replies}
-use Rattle.description_commands.specs.ToolViews.{checked_of}
+use Rattle.checked_descriptions.specs.ToolViews.{checked_of}
 use Rattle.assembler_commands.specs.Assembled.{Assembles}
 use Rattle.assembler_commands.proofs.assembling.assemble_with_tools.Goals as goal
 

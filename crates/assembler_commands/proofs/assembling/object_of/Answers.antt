@@ -1,6 +1,6 @@
 use Rattle.std.proofs.Common.{map}
 use Rattle.asm_source.specs.Plain.{line_tree}
-use Rattle.description_commands.specs.ToolViews.{checked_of}
+use Rattle.checked_descriptions.specs.ToolViews.{checked_of}
 use Rattle.assembler_commands.proofs.Sourced.{object_finds, unobject_finds}
 use Rattle.assembler_commands.proofs.OneAnswer.{one_object, object_or_fault}
 use Rattle.assembler_commands.proofs.assembling.object_of.Goals as goal

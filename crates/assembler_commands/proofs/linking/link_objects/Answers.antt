@@ -1,6 +1,6 @@
 use Rattle.lisa_tree.specs.Descriptions.{description_tree}
 use Rattle.lisa_outcomes.proofs.Stages.{passed_replies, stopped_replies}
-use Rattle.description_commands.specs.Checked.{AfterChecks}
+use Rattle.checked_descriptions.specs.Checked.{AfterChecks}
 use Rattle.assembler_commands.specs.Links.{LinksChecked}
 use Rattle.assembler_commands.specs.ObjectViews.{texts_of}
 use Rattle.assembler_commands.proofs.linking.link_objects.Goals as goal

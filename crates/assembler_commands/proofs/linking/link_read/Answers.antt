@@ -4,7 +4,7 @@ use Rattle.lisa_object.specs.Texts.{image_text}
 use Rattle.lisa_outcomes.specs.Outcomes.{Outcome, Finished}
 use Rattle.lisa_outcomes.proofs.Stages.{passed_replies, stopped_replies}
 use Rattle.lisa_outcomes.proofs.Writing.{written_replies}
-use Rattle.description_commands.specs.ToolViews.{checked_of}
+use Rattle.checked_descriptions.specs.ToolViews.{checked_of}
 use Rattle.assembler_commands.specs.Links.{stamped}
 use Rattle.assembler_commands.proofs.linking.link_read.Goals as goal
 

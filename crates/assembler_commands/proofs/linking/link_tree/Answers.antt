@@ -1,5 +1,5 @@
 use Rattle.lisa_outcomes.proofs.Stages.{passed_replies, stopped_replies}
-use Rattle.description_commands.specs.ToolViews.{checked_of}
+use Rattle.checked_descriptions.specs.ToolViews.{checked_of}
 use Rattle.assembler_commands.specs.Links.{LinksChecked}
 use Rattle.assembler_commands.specs.ObjectViews.{texts_of}
 use Rattle.assembler_commands.proofs.linking.link_tree.Goals as goal

@@ -2,7 +2,7 @@ use Rattle.std.proofs.Common.{ℕ, List}
 use Rattle.std.specs.Global.{Vec}
 use Rattle.lisa_object.specs.declared.parts.Object.{Object}
 use Rattle.lisa_outcomes.proofs.Stages.{passed_replies, stopped_replies, memory_replies}
-use Rattle.description_commands.specs.ToolViews.{checked_of}
+use Rattle.checked_descriptions.specs.ToolViews.{checked_of}
 use Rattle.assembler_commands.specs.Links.{Links, LinksChecked}
 use Rattle.assembler_commands.specs.ObjectViews.{texts_of, trees_of}
 use Rattle.assembler_commands.proofs.linking.link_with_tools.Goals as goal

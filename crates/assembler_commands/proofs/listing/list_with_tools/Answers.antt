@@ -1,7 +1,7 @@
 use Rattle.std.proofs.Common.{List}
 use Rattle.lisa_engine.specs.Memory.{Memory}
 use Rattle.lisa_outcomes.proofs.Stages.{passed_replies, stopped_replies}
-use Rattle.description_commands.specs.ToolViews.{checked_of}
+use Rattle.checked_descriptions.specs.ToolViews.{checked_of}
 use Rattle.assembler_commands.specs.Listed.{Lists}
 use Rattle.assembler_commands.proofs.listing.list_with_tools.Goals as goal
 

@@ -1,4 +1,4 @@
-use Rattle.description_commands.specs.ToolViews.{checked_of}
+use Rattle.checked_descriptions.specs.ToolViews.{checked_of}
 use Rattle.assembler_commands.proofs.ListingEnds.{listed, unlisted}
 use Rattle.lisa_engine.specs.declared.trace.TraceEnd.TheVariants as trace_ends
 use Rattle.assembler_commands.proofs.listing.write_lines.Goals as goal

@@ -2,7 +2,7 @@ use Rattle.std.proofs.Common.{◌≡◌, ◌∷◌, map, take}
 use Rattle.std.specs.Prelude.{string_bytes}
 use Rattle.lisa_outcomes.specs.NamedFiles.{named}
 use Rattle.lisa_outcomes.specs.FileViews.{named_of}
-use Rattle.description_commands.specs.Descriptions.{description_limit}
+use Rattle.checked_descriptions.specs.Descriptions.{description_limit}
 use Rattle.assembler_commands.specs.Links.{object_limit}
 use Rattle.lisa_cli.proofs.commands.object_files.Given as goal
 
