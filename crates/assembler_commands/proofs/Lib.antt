@@ -6,4 +6,3 @@ mod Linked
 mod ListingEnds
 mod LineCounts
 mod Sourced
-mod OneAnswer

@@ -30,6 +30,7 @@ use lisa_io::Sink;
 use lisa_object::{Object, print_object};
 use lisa_outcomes::{End, Refusal};
 use lisa_tree::Description;
+use source_promises::sources_have_one_answer;
 use std::alloc::Global;
 
 // The end of a command whose source wasn't read or assembled.
@@ -92,6 +93,7 @@ fn object_of(
     requires digest { digest ≡ digest_of (checked_of tools.now).tree }
     ensures { Finds object_tree (IsObjectOf (checked_of tools.now).tree (map line_tree lines.now)) (IsUnassembled (checked_of tools.now).tree (map line_tree lines.now)) result }
 {
+    sources_have_one_answer();
     let memories = match memories_of(alloc, &tools.machine) {
         Ok(memories) => memories,
         Err(_) => return Err(End::NoMemory),
