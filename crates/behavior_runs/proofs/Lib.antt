@@ -5,3 +5,8 @@ pub mod Room
 pub mod Registered
 pub mod Bodies
 pub mod Listed
+pub mod Depths
+pub mod Fetching
+pub mod Names
+pub mod Reading
+pub mod Scenes

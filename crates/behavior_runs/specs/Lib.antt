@@ -1,3 +1,4 @@
+pub mod Views
 pub mod Registers
 pub mod Rooms
 pub mod Running

@@ -18,6 +18,7 @@ ghost use Rattle.scene_paths.specs.Sights.{sight_tree, scene_at};
 ghost use Rattle.behavior_runs.specs.Rooms.{all_locals, locals_in, most_locals};
 ghost use Rattle.behavior_runs.specs.Running.{doing_within, HasRoom};
 
+use crate::evaluation::evaluate;
 use crate::targets::put;
 use description_names::behavior;
 use lisa_machine::Machine;
@@ -25,7 +26,6 @@ use lisa_tree::{Expr, ForHead, Shape, Stmt};
 use lisa_words::{Kind, Name};
 use moment_stores::Store;
 use scene_paths::{Path, Sight, child, home};
-use scene_values::evaluate;
 use shape_checks::{Bounds, bounds_of};
 use typed_values::{Value, Whole};
 

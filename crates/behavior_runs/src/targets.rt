@@ -12,13 +12,13 @@ ghost use Rattle.scene_paths.specs.Paths.{links_of};
 ghost use Rattle.scene_paths.specs.Sights.{sight_tree, form_of, scene_at};
 ghost use Rattle.behavior_runs.specs.Running.{put_below_within};
 
+use crate::evaluation::evaluate;
 use crate::registers::register_at;
 use description_names::Meaning;
 use lisa_tree::{Expr, Shape};
 use lisa_words::{Name, Word};
 use moment_stores::Store;
 use scene_paths::{Path, Sight, child, home};
-use scene_values::evaluate;
 use typed_values::Whole;
 
 // What is given, at the width of its place.

@@ -6,10 +6,9 @@ ghost use Rattle.pipeline_time.specs.Edges.{is_held, is_flushed};
 ghost use Rattle.moment_stores.specs.Stores.{moment_of};
 
 use crate::body::Body;
-use behavior_runs::behave;
+use behavior_runs::{behave, fetch, holds};
 use moment_stores::Store;
 use pipeline_runs::Behaves;
-use scene_values::{fetch, holds};
 
 fn with_stage(stages: u8, stage: u32) -> u8
     requires { stage < 8 }

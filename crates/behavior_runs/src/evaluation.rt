@@ -11,7 +11,7 @@ ghost use Rattle.lisa_meaning.specs.Cores.{is_true};
 ghost use Rattle.moment_stores.specs.Stores.{description_of, moment_of};
 ghost use Rattle.scene_paths.specs.Paths.{links_of};
 ghost use Rattle.scene_paths.specs.Sights.{sight_tree, form_of, scene_at};
-ghost use Rattle.scene_values.specs.Views.{view_tree, moment_seen, below_within, reader_within};
+ghost use Rattle.behavior_runs.specs.Views.{view_tree, moment_seen, below_within, reader_within};
 
 use crate::operands::{Operand, chosen_of, complement, literal, made_of};
 use crate::view::{Named, View};

@@ -7,7 +7,7 @@ ghost use Rattle.typed_values.specs.Words.{typed_word};
 ghost use Rattle.lisa_meaning.specs.Moments.{bare};
 ghost use Rattle.moment_stores.specs.Stores.{description_of, moment_of};
 ghost use Rattle.scene_paths.specs.Sights.{sight_tree};
-ghost use Rattle.scene_values.specs.Views.{moment_seen};
+ghost use Rattle.behavior_runs.specs.Views.{moment_seen};
 
 use crate::view::View;
 use lisa_words::Name;

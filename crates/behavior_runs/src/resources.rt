@@ -12,7 +12,7 @@ ghost use Rattle.scene_paths.specs.Parts.{part_trees};
 ghost use Rattle.scene_paths.specs.Lookups.{array_of};
 ghost use Rattle.scene_paths.specs.Paths.{links_of};
 ghost use Rattle.scene_paths.specs.Sights.{form_of, scene_at};
-ghost use Rattle.scene_values.specs.Views.{view_tree, moment_seen, named_value};
+ghost use Rattle.behavior_runs.specs.Views.{view_tree, moment_seen, named_value};
 
 use crate::view::{Named, View};
 use description_names::{Meaning, What};

@@ -17,8 +17,8 @@ use Rattle.scene_paths.specs.declared.paths.Path.{Path}
 use Rattle.scene_paths.specs.declared.sight.Sight.{Sight}
 use Rattle.scene_paths.specs.Paths.{first_link, links_in, links_of}
 use Rattle.scene_paths.specs.Sights.{sight_tree, form_of, scene_at}
-use Rattle.scene_values.specs.Views.{below_within, reader_within}
-use Rattle.scene_values.proofs.Depths.{expression_depth, falls}
+use Rattle.behavior_runs.specs.Views.{below_within, reader_within}
+use Rattle.behavior_runs.proofs.Depths.{expression_depth, falls}
 
 -- ---- EXPRESSIONS of children
 

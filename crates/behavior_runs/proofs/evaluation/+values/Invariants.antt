@@ -1,8 +1,8 @@
 use Rattle.std.proofs.Common.{◌+◌, ◌*◌, suc}
 use Rattle.lisa_tree.specs.Expressions.{expr_tree, expr_depth}
 use Rattle.lisa_tree.specs.Descriptions.{description_depth}
-use Rattle.scene_values.specs.Views.{view_tree}
-use Rattle.scene_values.proofs.evaluation.+values.Given as goal
+use Rattle.behavior_runs.specs.Views.{view_tree}
+use Rattle.behavior_runs.proofs.evaluation.+values.Given as goal
 
 abbrev pub decreases-value_at : goal.decreases-value_at
 decreases-value_at l = 4 * (l.levels * suc (description_depth (view_tree l.view)) + expr_depth (expr_tree l.expression.now))

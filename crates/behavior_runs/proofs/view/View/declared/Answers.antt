@@ -3,9 +3,9 @@ use Rattle.lisa_tree.specs.Descriptions.{DescriptionTree}
 use Rattle.lisa_meaning.specs.Scenes.{declared, is_label}
 use Rattle.scene_paths.specs.Paths.{link_of, links_of}
 use Rattle.scene_paths.specs.Sights.{form_of, scene_at}
-use Rattle.scene_values.specs.Views.{view_tree}
-use Rattle.scene_values.proofs.Names.{child_declared}
-use Rattle.scene_values.proofs.view.View.declared.Goals as goal
+use Rattle.behavior_runs.specs.Views.{view_tree}
+use Rattle.behavior_runs.proofs.Names.{child_declared}
+use Rattle.behavior_runs.proofs.view.View.declared.Goals as goal
 
 pub returns-else-is_label : goal.returns-else-is_label
 returns-else-is_label c =

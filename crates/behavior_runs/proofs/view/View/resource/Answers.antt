@@ -6,9 +6,9 @@ use Rattle.lisa_tree.specs.Descriptions as trees
 use Rattle.lisa_tree.specs.Descriptions.{resource_tree}
 use Rattle.moment_stores.specs.Stores.{moment_of}
 use Rattle.scene_paths.specs.Lookups.{tree_of}
-use Rattle.scene_values.specs.Views.{moment_seen}
-use Rattle.scene_values.proofs.Reading.{same_fits, number_within, register_least, register_most, register_fits, clocked_least, clocked_most, clocked_fits, pin_least, pin_most, pin_fits}
-use Rattle.scene_values.proofs.view.View.resource.Goals as goal
+use Rattle.behavior_runs.specs.Views.{moment_seen}
+use Rattle.behavior_runs.proofs.Reading.{same_fits, number_within, register_least, register_most, register_fits, clocked_least, clocked_most, clocked_fits, pin_least, pin_most, pin_fits}
+use Rattle.behavior_runs.proofs.view.View.resource.Goals as goal
 
 pub shaped-requires-clause-least : goal.shaped-requires-clause-least
 shaped-requires-clause-least c =

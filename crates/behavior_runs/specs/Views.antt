@@ -8,9 +8,9 @@ use Rattle.lisa_meaning.specs.Scenes.{Link, Scene, at_path, child_at_home}
 use Rattle.lisa_meaning.specs.Moments.{Moment, bare, with_locals}
 use Rattle.lisa_meaning.specs.Values.{Below, reader, child_value, value_within}
 use Rattle.moment_stores.specs.Stores.{moment_of}
-use Rattle.scene_values.specs.declared.view.View.{View}
-use Rattle.scene_values.specs.declared.view.Named.{Named}
-use Rattle.scene_values.specs.declared.view.Named.TheVariants as named
+use Rattle.behavior_runs.specs.declared.view.View.{View}
+use Rattle.behavior_runs.specs.declared.view.Named.{Named}
+use Rattle.behavior_runs.specs.declared.view.Named.TheVariants as named
 use Rattle.scene_paths.specs.Paths.{links_of}
 use Rattle.scene_paths.specs.Sights.{sight_tree, form_of}
 

@@ -4,9 +4,9 @@ use Rattle.typed_values.specs.Words.{typed_word}
 use Rattle.description_sizes.specs.Texts.{levels}
 use Rattle.lisa_meaning.specs.Moments.{bare}
 use Rattle.moment_stores.specs.Stores.{moment_of}
-use Rattle.scene_values.specs.Views.{moment_seen}
-use Rattle.scene_values.proofs.Scenes.{value_whole}
-use Rattle.scene_values.proofs.evaluation.evaluate.Goals as goal
+use Rattle.behavior_runs.specs.Views.{moment_seen}
+use Rattle.behavior_runs.proofs.Scenes.{value_whole}
+use Rattle.behavior_runs.proofs.evaluation.evaluate.Goals as goal
 
 pub returns : goal.returns
 returns c =

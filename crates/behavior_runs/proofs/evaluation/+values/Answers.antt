@@ -6,9 +6,9 @@ use Rattle.typed_values.specs.Words.{typed_word}
 use Rattle.lisa_meaning.specs.Scenes.{child_at_home}
 use Rattle.scene_paths.specs.Paths.{links_of}
 use Rattle.scene_paths.specs.Sights.{sight_tree, form_of, scene_at}
-use Rattle.scene_values.specs.Views.{view_tree, moment_seen, below_within}
-use Rattle.scene_values.proofs.Scenes.{child_none, child_some, child_falls, expression_some, one_less}
-use Rattle.scene_values.proofs.evaluation.+values.Goals as goal
+use Rattle.behavior_runs.specs.Views.{view_tree, moment_seen, below_within}
+use Rattle.behavior_runs.proofs.Scenes.{child_none, child_some, child_falls, expression_some, one_less}
+use Rattle.behavior_runs.proofs.evaluation.+values.Goals as goal
 
 pub child_value-value_at-requires : goal.child_value-value_at-requires
 child_value-value_at-requires t c =
