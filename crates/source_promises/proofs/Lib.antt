@@ -1,0 +1,4 @@
+mod OneAnswer
+mod FirstFaults
+mod Senses
+mod Images
