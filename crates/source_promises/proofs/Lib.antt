@@ -2,3 +2,8 @@ mod OneAnswer
 mod FirstFaults
 mod Senses
 mod Images
+mod SoundLines
+mod KeptLines
+mod WideFields
+mod KeptCells
+mod KeptObjects

@@ -70,7 +70,7 @@ module _ (symbols : Symbols) (a : ℕ) where
 
 -- ---- values within their fields
 
-reduced_below : (n : ℤ) (width : ℕ) → reduced n width < 2 ^ width
+pub reduced_below : (n : ℤ) (width : ℕ) → reduced n width < 2 ^ width
 reduced_below (pos n) width = let h = pow_pos width in omega (arith, h)
 reduced_below (negsuc n) width = let h = pow_pos width in omega (arith, h)
 

@@ -3,6 +3,8 @@
 
 mod answers;
 mod images;
+mod objects;
 
 pub use answers::sources_have_one_answer;
 pub use images::sources_link_to_their_image;
+pub use objects::objects_of_sources_keep_rules;
