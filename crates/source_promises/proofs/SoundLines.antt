@@ -187,18 +187,15 @@ behind_sound : (n : ℕ) (first : PlainSum) → IsSoundSum 1 first → ((minus :
 behind_sound n first one more [] r e = absurd (cc e)
 behind_sound n first one more (b ∷ bs) r e = by (b == 41) (b == 43) (b == 45) e
   where
-    abbrev Sound : PlainSum × List ℕ → Type 0
-    Sound z = IsSoundSum (suc n) z.0
-
     added : (minus : Bool) → (terms_at n minus bs >>= λ s. Ok (plus first s.0, s.1)) ≡ Ok r → IsSoundSum (suc n) r.0
     added minus h =
         let s = then_ok (terms_at n minus bs) (λ s. Ok (plus first s.0, s.1)) r h in
-        subst Sound (ok_is (plus first s.0.0, s.0.1) r s.2) (plus_sound 1 n (suc n) first s.0.0 (omega arith) one (more minus bs s.0 s.1))
+        subst (λ (z : PlainSum × List ℕ). IsSoundSum (suc n) z.0) (ok_is (plus first s.0.0, s.0.1) r s.2) (plus_sound 1 n (suc n) first s.0.0 (omega arith) one (more minus bs s.0 s.1))
 
     by : (x y z : Bool)
         → cond x (Ok (first, bs)) (cond y (terms_at n false bs >>= λ s. Ok (plus first s.0, s.1)) (cond z (terms_at n true bs >>= λ s. Ok (plus first s.0, s.1)) (Err flaws.BadExpression))) ≡ Ok r
         → IsSoundSum (suc n) r.0
-    by true y z h = subst Sound (ok_is (first, bs) r h) (wider 1 (suc n) first (omega arith) one)
+    by true y z h = subst (λ (z : PlainSum × List ℕ). IsSoundSum (suc n) z.0) (ok_is (first, bs) r h) (wider 1 (suc n) first (omega arith) one)
     by false true z h = added false h
     by false false true h = added true h
     by false false false h = absurd (cc h)
@@ -282,47 +279,35 @@ values_sound (text ∷ texts) vs e = by (cell_of text) refl e (λ vs e. values_s
 
 named_sound : (text n : List ℕ) → name_in text ≡ Ok n → IsName n
 unfolding name_in
-named_sound text n e = by (is_name word && list_all is_blank (behind_word (skip_blanks text))) refl e
+named_sound text n e = by (is_name (front_word (skip_blanks text)) && list_all is_blank (behind_word (skip_blanks text))) refl e
   where
-    abbrev word : List ℕ
-    word = front_word (skip_blanks text)
-
-    by : (t : Bool) → (is_name word && list_all is_blank (behind_word (skip_blanks text))) ≡ t → cond t (Ok word) (Err flaws.BadLine) ≡ Ok n → IsName n
-    by true is h = subst IsName (ok_is word n h) (and_parts (is_name word) (list_all is_blank (behind_word (skip_blanks text))) is).0
+    by : (t : Bool) → (is_name (front_word (skip_blanks text)) && list_all is_blank (behind_word (skip_blanks text))) ≡ t → cond t (Ok (front_word (skip_blanks text))) (Err flaws.BadLine) ≡ Ok n → IsName n
+    by true is h = subst IsName (ok_is (front_word (skip_blanks text)) n h) (and_parts (is_name (front_word (skip_blanks text))) (list_all is_blank (behind_word (skip_blanks text))) is).0
     by false is h = absurd (cc h)
 
 equ_sound : (text : List ℕ) (p : PlainPart) → equ_of text ≡ Ok p → IsSoundPart p
 unfolding equ_of
-equ_sound text p e = by (is_name word) refl e
+equ_sound text p e = by (is_name (front_word (skip_blanks text))) refl e
   where
-    abbrev word : List ℕ
-    word = front_word (skip_blanks text)
-
-    abbrev rest : List ℕ
-    rest = behind_word (skip_blanks text)
-
-    valued : (o : Option ℤ) → number_in rest ≡ o → is_name word ≡ true → or_bad (Equ word) o ≡ Ok p → IsSoundPart p
+    valued : (o : Option ℤ) → number_in (behind_word (skip_blanks text)) ≡ o → is_name (front_word (skip_blanks text)) ≡ true → or_bad (Equ (front_word (skip_blanks text))) o ≡ Ok p → IsSoundPart p
     valued None is name h = absurd (cc h)
-    valued (Some v) is name h = subst IsSoundPart (ok_is (Equ word v) p h) (name, in_short rest v is)
+    valued (Some v) is name h = subst IsSoundPart (ok_is (Equ (front_word (skip_blanks text)) v) p h) (name, in_short (behind_word (skip_blanks text)) v is)
 
-    by : (t : Bool) → is_name word ≡ t → cond t (or_bad (Equ word) (number_in rest)) (Err flaws.BadLine) ≡ Ok p → IsSoundPart p
-    by true is h = valued (number_in rest) refl is h
+    by : (t : Bool) → is_name (front_word (skip_blanks text)) ≡ t → cond t (or_bad (Equ (front_word (skip_blanks text))) (number_in (behind_word (skip_blanks text)))) (Err flaws.BadLine) ≡ Ok p → IsSoundPart p
+    by true is h = valued (number_in (behind_word (skip_blanks text))) refl is h
     by false is h = absurd (cc h)
 
 space_sound : (text : List ℕ) (p : PlainPart) → space_of text ≡ Ok p → IsSoundPart p
 unfolding space_of
 space_sound text p e = by (number_of (front_word (skip_blanks text))) e
   where
-    abbrev rest : List ℕ
-    rest = behind_word (skip_blanks text)
-
-    tested : (n : ℕ) (t : Bool) → (nat_le n 1048576 && list_all is_blank rest) ≡ t → cond t (Ok (Space n)) (Err flaws.BadLine) ≡ Ok p → IsSoundPart p
-    tested n true is h = subst IsSoundPart (ok_is (Space n) p h) (leb-true n 1048576 (and_parts (nat_le n 1048576) (list_all is_blank rest) is).0)
+    tested : (n : ℕ) (t : Bool) → (nat_le n 1048576 && list_all is_blank (behind_word (skip_blanks text))) ≡ t → cond t (Ok (Space n)) (Err flaws.BadLine) ≡ Ok p → IsSoundPart p
+    tested n true is h = subst IsSoundPart (ok_is (Space n) p h) (leb-true n 1048576 (and_parts (nat_le n 1048576) (list_all is_blank (behind_word (skip_blanks text))) is).0)
     tested n false is h = absurd (cc h)
 
-    by : (o : Option ℕ) → space_from o rest ≡ Ok p → IsSoundPart p
+    by : (o : Option ℕ) → space_from o (behind_word (skip_blanks text)) ≡ Ok p → IsSoundPart p
     by None h = absurd (cc h)
-    by (Some n) h = tested n (nat_le n 1048576 && list_all is_blank rest) refl h
+    by (Some n) h = tested n (nat_le n 1048576 && list_all is_blank (behind_word (skip_blanks text))) refl h
 
 cells_sound : (text : List ℕ) (p : PlainPart) → cells_of text ≡ Ok p → IsSoundPart p
 cells_sound text p e =
@@ -357,46 +342,40 @@ label_sound : (text : List ℕ) (x : List ℕ × List ℕ) → label_at text ≡
 unfolding label_at
 label_sound text x e = by (behind_word text) e
   where
-    abbrev word : List ℕ
-    word = front_word text
-
-    named : (bs : List ℕ) (t : Bool) → is_name word ≡ t → cond t (Ok (Some (word, bs))) (Err flaws.BadLine) ≡ Ok (Some x) → IsName x.0
-    named bs true is h = subst (λ (z : List ℕ × List ℕ). IsName z.0) (some_is (word, bs) x (ok_is (Some (word, bs)) (Some x) h)) is
+    named : (bs : List ℕ) (t : Bool) → is_name (front_word text) ≡ t → cond t (Ok (Some ((front_word text), bs))) (Err flaws.BadLine) ≡ Ok (Some x) → IsName x.0
+    named bs true is h = subst (λ (z : List ℕ × List ℕ). IsName z.0) (some_is ((front_word text), bs) x (ok_is (Some ((front_word text), bs)) (Some x) h)) is
     named bs false is h = absurd (cc h)
 
-    tested : (bs : List ℕ) (t : Bool) → cond t (named_label word bs) (Ok None) ≡ Ok (Some x) → IsName x.0
-    tested bs true h = named bs (is_name word) refl h
+    tested : (bs : List ℕ) (t : Bool) → cond t (named_label (front_word text) bs) (Ok None) ≡ Ok (Some x) → IsName x.0
+    tested bs true h = named bs (is_name (front_word text)) refl h
     tested bs false h = absurd (cc h)
 
-    by : (rest : List ℕ) → label_of word rest ≡ Ok (Some x) → IsName x.0
+    by : (rest : List ℕ) → label_of (front_word text) rest ≡ Ok (Some x) → IsName x.0
     by [] h = absurd (cc h)
-    by (b ∷ bs) h = tested bs (b == 58 && not (is_empty word)) h
+    by (b ∷ bs) h = tested bs (b == 58 && not (is_empty (front_word text))) h
 
 token_sound : (text : List ℕ) (x : PlainToken × List ℕ) → token_at text ≡ Ok (Some x) → IsSoundToken x.0
 unfolding token_at
 token_sound text x e = by (behind_word text) e
   where
-    abbrev word : List ℕ
-    word = front_word text
-
     same : (y : PlainToken × List ℕ) → ◌≡◌ {A = Result (Option (PlainToken × List ℕ)) Flaw} (Ok (Some y)) (Ok (Some x)) → IsSoundToken y.0 → IsSoundToken x.0
     same y h sound = subst (λ (z : PlainToken × List ℕ). IsSoundToken z.0) (some_is y x (ok_is (Some y) (Some x) h)) sound
 
-    last : (t : Bool) → cond t (Ok None) (Ok (Some (Run word, []))) ≡ Ok (Some x) → IsSoundToken x.0
+    last : (t : Bool) → cond t (Ok None) (Ok (Some (Run (front_word text), []))) ≡ Ok (Some x) → IsSoundToken x.0
     last true h = absurd (cc h)
-    last false h = same (Run word, []) h tt
+    last false h = same (Run (front_word text), []) h tt
 
     more : (b : ℕ) (bs : List ℕ) (at empty : Bool)
-        → cond at (operand_at bs >>= λ s. Ok (Some (Operand word s.0, s.1))) (cond empty (Ok (Some (Sign b, bs))) (Ok (Some (Run word, b ∷ bs)))) ≡ Ok (Some x) → IsSoundToken x.0
+        → cond at (operand_at bs >>= λ s. Ok (Some (Operand (front_word text) s.0, s.1))) (cond empty (Ok (Some (Sign b, bs))) (Ok (Some (Run (front_word text), b ∷ bs)))) ≡ Ok (Some x) → IsSoundToken x.0
     more b bs true empty h =
-        let s = then_ok (operand_at bs) (λ s. Ok (Some (Operand word s.0, s.1))) (Some x) h in
-        same (Operand word s.0.0, s.0.1) s.2 (operand_sound bs s.0 s.1)
+        let s = then_ok (operand_at bs) (λ s. Ok (Some (Operand (front_word text) s.0, s.1))) (Some x) h in
+        same (Operand (front_word text) s.0.0, s.0.1) s.2 (operand_sound bs s.0 s.1)
     more b bs false true h = same (Sign b, bs) h tt
-    more b bs false false h = same (Run word, b ∷ bs) h tt
+    more b bs false false h = same (Run (front_word text), b ∷ bs) h tt
 
-    by : (rest : List ℕ) → token_of word rest ≡ Ok (Some x) → IsSoundToken x.0
-    by [] h = last (is_empty word) h
-    by (b ∷ bs) h = more b bs (b == 64) (is_empty word) h
+    by : (rest : List ℕ) → token_of (front_word text) rest ≡ Ok (Some x) → IsSoundToken x.0
+    by [] h = last (is_empty (front_word text)) h
+    by (b ∷ bs) h = more b bs (b == 64) (is_empty (front_word text)) h
 
 module _ {A : Type 0} (item : Item A) (P : A → Type 0) (each : (text : List ℕ) (x : A × List ℕ) → item text ≡ Ok (Some x) → P x.0) where
   abbrev Each : List A × List ℕ → Type 0

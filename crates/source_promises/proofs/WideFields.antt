@@ -79,15 +79,15 @@ module _ (d : DescriptionTree) (s : IsSound d) where
   coding_good : (o : ℕ) → HasBits (coding (coding_table d) o)
   coding_good o = by (coding_in (sections_at d o)) refl
     where
-      as : (part : Option CodingTree) → coding_in (sections_at d o) ≡ part → HasBits (coding_items d o part) → HasBits (coding (coding_table d) o)
-      as part is g = subst HasBits (sym (levels.items_at d o ∙ ap (coding_items d o) is)) g
+      good_as : (part : Option CodingTree) → coding_in (sections_at d o) ≡ part → HasBits (coding_items d o part) → HasBits (coding (coding_table d) o)
+      good_as part is g = subst HasBits (sym (levels.items_at d o ∙ ap (coding_items d o) is)) g
 
       by : (part : Option CodingTree) → coding_in (sections_at d o) ≡ part → HasBits (coding (coding_table d) o)
-      by None is = as None is tt
-      by (Some (trees.Root place group)) is = as (Some (trees.Root place group)) is tt
+      by None is = good_as None is tt
+      by (Some (trees.Root place group)) is = good_as (Some (trees.Root place group)) is tt
       by (Some (trees.Items all)) is =
           let stand = coding_stand d o (trees.Items all) is in
-          as (Some (trees.Items all)) is (items_good o all (coding_fits d s.known s.stand s.uses s.widths o (trees.Items all) stand))
+          good_as (Some (trees.Items all)) is (items_good o all (coding_fits d s.known s.stand s.uses s.widths o (trees.Items all) stand))
 
 pub fields_wide : (d : DescriptionTree) → IsAccepted d → (f : Form) → Fits AnyValue (coding_table d) f (instruction_items d) → AreWide (field_places d f)
 fields_wide d accepted f fits = places_wide (coding_table d) (coding_good d (sound d accepted)) 0 f (instruction_items d) fits tt
