@@ -6,3 +6,4 @@ mod Linked
 mod ListingEnds
 mod LineCounts
 mod Sourced
+mod SourceImages

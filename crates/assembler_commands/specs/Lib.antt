@@ -4,3 +4,4 @@ pub mod ObjectViews
 pub mod Links
 pub mod Listed
 pub mod Unlinked
+pub mod Programs

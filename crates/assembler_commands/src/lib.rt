@@ -4,6 +4,7 @@
 #![tactic(auto)]
 
 mod assembling;
+mod laws;
 mod linking;
 mod listing;
 mod memories;
@@ -11,5 +12,6 @@ mod objects;
 mod writing;
 
 pub use assembling::assemble_source;
+pub use laws::linked_sources_are_their_image;
 pub use linking::link_objects;
 pub use listing::list_image;

@@ -1,6 +1,6 @@
 -- The object of a source keeps the rules of objects.
 use Rattle.std.proofs.Common.{◌≡◌, ◌≢◌, ◌<◌, ◌≤◌, ◌∙◌, ℕ, Bool, true, false, cond, List, [], ◌∷◌, ◌++◌, append_assoc, append-nil, Option, None, Some, Ok, map, refl, sym, ap, ap₂, subst, arith}
-use Rattle.std.specs.Prelude.{AllPairs, IsTrue, find, flat_map}
+use Rattle.std.specs.Prelude.{All, AllPairs, IsTrue, find, flat_map}
 use Rattle.std.specs.List.{AllByRecursion}
 use Rattle.std.specs.Option.{IsSome}
 use Rattle.std.specs.Str.{bytes_eq}
@@ -23,8 +23,8 @@ use Rattle.lisa_object.specs.Objects as objects
 use Rattle.lisa_object.specs.Rules.{IsDigest}
 use Rattle.lisa_object.specs.ObjectRules.{start, are_lines, defined, IsObject}
 use Rattle.placed_programs.specs.Entries.{Entry, Enter, Room, Put, Mark, Equal, Share, PlainFix, PlainCell, mapped, fix_line, entry_lines, lines_of}
-use Rattle.lisa_linker.specs.Memories.{IsPlace, AreMemories}
 use Rattle.lisa_assembler.specs.Memories.{memory_items, memory_named}
+use Rattle.lisa_assembler.specs.Places.{HasWords}
 use Rattle.lisa_assembler.specs.Objects.{object_cell, digest_of, IsObjectOf}
 use Rattle.lisa_assembler.specs.Sources.{SourceCell, Word, Coded, ArePartEntries, section_behind, AreLineEntries, AreEntries, part_names, line_names}
 use Rattle.source_promises.proofs.SoundLines.{IsName, IsSoundValue, IsSoundPart, IsSoundLine, lines_sound}
@@ -112,11 +112,11 @@ module _ (d : DescriptionTree) where
 
   abbrev IsHere : Option ArrayItem → Type 0
   IsHere None = Unit {0}
-  IsHere (Some m) = IsPlace m
+  IsHere (Some m) = HasWords m
 
-  module _ (accepted : IsAccepted d) (has : HasForms d) (memories : AreMemories (memory_items d)) (apart : (table : Table) (items : List Item) (f : Form) → AllPairs IsApart (places table f items)) where
-    named_is : (n : List ℕ) (m : ArrayItem) → memory_named d n ≡ Some m → IsPlace m
-    named_is n m e = found_is IsPlace (λ a. bytes_eq a.name n) (memory_items d) (recursion_from_All IsPlace (memory_items d) memories.places) m e
+  module _ (accepted : IsAccepted d) (has : HasForms d) (words : All HasWords (memory_items d)) (apart : (table : Table) (items : List Item) (f : Form) → AllPairs IsApart (places table f items)) where
+    named_is : (n : List ℕ) (m : ArrayItem) → memory_named d n ≡ Some m → HasWords m
+    named_is n m e = found_is HasWords (λ a. bytes_eq a.name n) (memory_items d) (recursion_from_All HasWords (memory_items d) words) m e
 
     behind_is : (here : Option ArrayItem) → IsHere here → (p : PlainPart) → IsHere (section_behind d here p)
     behind_is here is Nothing = is

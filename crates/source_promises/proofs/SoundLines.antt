@@ -361,7 +361,7 @@ token_sound text x e = by (behind_word text) e
     same : (y : PlainToken × List ℕ) → ◌≡◌ {A = Result (Option (PlainToken × List ℕ)) Flaw} (Ok (Some y)) (Ok (Some x)) → IsSoundToken y.0 → IsSoundToken x.0
     same y h sound = subst (λ (z : PlainToken × List ℕ). IsSoundToken z.0) (some_is y x (ok_is (Some y) (Some x) h)) sound
 
-    last : (t : Bool) → cond t (Ok None) (Ok (Some (Run (front_word text), []))) ≡ Ok (Some x) → IsSoundToken x.0
+    last : (t : Bool) → cond {A = Result (Option (PlainToken × List ℕ)) Flaw} t (Ok None) (Ok (Some (Run (front_word text), []))) ≡ Ok (Some x) → IsSoundToken x.0
     last true h = absurd (cc h)
     last false h = same (Run (front_word text), []) h tt
 
