@@ -20,7 +20,7 @@ use Rattle.lisa_assembler.specs.Objects.{digest_of, IsObjectOf}
 use Rattle.lisa_assembler.specs.Places.{HasWords}
 use Rattle.lisa_assembler.specs.Sources.{SourceCell}
 use Rattle.lisa_outcomes.specs.declared.status.Refusal.{Refusal}
-use Rattle.lisa_outcomes.specs.Outcomes.{Outcome, Finished, Refusing, After, passed, stopped}
+use Rattle.lisa_outcomes.specs.Outcomes.{Outcome, Finished, After, passed}
 use Rattle.checked_descriptions.specs.Checked.{Checked, IsChecked, IsFaulty}
 use Rattle.checked_descriptions.specs.Descriptions.{IsUnread}
 use Rattle.checked_descriptions.specs.Checked.{AfterChecks}
@@ -36,14 +36,9 @@ use Rattle.assembler_commands.proofs.ObjectFiles.{AreUnique}
 finished_is : (a b : List ℕ) → Finished a ≡ Finished b → a ≡ b
 finished_is a b e = cc
 
-refusing_is_no_finished : (refusal : Refusal) (a b : List ℕ) → Refusing refusal a ≡ Finished b → ⊥
-refusing_is_no_finished refusal a b e = cc
-
 -- where a command finished, what it looks for was found
-found_by : {A : Type 0} (Found : A → Type 0) (Wrong : Refusal → Type 0) (Then : A → Outcome → Type 0) (outcome : Outcome) (text : List ℕ) → outcome ≡ Finished text → After Found Wrong Then outcome
-    → (a : A) × Found a × Then a outcome
-found_by Found Wrong Then outcome text e (passed {a} found then) = (a, found, then)
-found_by Found Wrong Then outcome text e (stopped {refusal} wrong) = absurd (refusing_is_no_finished refusal [] text e)
+found_by : {A : Type 0} (Found : A → Type 0) (Wrong : Refusal → Type 0) (Then : A → Outcome → Type 0) (text : List ℕ) → After Found Wrong Then (Finished text) → (a : A) × Found a × Then a (Finished text)
+found_by Found Wrong Then text (passed {a = a} here then) = (a, here, then)
 
 -- ---- one source
 
@@ -57,10 +52,10 @@ pub record IsMade (d : DescriptionTree) (source object : List ℕ) : Type 0 wher
 
 made_of : (description source object : List ℕ) (d : DescriptionTree) → SpellsText description d → GivesObject description source (Finished object) → IsMade d source object
 made_of description source object d spelled gives =
-    let read = found_by (SpellsText description) (IsUnread description) (λ d. AfterChecks d (AssemblesChecked source)) (Finished object) object refl gives in
-    let checked = found_by (IsChecked read.0) (IsFaulty read.0) (AssemblesChecked source) (Finished object) object refl read.2 in
-    let lines = found_by (IsSource source) (IsNoSource source) (Assembles checked.0.tree) (Finished object) object refl checked.2 in
-    let made = found_by (IsObjectOf checked.0.tree lines.0) (IsUnassembled checked.0.tree lines.0) (λ object outcome. outcome ≡ Finished (object_text object)) (Finished object) object refl lines.2 in
+    let read = found_by (SpellsText description) (IsUnread description) (λ d. AfterChecks d (AssemblesChecked source)) object gives in
+    let checked = found_by (IsChecked read.0) (IsFaulty read.0) (AssemblesChecked source) object read.2 in
+    let lines = found_by (IsSource source) (IsNoSource source) (Assembles checked.0.tree) object checked.2 in
+    let made = found_by (IsObjectOf checked.0.tree lines.0) (IsUnassembled checked.0.tree lines.0) (λ object outcome. outcome ≡ Finished (object_text object)) object lines.2 in
     let same : checked.0.tree ≡ d = checked.1.tree ∙ one_description description read.0 d read.1 spelled in
     record {
       lines = lines.0;
@@ -111,14 +106,14 @@ pub linked_text : (unique : AreUnique)
     → (image : (d : DescriptionTree) (sources : List (List PlainLine)) (parts : List (List (Entry SourceCell))) (objects : List PlainObject) → IsAccepted d → HasForms d → AreSources d sources parts → AreMade d sources objects → object_image d objects ≡ source_image d parts)
     → (description : List ℕ) (sources objects : List (List ℕ)) (text : List ℕ) → GivesObjects description sources objects → GivesLink description objects (Finished text) → IsImageText description sources text
 linked_text unique keeps words image description sources objects text given gives =
-    let read = found_by (SpellsText description) (IsUnread description) (λ d. AfterChecks d (LinksChecked objects)) (Finished text) text refl gives in
-    let checked = found_by (IsChecked read.0) (IsFaulty read.0) (LinksChecked objects) (Finished text) text refl read.2 in
+    let read = found_by (SpellsText description) (IsUnread description) (λ d. AfterChecks d (LinksChecked objects)) text gives in
+    let checked = found_by (IsChecked read.0) (IsFaulty read.0) (LinksChecked objects) text read.2 in
     let d : DescriptionTree = checked.0.tree in
     let spelled : SpellsText description d = subst (SpellsText description) (sym checked.1.tree) read.1 in
     let accepted : IsAccepted d = subst IsAccepted (sym checked.1.tree) checked.1.accepted in
     let has : HasForms d = subst HasForms (sym checked.1.tree) checked.1.instructions.0 in
-    let known = found_by (AreObjectsFor (digest_of d) objects) (AreNoObjectsFor (digest_of d) objects) (Links d) (Finished text) text refl checked.2 in
-    let linked = found_by (IsLinked d known.0) (IsUnlinked d known.0) (λ image outcome. outcome ≡ Finished (image_text (stamped d image))) (Finished text) text refl known.2 in
+    let known = found_by (AreObjectsFor (digest_of d) objects) (AreNoObjectsFor (digest_of d) objects) (Links d) text checked.2 in
+    let linked = found_by (IsLinked d known.0) (IsUnlinked d known.0) (λ image outcome. outcome ≡ Finished (image_text (stamped d image))) text known.2 in
     let all = programs d unique (λ bytes lines o digest says is. keeps d bytes lines o accepted has (words d accepted has) digest says is) description spelled sources objects known.0 given known.1.0 known.1.1 in
     record {
       tree = d;

@@ -168,7 +168,7 @@ shown_sound (other m) sound = shown_sound m sound.1
 shown_sound (literal m) sound = shown_sound m sound.1
 shown_sound (unsigned cs e v m is) sound = (tt, shown_sound m (subst (AllByRecursion IsSoundToken) is sound).1)
 shown_sound (positive cs e v m is) sound = (tt, shown_sound m (subst (AllByRecursion IsSoundToken) is sound).1)
-shown_sound (negative {p} cs {ts} e v m is) sound = (tt, shown_sound m (sign_sound p (Sign 45 ∷ Run cs ∷ ts) (subst (AllByRecursion IsSoundToken) is sound)).1.1)
+shown_sound (negative cs e v m is) sound = (tt, shown_sound m (sign_sound _ _ (subst (AllByRecursion IsSoundToken) is sound)).1.1)
 shown_sound (operand m) sound = (sound.0, shown_sound m sound.1)
 shown_sound (signed_operand m) sound = (sound.0, shown_sound m sound.1)
 
