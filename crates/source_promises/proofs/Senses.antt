@@ -26,6 +26,7 @@ use Rattle.form_patterns.proofs.Placing.{place_of, whole_places}
 use Rattle.instruction_texts.specs.Lines.{Plain, Value, Added}
 use Rattle.lisa_forms.specs.Verdicts.{HasForms}
 use Rattle.lisa_syntax.specs.Lines.{all_shapes, all_orders}
+use Rattle.lisa_object.specs.declared.parts.FixKind.TheVariants as kinds
 use Rattle.placed_programs.specs.Entries.{PlainFix, PlainCell}
 use Rattle.placed_programs.specs.Symbols.{Symbols, sum_value}
 use Rattle.placed_programs.specs.Placed.{fix_value, object_sense}
@@ -138,4 +139,8 @@ pub number_means : (d : DescriptionTree) (width : ℕ) (n : ℤ) (symbols : Symb
 number_means d width n symbols a = omega arith
 
 pub sum_means : (d : DescriptionTree) (width : ℕ) (s : sources.PlainSum) (symbols : Symbols) (a : ℕ) → object_sense symbols a (object_cell d (Word width (sources.Added s))) ≡ source_sense d symbols a (Word width (sources.Added s))
-sum_means d width s symbols a = omega arith
+sum_means d width s symbols a =
+    let fix : PlainFix = record { lsb = 0; width = width; kind = kinds.Whole; sum = s } in
+    let one : sum_by (fix_value symbols a) (fix ∷ []) ≡ fix_value symbols a fix + sum_by (fix_value symbols a) [] = sum_by-cons (fix_value symbols a) fix [] in
+    let value : fix_value symbols a fix ≡ reduced (sum_value symbols a s) width * 2 ^ 0 = refl in
+    omega (arith, one, value)
