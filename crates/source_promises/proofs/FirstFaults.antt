@@ -1,5 +1,5 @@
 -- A source has one first fault.
-use Rattle.std.proofs.Common.{◌≡◌, ◌⊎◌, ◌<◌, inl, inr, ℕ, List, [], ◌∷◌, ◌++◌, Bool, true, false, Option, None, Some, refl, sym, ap, ap₂, subst, ◌∙◌, arith}
+use Rattle.std.proofs.Common.{◌≡◌, ◌⊎◌, ◌<◌, ◌≤◌, zero, suc, inl, inr, ℕ, List, [], ◌∷◌, ◌++◌, Bool, true, false, Option, None, Some, refl, sym, ap, ap₂, subst, ◌∙◌, arith}
 use Rattle.lisa_tree.specs.Descriptions.{DescriptionTree}
 use Rattle.lisa_engine.specs.declared.parts.ArrayItem.{ArrayItem}
 use Rattle.asm_source.specs.Plain.{PlainLine, PlainToken, PlainValue, Number, PlainPart, Nothing, Section, Global, Equ, Cells, Space, Instruction}
@@ -20,6 +20,12 @@ some_is x y e = cc e
 no_some : {A : Type 0} (o : Option A) (x : A) → o ≡ Some x → o ≡ None → ⊥
 no_some o x e f = cc (e, f)
 
+below_or : (i n : ℕ) → (i < n) ⊎ (n ≤ i)
+below_or zero zero = inr (omega arith)
+below_or zero (suc n) = inl (omega arith)
+below_or (suc i) zero = inr (omega arith)
+below_or (suc i) (suc n) = elim (below_or i n) [ inl h ↦ inl (omega (arith, h)) | inr h ↦ inr (omega (arith, h)) ]
+
 module _ (d : DescriptionTree) where
   -- the first two forms of a line are told
   pairs_one : (ts : List PlainToken) (j k i l : ℕ) → IsLineFault (all_shapes d) ts (line_faults.TwoInstructions j k) → IsLineFault (all_shapes d) ts (line_faults.TwoInstructions i l) → (j ≡ i) × (k ≡ l)
@@ -28,7 +34,12 @@ module _ (d : DescriptionTree) where
       let low' : i < k → i ≡ j = λ h. only i first'.0 first'.1 h in
       let high : k < l → k ≡ i = λ h. only' k second.0 second.1 h in
       let high' : l < k → l ≡ j = λ h. only l second'.0 second'.1 h in
-      (omega (arith, jk, il, low, low', high, high'), omega (arith, jk, il, low, low', high, high'))
+      let one : j ≡ i = elim (below_or j l) [ inl h ↦ low h | inr h ↦ sym (low' (omega (arith, jk, il, h))) ] in
+      let other : k ≡ l = elim (below_or k l) [
+        | inl h ↦ absurd (let e = high h in omega (arith, e, one, jk))
+        | inr h ↦ elim (below_or l k) [ inl g ↦ absurd (let e = high' g in omega (arith, e, one, il)) | inr g ↦ omega (arith, h, g) ]
+      ] in
+      (one, other)
 
   text_one : (line : ℕ) (ts : List PlainToken) (f g : SourceFault) → IsTextFault d line ts f → IsTextFault d line ts g → f ≡ g
   text_one line ts f g (none found is) (none found' is') = is ∙ sym is'

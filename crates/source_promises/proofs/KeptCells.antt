@@ -158,9 +158,9 @@ fixes_apart (f ∷ fs) (Added s ∷ gs) apart = (fixes_from (place_of f) fs gs a
 
 -- ---- what stands for fields
 
-sign_sound : (p : List ℕ) (ts : List PlainToken) → AllByRecursion IsSoundToken (sign_behind p ts) → AllByRecursion IsSoundToken ts
-sign_sound [] ts sound = sound
-sign_sound (c ∷ p) ts sound = sound.1
+sign_sound : (p cs : List ℕ) (ts : List PlainToken) → AllByRecursion IsSoundToken (sign_behind p (Sign 45 ∷ Run cs ∷ ts)) → AllByRecursion IsSoundToken ts
+sign_sound [] cs ts sound = sound.1.1
+sign_sound (c ∷ p) cs ts sound = sound.1.1.1
 
 shown_sound : {ss : List Shape} {gs : List Plain} {ts : List PlainToken} → Matches ss gs ts → AllByRecursion IsSoundToken ts → AllByRecursion IsSoundPlain gs
 shown_sound end sound = tt
@@ -168,7 +168,7 @@ shown_sound (other m) sound = shown_sound m sound.1
 shown_sound (literal m) sound = shown_sound m sound.1
 shown_sound (unsigned cs e v m is) sound = (tt, shown_sound m (subst (AllByRecursion IsSoundToken) is sound).1)
 shown_sound (positive cs e v m is) sound = (tt, shown_sound m (subst (AllByRecursion IsSoundToken) is sound).1)
-shown_sound (negative cs e v m is) sound = (tt, shown_sound m (sign_sound _ _ (subst (AllByRecursion IsSoundToken) is sound)).1.1)
+shown_sound (negative cs e v m is) sound = (tt, shown_sound m (sign_sound _ cs _ (subst (AllByRecursion IsSoundToken) is sound)))
 shown_sound (operand m) sound = (sound.0, shown_sound m sound.1)
 shown_sound (signed_operand m) sound = (sound.0, shown_sound m sound.1)
 

@@ -1,7 +1,7 @@
 mod OneAnswer
 mod FirstFaults
 mod Senses
-mod Images
+mod Linked
 mod SoundLines
 mod KeptLines
 mod WideFields

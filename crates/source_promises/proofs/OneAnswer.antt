@@ -200,7 +200,7 @@ module _ (d : DescriptionTree) where
   needs_part (Some m) (Instruction line) es e needs are = is_none m (sym e)
 
   no_text : (m : ArrayItem) (line : ℕ) (ts : List PlainToken) (es : List (Entry SourceCell)) (f : SourceFault) → IsInstructionEntry d m ts es → IsTextFault d line ts f → ⊥
-  no_text m line ts es f are (none no is) = no are.form are.read.shown are.read.is_match
+  no_text m line ts es f are (none never is) = never are.form are.read.shown are.read.is_match
   no_text m line ts es f are (two j k both is) =
       let first = are.read.only j both.1.0 both.1.1 in
       let second = are.read.only k both.2.0 both.2.1 in
@@ -235,7 +235,7 @@ module _ (d : DescriptionTree) where
   no_line here seen l es f are single (outside out is) = ⊎_elim (λ needs. needs_part here l.part are.own out.0 needs are.part) (λ label. no_section here out.0 (are.placed (labelled l.labels label))) out.1
   no_line here seen l es f are single (part inside wrong) = no_part here l.line l.part are.own f are.part wrong
   no_line here seen l es f are single (double inside right n is told) = is_none n (sym single ∙ is)
-  no_line here seen l es f are single (range inside none wrong) = no_cells here l.line l.part are.own f are.part wrong
+  no_line here seen l es f are single (range inside whole wrong) = no_cells here l.line l.part are.own f are.part wrong
 
   no_fault : (here : Option ArrayItem) (seen : Names) (ls : List PlainLine) (es : List (Entry SourceCell)) (f : SourceFault) → AreEntries d here ls es → Clear seen (flat_map line_names ls) → IsSourceFault d here seen ls f → ⊥
   no_fault here seen [] es f are clear wrong = wrong

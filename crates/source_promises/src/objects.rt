@@ -12,7 +12,7 @@ ghost use Rattle.lisa_assembler.specs.Memories.{memory_items};
 ghost use Rattle.lisa_assembler.specs.Objects.{digest_of, IsObjectOf};
 ghost use Rattle.lisa_assembler.specs.Places.{HasWords};
 
-use tree_fields::fields_are_apart;
+use tree_fields::laws::fields_are_apart;
 
 /// The object of a source that bytes spell keeps the rules of objects, so that its text is read again as this object.
 pub fn objects_of_sources_keep_rules()

@@ -1,4 +1,4 @@
-use Rattle.source_promises.proofs.Images.{linked}
+use Rattle.source_promises.proofs.Linked.{linked}
 use Rattle.source_promises.proofs.images.sources_link_to_their_image.Goals as goal
 
 pub returns : goal.returns
