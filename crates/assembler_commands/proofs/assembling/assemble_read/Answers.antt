@@ -18,6 +18,6 @@ returns-in-Ok-object_of g c =
     passed_replies {X = Object} {T = Unit {0}} object_tree _ _ (λ (object : PlainObject) (outcome : Outcome). outcome ≡ Finished (object_text object)) c.in-Ok-object_of.object _ _ _ _ _ c.in-Ok-object_of.ensures
     (written_replies _ _ _ _ _ _ c.write_object.ensures)
 
-pub returns : goal.returns
-returns g c =
+pub returns-in-Err-object_of : goal.returns-in-Err-object_of
+returns-in-Err-object_of g c =
     stopped_replies {X = Object} {T = Unit {0}} object_tree _ _ (λ (object : PlainObject) (outcome : Outcome). outcome ≡ Finished (object_text object)) c.in-Err-object_of.end _ _ c.in-Err-object_of.ensures

@@ -5,7 +5,7 @@ use Rattle.assembler_commands.specs.Assembled.{AssemblesChecked}
 use Rattle.assembler_commands.proofs.assembling.assemble_source.Goals as goal
 
 pub assemble_tree-requires-clause-spelled : goal.assemble_tree-requires-clause-spelled
-assemble_tree-requires-clause-spelled c = record { bytes = c.args.description.now; spells = c.in-Ok.ensures.found }
+assemble_tree-requires-clause-spelled g c = record { bytes = c.args.description.now; spells = c.in-Ok.ensures.found }
 
 pub returns-in-Ok : goal.returns-in-Ok
 returns-in-Ok g c = passed_replies {T = Unit {0}} description_tree _ _ (λ d. AfterChecks d (AssemblesChecked c.args.source.now)) c.in-Ok.description _ _ _ _ _ c.in-Ok.ensures c.assemble_tree.ensures

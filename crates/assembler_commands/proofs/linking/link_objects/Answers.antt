@@ -6,7 +6,7 @@ use Rattle.assembler_commands.specs.ObjectViews.{texts_of}
 use Rattle.assembler_commands.proofs.linking.link_objects.Goals as goal
 
 pub link_tree-requires-clause-spelled : goal.link_tree-requires-clause-spelled
-link_tree-requires-clause-spelled c = record { bytes = c.args.description.now; spells = c.in-Ok.ensures.found }
+link_tree-requires-clause-spelled g c = record { bytes = c.args.description.now; spells = c.in-Ok.ensures.found }
 
 pub returns-in-Ok : goal.returns-in-Ok
 returns-in-Ok g c = passed_replies {T = Unit {0}} description_tree _ _ (λ d. AfterChecks d (LinksChecked (texts_of c.args.files.now))) c.in-Ok.description _ _ _ _ _ c.in-Ok.ensures c.link_tree.ensures
