@@ -13,7 +13,7 @@ returns-in-Err g c = memory_replies {T = Unit {0}} (LinksChecked (texts_of c.arg
 pub returns-in-Ok-objects_for : goal.returns-in-Ok-objects_for
 returns-in-Ok-objects_for g c =
     let d = (checked_of c.args.tools.now).tree in
-    passed_replies {X = Vec Object} {T = Unit {0}} (λ all. trees_of all.items) _ _ (Links d) c.in-Ok-objects_for.objects _ _ _ _ _ (rw c.description.ensures at (rw c.in-Ok.ensures at c.in-Ok-objects_for.ensures.finds)) c.link_read.ensures
+    passed_replies {X = Vec Object} {T = Unit {0}} (λ all. trees_of all.items) _ _ (Links d) c.in-Ok-objects_for.objects _ _ _ _ _ (rw c.description.ensures at (rw c.in-Ok.ensures at c.in-Ok-objects_for.ensures.finds)) (rw c.deref.ensures.value at c.link_read.ensures)
 
 pub returns-in-Err-objects_for : goal.returns-in-Err-objects_for
 returns-in-Err-objects_for g c =
