@@ -8,6 +8,7 @@ answer is the right one, or the status and line of that want or fault, behind a 
 takes one byte, which changes nothing. The calls fail by a small library that is put before the C library, and is built with a C compiler;
 where there is none nothing is tested. Of more than 600 calls of a sort some of them are taken, evenly."""
 
+import hashlib
 import os
 import shutil
 import struct
@@ -46,13 +47,20 @@ COMMANDS = [
     ("", "", 2), ("runs A - - 3", "", 2), ("fmt G", "", 3), ("fmt A", "", 0), ("fmt C", "", 0), ("fmt X", "", 1), ("check A", "", 0),
     ("check C", "", 0), ("check F", "", 1), ("run A - - 3", "", 0), ("run A I - 3", "", 1), ("run A - K 3", "", 1), ("run F - - 3", "", 1), ("run C - - 3", "", 0), ("trace A - - 3", "", 0),
     ("trace E - S 3", "", 0), ("debug A - -", LINES, 0), ("debug C - -", LINES, 0),
+    ("asm C P", "", 0), ("asm C Y", "", 1), ("asm F P", "", 1), ("link C O Q", "", 0), ("link C O", "", 1), ("link C O A", "", 1), ("dis C J", "", 0), ("dis C I", "", 1),
     ("clock V I H 3", "", 0), ("clock V - K 3", "", 1), ("clocktrace V I H 3", "", 0), ("vdebug V I H", LINES, 0),
 ]
 
 
-def write_files(folder):
+def write_files(folder, program):
+    """The files, with objects and an image that have the digest of C: that of its canonical text, which the program prints."""
+    canonical = subprocess.run([program, "fmt", os.path.join(TOP, "examples", "c.lisa")], capture_output=True, timeout=120, check=True).stdout
+    head = f"1 {hashlib.sha256(canonical).hexdigest()}\n"
     files = {"A": COUNTER, "C": example("c.lisa"), "E": example("e.lisa"), "F": example("f.lisa"), "X": COUNTER[:-3], "V": MODULE, "I": IMAGE, "H": "1 step=3\n2 step=1\n",
-             "K": "1 stop=1\n", "S": "2 hold=1 kill=1\n3 hold=0 kill=0\n"}
+             "K": "1 stop=1\n", "S": "2 hold=1 kill=1\n3 hold=0 kill=0\n",
+             "P": ".section prog\n.global start\nstart: BR @(far-$-2) ; back\nADDI R1,7\n.word 0xc0, -1, @start\n.equ step 3\n", "Y": ".section prog\nADDI R1,@step\nHALT\n",
+             "O": f"object {head}section prog 8\nglobal start\nlabel start\ncell 80\nfix 0 6 s -2 +far -$\nend\n",
+             "Q": f"object {head}section prog 8\nglobal far\nspace 3\nlabel far\ncell 0\nend\n", "J": f"image {head}memory prog 8 16 3\n67\nc0\n5\nend\n"}
     for name, text in files.items():
         with open(os.path.join(folder, name), "w", encoding="latin-1") as file:
             file.write(text)
@@ -149,8 +157,9 @@ def main(words):
             print("no C compiler is there (cc, gcc or clang), so no call is made to fail")
             print("0 passed, 0 failed")
             return 0
-        write_files(folder)
-        runs = Runs(built(os.path.abspath(words[0])), library, folder)
+        program = built(os.path.abspath(words[0]))
+        write_files(folder, program)
+        runs = Runs(program, library, folder)
         for command in COMMANDS:
             right, wrong = try_command(runs, pool, *command)
             passed, failed = passed + right, failed + len(wrong)

@@ -609,6 +609,104 @@ row("check of no file", {}, step("check X", err="lisa: read fault\n", status=3))
 row("check of two words", {"A": A}, step("check A A", err=USAGE, status=2))
 row("check of too long a file", {"A": A + " " * 1048576}, step("check A", err="lisa: file 1 TooLong name=A\n"))
 
+# ---------------------------------------------------------------- link, dis
+
+C = SAMPLES["c.lisa"]
+
+
+def image_of(description, *memories):
+    return lines(f"image 1 {digest(description)}", *memories, "end")
+
+
+def object_of(description, *rest):
+    return lines(f"object 1 {digest(description)}", *rest, "end")
+
+
+CALLER = object_of(C, "section prog 8", "global start", "label start", "cell 80", "fix 0 6 s -2 +far -$")
+CALLED = object_of(C, "section prog 8", "global far", "space 3", "label far", "cell 0")
+BRANCH = ["section prog 8", "cell 80"]
+
+row("a listing", {"C": C, "I": image_of(C, "memory prog 8 16 3", "67", "c0", "5")},
+    step("dis C I", lines(".section prog", "ADDI R1,7", ".word 0xc0", ".word 0x5 ; NOP")))
+row("objects that use each other", {"C": C, "O": CALLER, "P": CALLED},
+    step("link C O P", image_of(C, "memory prog 8 16 5", "82", "0", "0", "0", "0")),
+    step("link C O", err="lisa: link 4 Undefined object=1 name=far\n"),
+    step("link C O O", err="lisa: link 2 DuplicateGlobal name=start\n"),
+    step("link C " + "O " * 33, err=USAGE, status=2), step("link C", err=USAGE, status=2), step("link C -", err=USAGE, status=2))
+row("a branch within its field", {"C": C, "O": object_of(C, *BRANCH, "fix 0 6 s 31")}, step("link C O", image_of(C, "memory prog 8 16 1", "9f")))
+row("a branch past its field", {"C": C, "O": object_of(C, *BRANCH, "fix 0 6 s 32")},
+    step("link C O", err="lisa: link 5 FieldRange object=1 memory=prog address=0 value=32 width=6\n"))
+row("a branch below its field", {"C": C, "O": object_of(C, *BRANCH, "fix 0 6 s -33")},
+    step("link C O", err="lisa: link 5 FieldRange object=1 memory=prog address=0 value=-33 width=6\n"))
+row("too many cells", {"C": C, "O": object_of(C, "section prog 8", "space 17")}, step("link C O", err="lisa: link 3 DoesNotFit memory=prog cells=17 depth=16\n"))
+row("a section of no memory", {"C": C, "O": object_of(C, "section prog 4")}, step("link C O", err="lisa: link 1 NoSuchMemory name=prog\n"))
+row("an object of another description behind one that is none", {"C": C, "A": A, "O": object_of(A), "P": object_of(C) + "\n"},
+    step("link C O P", err=re.compile("lisa: object 1 NotAnObject object=2 line=[0-9]\n")),
+    step("link C O", err=f"lisa: object 2 OtherDescription object=1 kept={digest(A)} expected={digest(C)}\n"))
+row("an image of another description", {"C": C, "I": image_of(A)}, step("dis C I", err=f"lisa: image 2 OtherDescription kept={digest(A)} expected={digest(C)}\n"))
+row("an image with a register array", {"C": C, "I": image_of(C, "memory R 8 2 1", "1")}, step("dis C I", err="lisa: image 3 NoSuchMemory name=R\n"))
+row("a listing of no image", {"C": C}, step("dis C -", err=USAGE, status=2))
+row("a linked object over its limit", {"C": C, "O": " " * 50331649}, step("link C O", err="lisa: file 1 TooLong name=O\n"))
+
+# ---------------------------------------------------------------- asm
+
+CALLING = lines(".section prog", ".global start", "start: BR @(far-$-2)")
+INC = swap(C, ("{ addi || nop", "{ addi || inc || nop"),
+           ("OPERATION reg {", 'ALIAS OPERATION inc { DECLARE { GROUP dst = { reg }; } CODING { 0b01 dst 0b00001 } SYNTAX { "INC" dst } }\nOPERATION reg {'))
+SPLIT = """RESOURCE { MEMORY uint8 prog[16]; MEMORY uint4 nib[4]; REGISTER uint8 ir; REGISTER uint8 R[4]; }
+OPERATION main { }
+OPERATION root { DECLARE { GROUP g = { one || two }; } CODING { ir == g } }
+OPERATION one { DECLARE { LABEL n; } CODING { 0b0 n=0bx[7] } SYNTAX { "R" ~ n=#U } }
+OPERATION two { DECLARE { LABEL m; INSTANCE low; } CODING { 0b1 low m=0bx[4] } SYNTAX { "R" ~ m=#X "," low } }
+OPERATION low { DECLARE { LABEL k; } CODING { k=0bx[3] } SYNTAX { k=#S } }
+"""
+
+row("sources that use each other", {"C": C, "S": CALLING, "T": lines(".section prog", ".global far", ".space 3", "far: NOP")},
+    step("asm C S", CALLER, save="O"), step("asm C T", CALLED, save="P"),
+    step("link C O P", image_of(C, "memory prog 8 16 5", "82", "0", "0", "0", "0")))
+row("a listing that is assembled again", {"C": C, "I": image_of(C, "memory prog 8 16 3", "67", "c0", "5")},
+    step("dis C I", None, save="S"), step("asm C S", None, save="O"), step("link C O", same="I", out=None))
+row("an alias that is assembled", {"C": INC, "S": lines(".section prog", "INC R1")},
+    step("asm C S", object_of(INC, "section prog 8", "cell 61"), save="O"), step("link C O", image_of(INC, "memory prog 8 16 1", "61"), save="I"),
+    step("dis C I", lines(".section prog", "ADDI R1,1")))
+row("a source of nothing", {"C": C, "S": ""}, step("asm C S", object_of(C)))
+row("blanks in an instruction", {"C": C, "S": lines(".section prog", "ADDI  R1 , 7")}, step("asm C S", object_of(C, "section prog 8", "cell 67")))
+row("a value below 0", {"C": C, "S": lines(".section prog", ".word -128")}, step("asm C S", object_of(C, "section prog 8", "cell 80")))
+row("two operands of one instruction", {"C": C, "S": lines(".section prog", "x: ADDI R@x,@(y-1)", ".equ y -2")},
+    step("asm C S", object_of(C, "section prog 8", "label x", "cell 40", "fix 5 1 u 0 +x", "fix 0 5 u -1 +y", "equ y -2")))
+row("labels in a section that ends", {"D": SPLIT, "S": lines(".section prog", "a: .section nib", "b: .word @$,@$,@a")},
+    step("asm D S", object_of(SPLIT, "section prog 8", "label a", "section nib 4", "label b",
+                              *["cell 0", "fix 0 4 w 0 +$"] * 2, "cell 0", "fix 0 4 w 0 +a")))
+for name, description, source, err in (
+        ("a word of another source", C, ".section prog/HALT/", "7 NoInstruction line=2"),
+        ("a value past its field", C, ".section prog/ADDI R2,7/", "7 NoInstruction line=2"),
+        ("a branch too far back", C, ".section prog/BR -33/", "7 NoInstruction line=2"),
+        ("a label that is no name", C, ".section prog/9a: NOP/", "1 BadLine line=2"),
+        ("too much space", C, ".space 1048577/", "1 BadLine line=1"),
+        ("an unknown directive", C, "x: .foo 1/", "2 UnknownDirective line=1"),
+        ("a sum that ends early", C, "BR @(1+)/", "3 BadExpression line=1"),
+        ("an instruction before a section", C, "NOP/", "4 NoSection line=1"),
+        ("a label before a section of its line", C, "a: .section bad/", "4 NoSection line=1"),
+        ("space before a section", C, "/.space 0/", "4 NoSection line=2"),
+        ("a section of no memory", C, ".section mem/", "5 UnknownMemory line=1 name=mem"),
+        ("a section of a register array", C, ".section R/", "5 UnknownMemory line=1 name=R"),
+        ("an instruction in another memory", SPLIT, ".section nib/R1/", "6 NotProgram line=2"),
+        ("a line of two instructions", swap(SPLIT, (' "," low', ""), (" INSTANCE low;", ""), ("low m=0bx[4]", "m=0bx[7]")),
+         ".section prog/R@1/", "8 TwoInstructions line=2 first=one second=two"),
+        ("a name twice", C, ".section prog/a: NOP/a: NOP/", "9 DuplicateLabel line=3 name=a"),
+        ("a name of a number twice", C, ".equ a 1/.section prog/a: NOP/", "9 DuplicateLabel line=3 name=a"),
+        ("a value that is too large", C, ".section prog/.word 1, 256/", "10 FieldRange line=2 value=256 width=8"),
+        ("a value that is too small", C, ".section prog/.word -129/", "10 FieldRange line=2 value=-129 width=8"),
+        ("a name twice before a line of no instruction", C, ".section prog/a: a: FOO/", "7 NoInstruction line=2"),
+        ("a name twice before a value that is too large", C, ".section prog/a: a: .word 300/", "9 DuplicateLabel line=2 name=a"),
+        ("a value that is too large before a name twice", C, ".section prog/a: .word 300/a: NOP/", "10 FieldRange line=2 value=300 width=8"),
+        ("an unknown directive behind a fault of a line", C, "NOP/.foo/", "2 UnknownDirective line=2")):
+    row(f"asm: {name}", {"D": description, "S": lines(*source.split("/")[:-1])}, step("asm D S", err=f"lisa: source {err}\n"))
+row("asm without a source", {"C": C}, step("asm C", err=USAGE, status=2), step("asm C -", err=USAGE, status=2), step("asm C S", err="lisa: read fault\n", status=3))
+row("asm of too long a source", {"C": C, "S": " " * 4194305}, step("asm C S", err="lisa: file 1 TooLong name=S\n"))
+row("asm of a refused description", {"F": SAMPLES["f.lisa"], "S": "\x80"},
+    step("asm F S", err=re.compile('lisa: description 25 Ambiguous first=p second=q text="R1"\n')))
+
 # ---------------------------------------------------------------- running
 
 

@@ -4,7 +4,7 @@ use Rattle.std.specs.Io.KnownBytes.{Keeps}
 use Rattle.lisa_outcomes.specs.RunFiles.{RunBytes}
 use Rattle.engine_commands.specs.Machines.{schedule_bytes}
 use Rattle.engine_commands.proofs.CutOff.{cut_made_kept}
-use Rattle.description_commands.specs.Checked.{Checked}
+use Rattle.checked_descriptions.specs.Checked.{Checked}
 use Rattle.description_commands.specs.Runs.{described_machine, IsCutChecked, IsCutRun}
 
 checked_kept : (c : Checked) (bytes : RunBytes) (left rest before after sent : Option (List ℕ)) → Keeps after sent → IsCutChecked c bytes left rest before after → IsCutChecked c bytes left rest before sent

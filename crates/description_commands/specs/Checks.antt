@@ -6,7 +6,7 @@ use Rattle.activation_trees.specs.Unfolding.{occurrences}
 use Rattle.description_sizes.specs.Sizes.{items}
 use Rattle.lisa_outcomes.specs.Outcomes.{Outcome, Finished}
 use Rattle.description_commands.specs.declared.counts.Counts.{Counts}
-use Rattle.description_commands.specs.Checked.{Checked, AfterChecks}
+use Rattle.checked_descriptions.specs.Checked.{Checked, AfterChecks}
 
 -- how much there is of it
 abbrev pub counts_of : Checked → Counts

@@ -1,9 +1,3 @@
-pub mod Descriptions
-pub mod Instructions
-pub mod Checked
+pub mod Formats
 pub mod Checks
-pub mod DescriptionImages
 pub mod Runs
-pub mod ImageViews
-pub mod ToolViews
-pub mod Unread

@@ -11,9 +11,9 @@ use Rattle.lisa_outcomes.specs.RunFiles.{RunBytes}
 use Rattle.engine_commands.specs.declared.tasks.Task.{Task}
 use Rattle.engine_commands.specs.Machines.{Machine, machine_of, schedule_bytes}
 use Rattle.engine_commands.specs.Making.{GivesMade, IsCutMade}
-use Rattle.description_commands.specs.Descriptions.{AfterSpelling}
-use Rattle.description_commands.specs.Checked.{Checked, IsChecked, AfterChecks}
-use Rattle.description_commands.specs.DescriptionImages.{IsImageFor, AfterImage}
+use Rattle.checked_descriptions.specs.Descriptions.{AfterSpelling}
+use Rattle.checked_descriptions.specs.Checked.{Checked, IsChecked, AfterChecks}
+use Rattle.checked_descriptions.specs.DescriptionImages.{IsImageFor, AfterImage}
 
 -- its machine: the states that the description means, with the image's cells first
 abbrev pub described_machine : Checked → List Memory → Machine

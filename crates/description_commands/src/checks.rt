@@ -1,16 +1,15 @@
 //! The command that only checks a description.
 ghost use Rattle.std.specs.Prelude.{◌<◌, ◌^◌, length};
 ghost use Rattle.lisa_tree.specs.Descriptions.{description_tree};
-ghost use Rattle.description_commands.specs.Descriptions.{AfterSpelling};
+ghost use Rattle.checked_descriptions.specs.Descriptions.{AfterSpelling};
 ghost use Rattle.description_commands.specs.Checks.{counts_of, counts_text, Checks};
-ghost use Rattle.description_commands.specs.ToolViews.{checked_of, AreTools};
+ghost use Rattle.checked_descriptions.specs.ToolViews.{checked_of, AreTools};
 ghost use Rattle.lisa_machine.specs.Machines.{IsSpelled};
 ghost use Rattle.lisa_outcomes.specs.Replies.{Replies};
 ghost use Rattle.lisa_outcomes.specs.Writes.{Writes};
 
 use crate::counts::{Counts, put_counts};
-use crate::reading::description_of;
-use crate::tools::{Tools, tools_of};
+use checked_descriptions::{Tools, description_of, tools_of};
 use lisa_io::Sink;
 use lisa_outcomes::End;
 use lisa_tree::Description;

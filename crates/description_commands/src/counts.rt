@@ -2,9 +2,9 @@
 ghost use Rattle.std.specs.Prelude.{◌≡◌, ◌++◌, codes, decimal as decimal_digits, false};
 ghost use Rattle.lisa_io.specs.Contents.{Puts};
 ghost use Rattle.description_commands.specs.Checks.{counts_of, count_line, counts_text};
-ghost use Rattle.description_commands.specs.ToolViews.{checked_of, AreTools};
+ghost use Rattle.checked_descriptions.specs.ToolViews.{checked_of, AreTools};
 
-use crate::tools::Tools;
+use checked_descriptions::Tools;
 use lisa_io::{Failed, Sink, put_all};
 use lisa_words::decimal;
 

@@ -1,18 +1,13 @@
 //! The commands on a description: its canonical text, whether it is accepted and how much there is of it, its state after some edges, and a session of the debugger over it.
 //!
-//! `specs/Descriptions.antt` says what `fmt` gives, `specs/Checks.antt` what `check` gives, and `specs/Runs.antt` what each task gives.
+//! `specs/Formats.antt` says what `fmt` gives, `specs/Checks.antt` what `check` gives, and `specs/Runs.antt` what each task gives.
 #![tactic(auto)]
 
 mod checks;
 mod counts;
-mod images;
 mod printing;
-mod reading;
 mod running;
-mod tools;
 
 pub use checks::check_description;
 pub use printing::format_description;
-pub use reading::description_of;
 pub use running::do_with_description;
-pub use tools::{Tools, tools_of};

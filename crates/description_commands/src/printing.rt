@@ -3,11 +3,12 @@ ghost use Rattle.std.specs.Prelude.{◌<◌, ◌^◌, length};
 ghost use Rattle.lisa_tree.specs.Descriptions.{description_tree};
 ghost use Rattle.lisa_printer.specs.CanonicalText.{canonical_text};
 ghost use Rattle.lisa_printer.specs.CanonicalTokens.{description_tokens};
-ghost use Rattle.description_commands.specs.Descriptions.{AfterSpelling, Formats};
+ghost use Rattle.checked_descriptions.specs.Descriptions.{AfterSpelling};
+ghost use Rattle.description_commands.specs.Formats.{Formats};
 ghost use Rattle.lisa_outcomes.specs.Replies.{Replies};
 ghost use Rattle.lisa_outcomes.specs.Writes.{Writes};
 
-use crate::reading::description_of;
+use checked_descriptions::description_of;
 use lisa_io::{Sink, put_all};
 use lisa_outcomes::End;
 use lisa_printer::print_description;

@@ -8,13 +8,11 @@ ghost use Rattle.lisa_outcomes.specs.RunViews.{bytes_of};
 ghost use Rattle.engine_commands.specs.Machines.{schedule_bytes};
 ghost use Rattle.engine_commands.specs.Making.{GivesMade, IsCutMade};
 ghost use Rattle.engine_commands.specs.Tasks.{takes_input, IsHeard, HasFailed};
-ghost use Rattle.description_commands.specs.Checked.{AfterChecks};
+ghost use Rattle.checked_descriptions.specs.Checked.{AfterChecks};
 ghost use Rattle.description_commands.specs.Runs.{described_machine, GivesChecked, GivesRun, IsCutChecked, IsCutTree, IsCutRun};
-ghost use Rattle.description_commands.specs.ToolViews.{checked_of, AreTools};
+ghost use Rattle.checked_descriptions.specs.ToolViews.{checked_of, AreTools};
 
-use crate::images::image_for;
-use crate::reading::description_of;
-use crate::tools::{Tools, tools_of};
+use checked_descriptions::{Tools, description_of, image_for, tools_of};
 use engine_commands::{Task, do_made, schedule_text};
 use lisa_engine::Image;
 use lisa_io::{Flush, Source};

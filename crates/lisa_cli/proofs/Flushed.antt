@@ -1,6 +1,5 @@
 -- The end of a command whose output was sent on.
 use Rattle.std.proofs.Common.{◌≡◌, ◌≤◌, ◌∙◌, sym, subst, arith, List, ℕ, Option, Result, Ok, Err, IsOk, ⊎_elim}
-use Rattle.std.specs.Io.KnownBytes.{Keeps}
 use Rattle.lisa_io.specs.Causes.{Rose}
 use Rattle.lisa_io.proofs.Known.{appends_kept}
 use Rattle.lisa_outcomes.specs.declared.status.End.{End}

@@ -2,3 +2,4 @@ mod OtherWords
 mod FieldTexts
 mod Ran
 mod Flushed
+mod FileCounts

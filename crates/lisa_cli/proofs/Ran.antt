@@ -14,14 +14,14 @@ use Rattle.lisa_outcomes.proofs.Told.{not_ok}
 use Rattle.description_commands.proofs.Stopped.{run_kept}
 use Rattle.module_commands.proofs.Stopped.{clock_kept}
 use Rattle.lisa_outcomes.specs.RunFiles.{run_bytes}
-use Rattle.lisa_cli.specs.Requests.{Request, Format, Check, Simulate, Clock, Asks, reads_input}
+use Rattle.lisa_cli.specs.Requests.{Request, Format, Check, Assemble, Link, Disassemble, Simulate, Clock, Asks, reads_input}
 use Rattle.lisa_cli.specs.Gives.{Gives}
 use Rattle.lisa_cli.specs.Statuses.{status_of}
 use Rattle.lisa_cli.specs.Sent.{IsSentOn}
-use Rattle.lisa_cli.specs.Says.{status_text, has_line}
+use Rattle.lisa_cli.specs.Says.{status_text}
 use Rattle.lisa_cli.specs.Told.{IsTold}
 use Rattle.lisa_cli.specs.Runs.{Stands}
-use Rattle.lisa_cli.specs.Headline.{IsAnswer, IsKept, IsSomeRefusal}
+use Rattle.lisa_cli.specs.Headline.{IsAnswer, IsSomeRefusal}
 use Rattle.lisa_cli.specs.Worlds.{World, Readings, Writings, world, Blames, Blamed, file_failed, input_failed, IsCutOver, IsGiven, IsKnown, NoneFailed}
 use Rattle.lisa_cli.proofs.Flushed.{sent_ends, rose_behind}
 
@@ -34,6 +34,9 @@ blamed_blames r before after request (input_failed failed cut) = inr failed
 cut_kept : (request : Request) (bytes : List (List ℕ)) (left rest before after sent : Option (List ℕ)) → Keeps after sent → IsCutOver request bytes left rest before after → IsCutOver request bytes left rest before sent
 cut_kept (Format description) bytes left rest before after sent keeps cut = cut
 cut_kept (Check description) bytes left rest before after sent keeps cut = cut
+cut_kept (Assemble description source) bytes left rest before after sent keeps cut = cut
+cut_kept (Link description objects) bytes left rest before after sent keeps cut = cut
+cut_kept (Disassemble description image) bytes left rest before after sent keeps cut = cut
 cut_kept (Simulate task names) bytes left rest before after sent keeps cut = run_kept (run_bytes names bytes) left rest before after sent keeps cut
 cut_kept (Clock task names) bytes left rest before after sent keeps cut = clock_kept (run_bytes names bytes) left rest before after sent keeps cut
 

@@ -1,18 +1,25 @@
 -- What each request gives for the files and the input that are there.
-use Rattle.std.specs.Prelude.{ℕ, List}
+use Rattle.std.specs.Prelude.{ℕ, List, drop}
 use Rattle.lisa_outcomes.specs.Outcomes.{Outcome, Given}
 use Rattle.lisa_outcomes.specs.NamedFiles.{AfterFiles, file_at}
 use Rattle.lisa_outcomes.specs.RunFiles.{run_bytes}
-use Rattle.description_commands.specs.Descriptions.{AfterSpelling, Formats}
+use Rattle.checked_descriptions.specs.Descriptions.{AfterSpelling}
+use Rattle.description_commands.specs.Formats.{Formats}
 use Rattle.description_commands.specs.Checks.{Checks}
 use Rattle.description_commands.specs.Runs.{GivesRun}
 use Rattle.module_commands.specs.Clocks.{GivesClock}
-use Rattle.lisa_cli.specs.Requests.{Request, Format, Check, Simulate, Clock, files_of}
+use Rattle.assembler_commands.specs.Assembled.{GivesObject}
+use Rattle.assembler_commands.specs.Links.{GivesLink}
+use Rattle.assembler_commands.specs.Listed.{GivesListing}
+use Rattle.lisa_cli.specs.Requests.{Request, Format, Check, Assemble, Link, Disassemble, Simulate, Clock, files_of}
 
 -- for the bytes of its files, in their order, and the bytes of the input
 abbrev pub GivesOver : Request → (bytes : List (List ℕ)) → (input : List ℕ) → Outcome → Type 0
 GivesOver (Format description) bytes input = AfterSpelling (file_at bytes 0) Formats
 GivesOver (Check description) bytes input = AfterSpelling (file_at bytes 0) Checks
+GivesOver (Assemble description source) bytes input = GivesObject (file_at bytes 0) (file_at bytes 1)
+GivesOver (Link description objects) bytes input = GivesLink (file_at bytes 0) (drop 1 bytes)
+GivesOver (Disassemble description image) bytes input = GivesListing (file_at bytes 0) (file_at bytes 1)
 GivesOver (Simulate task names) bytes input = GivesRun task (run_bytes names bytes) input
 GivesOver (Clock task names) bytes input = GivesClock task (run_bytes names bytes) input
 

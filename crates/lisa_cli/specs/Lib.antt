@@ -4,6 +4,7 @@ pub mod Lines
 pub mod LineViews
 pub mod DescriptionLines
 pub mod ModuleLines
+pub mod SourceLines
 pub mod Gives
 pub mod Worlds
 pub mod Says

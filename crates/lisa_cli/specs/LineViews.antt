@@ -4,12 +4,13 @@ use Rattle.lisa_cli.specs.declared.lines.Value.TheVariants as values
 use Rattle.lisa_cli.specs.declared.lines.Value.{Value as LineValue}
 use Rattle.lisa_cli.specs.declared.lines.Field.{Field as LineField}
 use Rattle.lisa_cli.specs.declared.lines.Line.{Line as LineLine}
-use Rattle.lisa_cli.specs.Lines.{Value, Bare, Quoted, Decimal, Hexadecimal, Digest, Field, Line}
+use Rattle.lisa_cli.specs.Lines.{Value, Bare, Quoted, Decimal, Signed, Hexadecimal, Digest, Field, Line}
 
 abbrev pub value_of : LineValue → Value
 value_of (values.Bare text) = Bare text.now
 value_of (values.Quoted text) = Quoted text.now
 value_of (values.Decimal value) = Decimal value
+value_of (values.Signed value) = Signed value
 value_of (values.Hexadecimal value) = Hexadecimal value
 value_of (values.Digest bytes) = Digest bytes.now
 
@@ -21,4 +22,4 @@ fields_of None = []
 fields_of (Some field) = field_of field ∷ []
 
 abbrev pub line_of : LineLine → Line
-line_of line = record { head = line.head.now; fields = fields_of line.first ++ (fields_of line.second ++ fields_of line.third) }
+line_of line = record { head = line.head.now; fields = fields_of line.first ++ (fields_of line.second ++ (fields_of line.third ++ (fields_of line.fourth ++ fields_of line.fifth))) }

@@ -1,6 +1,6 @@
 -- The line that a refusal has on the second stream.
-use Rattle.std.specs.Prelude.{ℕ, false, List, ◌++◌, codes, decimal}
-use Rattle.std.specs.Fmt.{digits}
+use Rattle.std.specs.Prelude.{ℕ, ℤ, false, List, ◌++◌, codes, decimal}
+use Rattle.std.specs.Fmt.{digits, signed_decimal}
 use Rattle.std.specs.List.{flat_map}
 use Rattle.lisa_object.specs.Texts.{digest_digits}
 
@@ -11,6 +11,8 @@ pub data Value : Type 0 where
   Quoted : List ℕ → Value
   -- a number in decimal digits
   Decimal : ℕ → Value
+  -- the same, with `-` before a negative one
+  Signed : ℤ → Value
   -- a word, with 0x
   Hexadecimal : ℕ → Value
   -- a digest, two digits for each byte
@@ -29,6 +31,7 @@ abbrev pub value_text : Value → List ℕ
 value_text (Bare text) = text
 value_text (Quoted text) = codes "\"" ++ (text ++ codes "\"")
 value_text (Decimal value) = decimal value
+value_text (Signed value) = signed_decimal value
 value_text (Hexadecimal value) = codes "0x" ++ digits 16 false value
 value_text (Digest bytes) = digest_digits bytes
 
@@ -52,6 +55,9 @@ text label value = record { label = label; value = Quoted value }
 
 abbrev pub number : List ℕ → ℕ → Field
 number label value = record { label = label; value = Decimal value }
+
+abbrev pub integer : List ℕ → ℤ → Field
+integer label value = record { label = label; value = Signed value }
 
 abbrev pub word : List ℕ → ℕ → Field
 word label value = record { label = label; value = Hexadecimal value }

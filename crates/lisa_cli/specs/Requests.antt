@@ -1,10 +1,13 @@
 -- What the words of a command line ask for.
-use Rattle.std.specs.Prelude.{ℕ, ◌≡◌, ◌≢◌, ◌≤◌, ◌||◌, Bool, false, List, [], ◌∷◌, Option, Some, None, codes, decimal}
+use Rattle.std.specs.Prelude.{ℕ, ◌≡◌, ◌≢◌, ◌≤◌, ◌||◌, Bool, false, List, [], ◌∷◌, Option, Some, None, codes, decimal, length, map}
+use Rattle.std.specs.List.{AllByRecursion}
 use Rattle.std.specs.Str.{bytes_eq}
 use Rattle.lisa_outcomes.specs.NamedFiles.{NamedFile, named}
-use Rattle.lisa_outcomes.specs.RunFiles.{RunNames, run_files}
-use Rattle.description_commands.specs.Descriptions.{description_limit}
+use Rattle.lisa_outcomes.specs.RunFiles.{RunNames, run_files, image_limit}
+use Rattle.checked_descriptions.specs.Descriptions.{description_limit}
 use Rattle.module_commands.specs.Clocks.{module_limit}
+use Rattle.assembler_commands.specs.Links.{object_limit}
+use Rattle.assembler_commands.specs.Assembled.{source_limit}
 use Rattle.engine_commands.specs.declared.tasks.Task.{Task}
 use Rattle.engine_commands.specs.declared.tasks.Task.TheVariants as tasks
 use Rattle.engine_commands.specs.Tasks.{takes_input}
@@ -14,6 +17,12 @@ pub data Request : Type 0 where
   -- description
   Format : List ℕ → Request
   Check : List ℕ → Request
+  -- description and source
+  Assemble : List ℕ → List ℕ → Request
+  -- description and objects
+  Link : List ℕ → List (List ℕ) → Request
+  -- description and image
+  Disassemble : List ℕ → List ℕ → Request
   -- what is to be done with the simulator of a description, and its files
   Simulate : Task → RunNames → Request
   -- what is to be done with the clock of a module, and its files
@@ -49,6 +58,9 @@ run_words names counts = names.main ∷ file_word names.image ∷ file_word name
 abbrev pub request_words : Request → List (List ℕ)
 request_words (Format description) = codes "fmt" ∷ description ∷ []
 request_words (Check description) = codes "check" ∷ description ∷ []
+request_words (Assemble description source) = codes "asm" ∷ description ∷ source ∷ []
+request_words (Link description objects) = codes "link" ∷ description ∷ objects
+request_words (Disassemble description image) = codes "dis" ∷ description ∷ image ∷ []
 request_words (Simulate task names) = simulator_word task ∷ run_words names (count_words task)
 request_words (Clock task names) = clock_word task ∷ run_words names (count_words task)
 
@@ -72,10 +84,19 @@ IsCounted (tasks.State edges) = edges ≤ 1000000
 IsCounted (tasks.Trace edges) = edges ≤ 10000
 IsCounted tasks.Answers = Unit {0}
 
--- each file has a name, and the number of edges is within its limit
+-- from 1 to 32 objects
+pub record AreObjectNames (objects : List (List ℕ)) : Type 0 where
+  pub names : AllByRecursion IsFileName objects
+  pub some : 1 ≤ length objects
+  pub few : length objects ≤ 32
+
+-- each file has a name, and the numbers of objects and of edges are within their limits
 abbrev pub IsAllowed : Request → Type 0
 IsAllowed (Format description) = IsFileName description
 IsAllowed (Check description) = IsFileName description
+IsAllowed (Assemble description source) = IsFileName description × IsFileName source
+IsAllowed (Link description objects) = IsFileName description × AreObjectNames objects
+IsAllowed (Disassemble description image) = IsFileName description × IsFileName image
 IsAllowed (Simulate task names) = AreNames names × IsCounted task
 IsAllowed (Clock task names) = AreNames names × IsCounted task
 
@@ -83,6 +104,9 @@ IsAllowed (Clock task names) = AreNames names × IsCounted task
 abbrev pub files_of : Request → List NamedFile
 files_of (Format description) = named description description_limit ∷ []
 files_of (Check description) = named description description_limit ∷ []
+files_of (Assemble description source) = named description description_limit ∷ named source source_limit ∷ []
+files_of (Link description objects) = named description description_limit ∷ map (λ object. named object object_limit) objects
+files_of (Disassemble description image) = named description description_limit ∷ named image image_limit ∷ []
 files_of (Simulate task names) = run_files names description_limit
 files_of (Clock task names) = run_files names module_limit
 
@@ -90,6 +114,9 @@ files_of (Clock task names) = run_files names module_limit
 abbrev pub reads_input : Request → Bool
 reads_input (Format description) = false
 reads_input (Check description) = false
+reads_input (Assemble description source) = false
+reads_input (Link description objects) = false
+reads_input (Disassemble description image) = false
 reads_input (Simulate task names) = takes_input task
 reads_input (Clock task names) = takes_input task
 

@@ -1,5 +1,5 @@
 -- What stands on `out` under each status, and where the status comes from; what is said of it on `err` is left out here.
-use Rattle.std.specs.Prelude.{ℕ, ◌≡◌, List, []}
+use Rattle.std.specs.Prelude.{ℕ, List, []}
 use Rattle.std.specs.Io.KnownBytes.{Appends}
 use Rattle.lisa_io.specs.Causes.{Rose}
 use Rattle.lisa_outcomes.specs.declared.status.Refusal.{Refusal}

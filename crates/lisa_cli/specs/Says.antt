@@ -8,6 +8,7 @@ use Rattle.lisa_cli.specs.Lines.{Line, line_text}
 use Rattle.lisa_cli.specs.DescriptionLines.{description_line}
 use Rattle.lisa_cli.specs.OwnLines.{file_line, input_line}
 use Rattle.lisa_cli.specs.ModuleLines.{verilog_line, image_line, schedule_line}
+use Rattle.lisa_cli.specs.SourceLines.{source_line, object_line, link_line}
 
 abbrev pub refusal_line : Refusal → Line
 refusal_line (refusals.File fault) = file_line fault
@@ -15,7 +16,10 @@ refusal_line (refusals.Input fault) = input_line fault
 refusal_line (refusals.Description fault) = description_line fault
 refusal_line (refusals.Verilog fault) = verilog_line fault
 refusal_line (refusals.Image fault) = image_line fault
+refusal_line (refusals.Object fault) = object_line fault
 refusal_line (refusals.Schedule fault) = schedule_line fault
+refusal_line (refusals.Source fault) = source_line fault
+refusal_line (refusals.Link fault) = link_line fault
 
 abbrev pub usage_text : List ℕ
 usage_text = codes "usage: lisa check|fmt|verilog|run|trace|clock|clocktrace|asm|link|dis|debug|vdebug|gen|soak ..\n"

@@ -1,12 +1,13 @@
 //! The commands, each by the bytes that it reads.
-ghost use Rattle.std.specs.Prelude.{◌≡◌, ◌≤◌, ◌<◌, ◌^◌, ◌∷◌, ◌++◌, [], Bool, false, List, ℕ, Option, option_map, IfOk, OnOk, map, length};
+ghost use Rattle.std.specs.Prelude.{◌≡◌, ◌≤◌, ◌<◌, ◌^◌, ◌∷◌, ◌++◌, [], Bool, false, List, ℕ, Option, option_map, IfOk, OnOk, map, length, drop, string_bytes};
 ghost use Rattle.lisa_outcomes.specs.Outcomes.{Given};
 ghost use Rattle.lisa_outcomes.specs.Ends.{Ends};
 ghost use Rattle.lisa_outcomes.specs.FileViews.{named_of};
 ghost use Rattle.lisa_outcomes.specs.NamedFiles.{file_at, named};
 ghost use Rattle.lisa_outcomes.specs.RunFiles.{any_file, run_files};
 ghost use Rattle.lisa_outcomes.specs.RunViews.{names_of};
-ghost use Rattle.description_commands.specs.Descriptions.{description_limit};
+ghost use Rattle.checked_descriptions.specs.Descriptions.{description_limit};
+ghost use Rattle.assembler_commands.specs.Links.{object_limit};
 ghost use Rattle.module_commands.specs.Clocks.{module_limit};
 ghost use Rattle.lisa_cli.specs.Requests.{reads_input, files_of};
 ghost use Rattle.lisa_cli.specs.Asked.{request_of};
@@ -14,6 +15,7 @@ ghost use Rattle.lisa_cli.specs.Gives.{Gives, GivesOver};
 ghost use Rattle.lisa_cli.specs.Worlds.{readings, IsGiven, IsHeard, HasFailed, IsCutOver, Blamed};
 
 use crate::requests::Command;
+use assembler_commands::{assemble_source, link_objects, list_image};
 use description_commands::{check_description, do_with_description, format_description};
 use lisa_io::{Files, Flush, Source};
 use lisa_outcomes::{End, NamedFile, RunNames, file_at, load_files, run_bytes};
@@ -24,6 +26,10 @@ use std::alloc::Global;
 const DESCRIPTION_LIMIT: u32 = 1_048_576;
 
 const MODULE_LIMIT: u32 = 134_217_728;
+
+const SOURCE_LIMIT: u32 = 4_194_304;
+
+const OBJECT_LIMIT: u32 = 50_331_648;
 
 const IMAGE_LIMIT: u32 = 134_217_728;
 
@@ -60,6 +66,48 @@ fn description_files<'a>(
     }
 }
 
+// The files of a description and of another that is read by it.
+fn two_files<'a>(
+    alloc: Global,
+    description: &'a str,
+    other: &'a str,
+    limit: u32,
+) -> Result<Vec<NamedFile<'a>>, NoMemory>
+    ensures { IfOk result (λ files. map named_of files.items ≡ named description.now description_limit ∷ named other.now limit ∷ []) }
+{
+    let mut files = Vec::new(alloc);
+    match push_file(&mut files, Some(description), DESCRIPTION_LIMIT) {
+        Ok(()) => {}
+        Err(_) => return Err(NoMemory),
+    }
+    match push_file(&mut files, Some(other), limit) {
+        Ok(()) => Ok(files),
+        Err(_) => Err(NoMemory),
+    }
+}
+
+// The files of a description and of objects.
+fn object_files<'a>(
+    alloc: Global,
+    description: &'a str,
+    objects: &'a [String],
+) -> Result<Vec<NamedFile<'a>>, NoMemory>
+    ensures { IfOk result (λ files. map named_of files.items ≡ named description.now description_limit ∷ map (λ object. named object object_limit) (map string_bytes objects.now)) }
+{
+    let mut files = Vec::new(alloc);
+    match push_file(&mut files, Some(description), DESCRIPTION_LIMIT) {
+        Ok(()) => {}
+        Err(_) => return Err(NoMemory),
+    }
+    for object in objects {
+        match push_file(&mut files, Some(object.as_str()), OBJECT_LIMIT) {
+            Ok(()) => {}
+            Err(_) => return Err(NoMemory),
+        }
+    }
+    Ok(files)
+}
+
 // The files of a run, of which the first has this limit.
 fn run_files<'a>(
     alloc: Global,
@@ -90,9 +138,30 @@ fn files_of<'a>(alloc: Global, command: &Command<'a>) -> Result<Vec<NamedFile<'a
     match command {
         Command::Format { description } => description_files(alloc, description),
         Command::Check { description } => description_files(alloc, description),
+        Command::Assemble {
+            description,
+            source,
+        } => two_files(alloc, description, source, SOURCE_LIMIT),
+        Command::Link {
+            description,
+            objects,
+        } => object_files(alloc, description, objects),
+        Command::Disassemble { description, image } => {
+            two_files(alloc, description, image, IMAGE_LIMIT)
+        }
         Command::Simulate { names, .. } => run_files(alloc, *names, DESCRIPTION_LIMIT),
         Command::Clock { names, .. } => run_files(alloc, *names, MODULE_LIMIT),
     }
+}
+
+// The files behind the first.
+fn behind(all: &[Vec<u8>]) -> &[Vec<u8>]
+    ensures { result.now ≡ drop 1 all.now }
+{
+    let [_, rest @ ..] = all else {
+        return all;
+    };
+    rest
 }
 
 // Does what a command asks for, over the bytes of its files.
@@ -103,7 +172,8 @@ fn perform_with<I: Source, O: Flush>(
     input: &mut I,
     out: &mut O,
 ) -> Result<(), End>
-    requires { (place : ℕ) → length (file_at (map (λ bytes. bytes.items) all.now) place) < 2 ^ 32 }
+    requires short { (place : ℕ) → length (file_at (map (λ bytes. bytes.items) all.now) place) < 2 ^ 32 }
+    requires few { length all.now < 2 ^ 32 }
     ensures ends { Ends (IsHeard (request_of command.now) (I.left input.old)) (GivesOver (request_of command.now) (map (λ bytes. bytes.items) all.now))
         (HasFailed (request_of command.now) (I.faults input.old) (I.faults input.new)
         × IsCutOver (request_of command.now) (map (λ bytes. bytes.items) all.now) (I.left input.old) (I.left input.new) (O.written out.old) (O.written out.new))
@@ -114,6 +184,9 @@ fn perform_with<I: Source, O: Flush>(
     match command {
         Command::Format { .. } => format_description(alloc, file_at(all, 0), out),
         Command::Check { .. } => check_description(alloc, file_at(all, 0), out),
+        Command::Assemble { .. } => assemble_source(alloc, file_at(all, 0), file_at(all, 1), out),
+        Command::Link { .. } => link_objects(alloc, file_at(all, 0), behind(all), out),
+        Command::Disassemble { .. } => list_image(alloc, file_at(all, 0), file_at(all, 1), out),
         Command::Simulate { names, task } => {
             do_with_description(alloc, &run_bytes(*names, all), *task, input, out)
         }
@@ -131,6 +204,7 @@ pub fn perform<F: Files, I: Source, O: Flush>(
     input: &mut I,
     out: &mut O,
 ) -> Result<(), End>
+    requires few { length (files_of (request_of command.now)) < 2 ^ 32 }
     ensures ends { Ends (IsGiven (F.held files.old) (I.left input.old) (request_of command.now)) (λ given. Gives given (request_of command.now))
         (Blamed (readings (F.held files.old) (F.held files.new) (F.faults files.old) (F.faults files.new) (I.left input.old) (I.left input.new) (I.faults input.old) (I.faults input.new))
         (O.written out.old) (O.written out.new) (request_of command.now))

@@ -8,6 +8,7 @@ mod lines;
 mod module_lines;
 mod requests;
 mod sending;
+mod source_lines;
 mod telling;
 mod top;
 

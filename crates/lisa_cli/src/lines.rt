@@ -1,11 +1,11 @@
 //! The line that a refusal has on the second stream.
 ghost use Rattle.std.specs.Prelude.{◌≡◌, ◌++◌, ◌∷◌, [], codes};
 ghost use Rattle.lisa_io.specs.Contents.{Puts};
-ghost use Rattle.lisa_cli.specs.Lines.{line_text, fields_text, field_text, value_text, line, name, text, number, word, digest};
+ghost use Rattle.lisa_cli.specs.Lines.{line_text, fields_text, field_text, value_text, line, name, text, number, integer, word, digest};
 ghost use Rattle.lisa_cli.specs.LineViews.{line_of, fields_of, field_of, value_of};
 ghost use Rattle.std.specs.Prelude.{false, decimal as decimal_digits};
 ghost use Rattle.std.specs.Prelude.{◌<◌};
-ghost use Rattle.std.specs.Fmt.{digits as hex_digits, digit_glyph};
+ghost use Rattle.std.specs.Fmt.{digits as hex_digits, digit_glyph, signed_decimal};
 ghost use Rattle.lisa_object.specs.Texts.{byte_digits, digest_digits};
 
 use lisa_io::{Failed, Sink, put_all};
@@ -17,6 +17,7 @@ pub enum Value<'a> {
     Bare(&'a [u8]),
     Quoted(&'a [u8]),
     Decimal(u64),
+    Signed(i128),
     Hexadecimal(u64),
     Digest(&'a [u8]),
 }
@@ -28,13 +29,15 @@ pub struct Field<'a> {
     pub value: Value<'a>,
 }
 
-/// The area, number and name of a fault, and its fields, of which there are at most three.
+/// The area, number and name of a fault, and its fields, of which there are at most five.
 #[derive(Clone, Copy)]
 pub struct Line<'a> {
     pub head: &'a [u8],
     pub first: Option<Field<'a>>,
     pub second: Option<Field<'a>>,
     pub third: Option<Field<'a>>,
+    pub fourth: Option<Field<'a>>,
+    pub fifth: Option<Field<'a>>,
 }
 
 /// A field with a name.
@@ -67,6 +70,16 @@ pub fn number_field(label: &[u8], value: u64) -> Field<'_>
     }
 }
 
+/// A field with a decimal number that may be negative.
+pub fn integer_field(label: &[u8], value: i128) -> Field<'_>
+    ensures { field_of result ≡ integer label.now value }
+{
+    Field {
+        label,
+        value: Value::Signed(value),
+    }
+}
+
 /// A field with a word in hexadecimal.
 pub fn word_field(label: &[u8], value: u64) -> Field<'_>
     ensures { field_of result ≡ word label.now value }
@@ -96,6 +109,8 @@ pub fn line0(head: &[u8]) -> Line<'_>
         first: None,
         second: None,
         third: None,
+        fourth: None,
+        fifth: None,
     }
 }
 
@@ -108,6 +123,8 @@ pub fn line1<'a>(head: &'a [u8], first: Field<'a>) -> Line<'a>
         first: Some(first),
         second: None,
         third: None,
+        fourth: None,
+        fifth: None,
     }
 }
 
@@ -120,6 +137,8 @@ pub fn line2<'a>(head: &'a [u8], first: Field<'a>, second: Field<'a>) -> Line<'a
         first: Some(first),
         second: Some(second),
         third: None,
+        fourth: None,
+        fifth: None,
     }
 }
 
@@ -132,6 +151,29 @@ pub fn line3<'a>(head: &'a [u8], first: Field<'a>, second: Field<'a>, third: Fie
         first: Some(first),
         second: Some(second),
         third: Some(third),
+        fourth: None,
+        fifth: None,
+    }
+}
+
+/// A line of five fields.
+pub fn line5<'a>(
+    head: &'a [u8],
+    first: Field<'a>,
+    second: Field<'a>,
+    third: Field<'a>,
+    fourth: Field<'a>,
+    fifth: Field<'a>,
+) -> Line<'a>
+    ensures { line_of result ≡ line head.now (field_of first.entry ∷ field_of second.entry ∷ field_of third.entry ∷ field_of fourth.entry ∷ field_of fifth.entry ∷ []) }
+{
+    Line {
+        head,
+        first: Some(first),
+        second: Some(second),
+        third: Some(third),
+        fourth: Some(fourth),
+        fifth: Some(fifth),
     }
 }
 
@@ -143,6 +185,7 @@ fn put_value<E: Sink>(err: &mut E, value: &Value<'_>) -> Result<(), Failed>
         Value::Bare(text) => put_all(err, text),
         Value::Quoted(text) => put_quoted(err, text),
         Value::Decimal(value) => put_decimal(err, *value),
+        Value::Signed(value) => put_integer(err, *value),
         Value::Hexadecimal(value) => put_word(err, *value),
         Value::Digest(bytes) => put_digest(err, bytes),
     }
@@ -162,6 +205,28 @@ fn put_decimal<E: Sink>(err: &mut E, value: u64) -> Result<(), Failed>
     let mut digits = [0; 20];
     let count = decimal(value, &mut digits);
     put_all(err, &digits[..count])
+}
+
+// A decimal number of any size.
+fn put_wide<E: Sink>(err: &mut E, value: u128) -> Result<(), Failed>
+    ensures { Puts (E.written err.old) (E.written err.new) (E.faults err.old) (E.faults err.new) result (decimal_digits value) }
+{
+    if value < 10 {
+        return put_all(err, &[48 + value as u8]);
+    }
+    put_wide(err, value / 10)?;
+    put_all(err, &[48 + (value % 10) as u8])
+}
+
+// An integer, with `-` before a negative one.
+fn put_integer<E: Sink>(err: &mut E, value: i128) -> Result<(), Failed>
+    ensures { Puts (E.written err.old) (E.written err.new) (E.faults err.old) (E.faults err.new) result (signed_decimal value) }
+{
+    if value >= 0 {
+        return put_wide(err, value.unsigned_abs());
+    }
+    put_all(err, b"-")?;
+    put_wide(err, value.unsigned_abs())
 }
 
 fn put_word<E: Sink>(err: &mut E, value: u64) -> Result<(), Failed>
@@ -217,14 +282,25 @@ fn put_one_field<E: Sink>(err: &mut E, field: &Field<'_>) -> Result<(), Failed>
     put_value(err, &field.value)
 }
 
+// The last three fields.
+fn put_last_fields<E: Sink>(err: &mut E, line: &Line<'_>) -> Result<(), Failed>
+    ensures { Puts (E.written err.old) (E.written err.new) (E.faults err.old) (E.faults err.new) result
+        (fields_text (fields_of line.now.third) ++ (fields_text (fields_of line.now.fourth) ++ fields_text (fields_of line.now.fifth))) }
+{
+    put_field(err, &line.third)?;
+    put_field(err, &line.fourth)?;
+    put_field(err, &line.fifth)
+}
+
 // The fields, in order.
 fn put_fields<E: Sink>(err: &mut E, line: &Line<'_>) -> Result<(), Failed>
     ensures { Puts (E.written err.old) (E.written err.new) (E.faults err.old) (E.faults err.new) result
-        (fields_text (fields_of line.now.first) ++ (fields_text (fields_of line.now.second) ++ fields_text (fields_of line.now.third))) }
+        (fields_text (fields_of line.now.first) ++ (fields_text (fields_of line.now.second)
+        ++ (fields_text (fields_of line.now.third) ++ (fields_text (fields_of line.now.fourth) ++ fields_text (fields_of line.now.fifth))))) }
 {
     put_field(err, &line.first)?;
     put_field(err, &line.second)?;
-    put_field(err, &line.third)
+    put_last_fields(err, line)
 }
 
 /// Writes the line.

@@ -1,11 +1,12 @@
 //! The words of the command line.
 ghost use Rattle.std.specs.Prelude.{◌≡◌, ◌≢◌, ◌≤◌, ◌<◌, ◌^◌, ◌↔◌, ◌∷◌, [], List, ℕ, Option, Some, IsTrue, IfSome, codes, map, string_bytes, decimal};
 ghost use Rattle.std.specs.Option.{option_map};
+ghost use Rattle.std.specs.List.{AllByRecursion};
 ghost use Rattle.lisa_outcomes.specs.RunFiles.{RunNames as TheNames};
 ghost use Rattle.lisa_outcomes.specs.RunViews.{names_of};
 ghost use Rattle.engine_commands.specs.declared.tasks.Task.{Task as TheTask};
 ghost use Rattle.engine_commands.specs.declared.tasks.Task.TheVariants.{Answers};
-ghost use Rattle.lisa_cli.specs.Requests.{Request, Simulate, Clock, Asks, IsFileName, IsAnyName, AreNames, IsCounted, file_word, simulator_word, is_simulator_word, clock_word, count_words, run_words};
+ghost use Rattle.lisa_cli.specs.Requests.{Request, Assemble, Link, Disassemble, Simulate, Clock, Asks, AreObjectNames, IsFileName, IsAnyName, AreNames, IsCounted, file_word, simulator_word, is_simulator_word, clock_word, count_words, run_words};
 ghost use Rattle.lisa_cli.specs.Asked.{request_of};
 
 use engine_commands::Task;
@@ -16,13 +17,38 @@ use lisa_words::canonical_decimal;
 #[derive(Clone, Copy, Debug)]
 pub enum Command<'a> {
     /// `fmt DESC`
-    Format { description: &'a str },
+    Format {
+        description: &'a str,
+    },
     /// `check DESC`
-    Check { description: &'a str },
+    Check {
+        description: &'a str,
+    },
+    /// `asm DESC SOURCE`
+    Assemble {
+        description: &'a str,
+        source: &'a str,
+    },
+    /// `link DESC OBJECT ..`
+    Link {
+        description: &'a str,
+        objects: &'a [String],
+    },
+    /// `dis DESC IMAGE`
+    Disassemble {
+        description: &'a str,
+        image: &'a str,
+    },
     /// `run DESC IMAGE SCHED N`, `trace DESC IMAGE SCHED N` or `debug DESC IMAGE SCHED`
-    Simulate { names: RunNames<'a>, task: Task },
+    Simulate {
+        names: RunNames<'a>,
+        task: Task,
+    },
     /// `clock VFILE IMAGE SCHED N`, `clocktrace VFILE IMAGE SCHED N` or `vdebug VFILE IMAGE SCHED`
-    Clock { names: RunNames<'a>, task: Task },
+    Clock {
+        names: RunNames<'a>,
+        task: Task,
+    },
 }
 
 // A word that names a file.
@@ -80,6 +106,80 @@ fn check_command(operands: &[String]) -> Option<Command<'_>>
     };
     let description = file_name(description.as_str())?;
     Some(Command::Check { description })
+}
+
+// The names of two files.
+fn two_files(operands: &[String]) -> Option<(&str, &str)>
+    ensures found { IfSome result (λ n. (map string_bytes operands.now ≡ n.0.now ∷ n.1.now ∷ []) × IsFileName n.0.now × IsFileName n.1.now) }
+    ensures only { (x y : List ℕ) → map string_bytes operands.now ≡ x ∷ y ∷ [] → IsFileName x → IsFileName y → option_map {U = List ℕ × List ℕ} (λ n. (n.0.now, n.1.now)) result ≡ Some (x, y) }
+{
+    let [first, second] = operands else {
+        return None;
+    };
+    let first = file_name(first.as_str())?;
+    let second = file_name(second.as_str())?;
+    Some((first, second))
+}
+
+// The operands of `asm`.
+fn assemble_command(operands: &[String]) -> Option<Command<'_>>
+    ensures found { IfSome result (λ c. Asks (codes "asm" ∷ map string_bytes operands.now) (request_of c)) }
+    ensures only { (r : Request) → Asks (codes "asm" ∷ map string_bytes operands.now) r → option_map request_of result ≡ Some r }
+{
+    let (description, source) = two_files(operands)?;
+    Some(Command::Assemble {
+        description,
+        source,
+    })
+}
+
+// The operands of `dis`.
+fn disassemble_command(operands: &[String]) -> Option<Command<'_>>
+    ensures found { IfSome result (λ c. Asks (codes "dis" ∷ map string_bytes operands.now) (request_of c)) }
+    ensures only { (r : Request) → Asks (codes "dis" ∷ map string_bytes operands.now) r → option_map request_of result ≡ Some r }
+{
+    let (description, image) = two_files(operands)?;
+    Some(Command::Disassemble { description, image })
+}
+
+// Whether each of these words names a file.
+fn are_file_names(words: &[String]) -> bool
+    ensures { IsTrue result ↔ AllByRecursion IsFileName (map string_bytes words.now) }
+{
+    let [first, rest @ ..] = words else {
+        return true;
+    };
+    if file_name(first.as_str()).is_none() {
+        return false;
+    }
+    are_file_names(rest)
+}
+
+// The names of from 1 to 32 objects.
+fn object_names(words: &[String]) -> Option<&[String]>
+    ensures found { IfSome result (λ objects. (objects.now ≡ words.now) × AreObjectNames (map string_bytes objects.now)) }
+    ensures only { AreObjectNames (map string_bytes words.now) → option_map (λ objects. objects.now) result ≡ Some words.now }
+{
+    if words.is_empty() || words.len() > 32 || !are_file_names(words) {
+        return None;
+    }
+    Some(words)
+}
+
+// The operands of `link`.
+fn link_command(operands: &[String]) -> Option<Command<'_>>
+    ensures found { IfSome result (λ c. Asks (codes "link" ∷ map string_bytes operands.now) (request_of c)) }
+    ensures only { (r : Request) → Asks (codes "link" ∷ map string_bytes operands.now) r → option_map request_of result ≡ Some r }
+{
+    let [description, objects @ ..] = operands else {
+        return None;
+    };
+    let description = file_name(description.as_str())?;
+    let objects = object_names(objects)?;
+    Some(Command::Link {
+        description,
+        objects,
+    })
 }
 
 // A word that names a file, or a dash where one is left out.
@@ -202,10 +302,13 @@ fn clock_command<'a>(command: &str, operands: &'a [String]) -> Option<Command<'a
     Some(Command::Clock { names, task })
 }
 
-// The operands of a command other than `fmt` and `check`.
+// The operands of a command with a task.
 fn task_command<'a>(command: &str, operands: &'a [String]) -> Option<Command<'a>>
     requires fmt { command.now ≢ codes "fmt" }
     requires check { command.now ≢ codes "check" }
+    requires asm { command.now ≢ codes "asm" }
+    requires link { command.now ≢ codes "link" }
+    requires dis { command.now ≢ codes "dis" }
     ensures found { IfSome result (λ c. Asks (command.now ∷ map string_bytes operands.now) (request_of c)) }
     ensures only { (r : Request) → Asks (command.now ∷ map string_bytes operands.now) r → option_map request_of result ≡ Some r }
 {
@@ -227,6 +330,9 @@ pub fn request(words: &[String]) -> Option<Command<'_>>
     match command.as_str() {
         "fmt" => format_command(operands),
         "check" => check_command(operands),
+        "asm" => assemble_command(operands),
+        "link" => link_command(operands),
+        "dis" => disassemble_command(operands),
         other => task_command(other, operands),
     }
 }

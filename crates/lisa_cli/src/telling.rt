@@ -9,6 +9,7 @@ ghost use Rattle.lisa_outcomes.specs.declared.status.Status.TheVariants as statu
 use crate::fault_lines::{description_line, file_line, input_line};
 use crate::lines::{Line, put_line};
 use crate::module_lines::{image_line, schedule_line, verilog_line};
+use crate::source_lines::{link_line, object_line, source_line};
 use lisa_io::{Failed, Sink, put_all};
 use lisa_outcomes::{Refusal, Status};
 
@@ -25,7 +26,10 @@ fn refusal_line(refusal: &Refusal) -> Line<'_>
         Refusal::Description(fault) => description_line(fault),
         Refusal::Verilog(fault) => verilog_line(fault),
         Refusal::Image(fault) => image_line(fault),
+        Refusal::Object(fault) => object_line(fault),
         Refusal::Schedule(fault) => schedule_line(fault),
+        Refusal::Source(fault) => source_line(fault),
+        Refusal::Link(fault) => link_line(fault),
     }
 }
 

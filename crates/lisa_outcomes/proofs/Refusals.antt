@@ -1,9 +1,15 @@
 -- A fault that is no want of memory makes a refusal.
 use Rattle.std.proofs.Common.{◌≡◌, ◌≢◌, List, ℕ}
+use Rattle.asm_source.specs.declared.flaw.SourceFault.{SourceFault}
+use Rattle.asm_source.specs.declared.flaw.SourceFault.TheVariants as sources
 use Rattle.lisa_engine.specs.declared.schedule.ScheduleFault.{ScheduleFault}
 use Rattle.lisa_engine.specs.declared.schedule.ScheduleFault.TheVariants as schedules
 use Rattle.lisa_object.specs.declared.faults.ImageFault.{ImageFault}
 use Rattle.lisa_object.specs.declared.faults.ImageFault.TheVariants as images
+use Rattle.lisa_object.specs.declared.faults.LinkFault.{LinkFault}
+use Rattle.lisa_object.specs.declared.faults.LinkFault.TheVariants as links
+use Rattle.lisa_object.specs.declared.faults.ObjectFault.{ObjectFault}
+use Rattle.lisa_object.specs.declared.faults.ObjectFault.TheVariants as objects
 use Rattle.lisa_tree.specs.declared.faults.DescFault.{DescFault}
 use Rattle.lisa_tree.specs.declared.faults.DescFault.TheVariants as descriptions
 use Rattle.verilog_text.specs.declared.faults.VerilogFault.{VerilogFault}
@@ -25,7 +31,10 @@ file_refusal fault other = record {
   description = λ e. cc;
   verilog = λ e. cc;
   image = λ e. cc;
+  object = λ e. cc;
   schedule = λ e. cc;
+  source = λ e. cc;
+  link = λ e. cc;
 }
 
 same_input : (a b : InputFault) → refusals.Input a ≡ refusals.Input b → a ≡ b
@@ -38,7 +47,10 @@ input_refusal fault other = record {
   description = λ e. cc;
   verilog = λ e. cc;
   image = λ e. cc;
+  object = λ e. cc;
   schedule = λ e. cc;
+  source = λ e. cc;
+  link = λ e. cc;
 }
 
 same_description : (a b : DescFault) → refusals.Description a ≡ refusals.Description b → a ≡ b
@@ -51,7 +63,10 @@ description_refusal fault other = record {
   description = λ e. other (same_description _ _ e);
   verilog = λ e. cc;
   image = λ e. cc;
+  object = λ e. cc;
   schedule = λ e. cc;
+  source = λ e. cc;
+  link = λ e. cc;
 }
 
 same_verilog : (a b : VerilogFault) → refusals.Verilog a ≡ refusals.Verilog b → a ≡ b
@@ -64,7 +79,10 @@ verilog_refusal fault other = record {
   description = λ e. cc;
   verilog = λ e. other (same_verilog _ _ e);
   image = λ e. cc;
+  object = λ e. cc;
   schedule = λ e. cc;
+  source = λ e. cc;
+  link = λ e. cc;
 }
 
 same_image : (a b : ImageFault) → refusals.Image a ≡ refusals.Image b → a ≡ b
@@ -77,7 +95,10 @@ image_refusal fault other = record {
   description = λ e. cc;
   verilog = λ e. cc;
   image = λ e. other (same_image _ _ e);
+  object = λ e. cc;
   schedule = λ e. cc;
+  source = λ e. cc;
+  link = λ e. cc;
 }
 
 same_schedule : (a b : ScheduleFault) → refusals.Schedule a ≡ refusals.Schedule b → a ≡ b
@@ -90,7 +111,58 @@ schedule_refusal fault other = record {
   description = λ e. cc;
   verilog = λ e. cc;
   image = λ e. cc;
+  object = λ e. cc;
   schedule = λ e. other (same_schedule _ _ e);
+  source = λ e. cc;
+  link = λ e. cc;
+}
+
+same_object : (a b : ObjectFault) → refusals.Object a ≡ refusals.Object b → a ≡ b
+same_object a b e = cc
+
+pub object_refusal : (fault : ObjectFault) → fault ≢ objects.NoMemory → IsRefusal (refusals.Object fault)
+object_refusal fault other = record {
+  file = λ e. cc;
+  input = λ e. cc;
+  description = λ e. cc;
+  verilog = λ e. cc;
+  image = λ e. cc;
+  object = λ e. other (same_object _ _ e);
+  schedule = λ e. cc;
+  source = λ e. cc;
+  link = λ e. cc;
+}
+
+same_source : (a b : SourceFault) → refusals.Source a ≡ refusals.Source b → a ≡ b
+same_source a b e = cc
+
+pub source_refusal : (fault : SourceFault) → fault ≢ sources.NoMemory → IsRefusal (refusals.Source fault)
+source_refusal fault other = record {
+  file = λ e. cc;
+  input = λ e. cc;
+  description = λ e. cc;
+  verilog = λ e. cc;
+  image = λ e. cc;
+  object = λ e. cc;
+  schedule = λ e. cc;
+  source = λ e. other (same_source _ _ e);
+  link = λ e. cc;
+}
+
+same_link : (a b : LinkFault) → refusals.Link a ≡ refusals.Link b → a ≡ b
+same_link a b e = cc
+
+pub link_refusal : (fault : LinkFault) → fault ≢ links.NoMemory → IsRefusal (refusals.Link fault)
+link_refusal fault other = record {
+  file = λ e. cc;
+  input = λ e. cc;
+  description = λ e. cc;
+  verilog = λ e. cc;
+  image = λ e. cc;
+  object = λ e. cc;
+  schedule = λ e. cc;
+  source = λ e. cc;
+  link = λ e. other (same_link _ _ e);
 }
 
 -- a file that is too long makes one

@@ -1,7 +1,10 @@
 -- What a refusal never holds.
 use Rattle.std.specs.Prelude.{◌≢◌}
+use Rattle.asm_source.specs.declared.flaw.SourceFault.TheVariants as sources
 use Rattle.lisa_engine.specs.declared.schedule.ScheduleFault.TheVariants as schedules
 use Rattle.lisa_object.specs.declared.faults.ImageFault.TheVariants as images
+use Rattle.lisa_object.specs.declared.faults.LinkFault.TheVariants as links
+use Rattle.lisa_object.specs.declared.faults.ObjectFault.TheVariants as objects
 use Rattle.lisa_tree.specs.declared.faults.DescFault.TheVariants as descriptions
 use Rattle.verilog_text.specs.declared.faults.VerilogFault.TheVariants as verilogs
 use Rattle.lisa_outcomes.specs.declared.status.Refusal.{Refusal}
@@ -16,4 +19,7 @@ pub record IsRefusal (refusal : Refusal) : Type 0 where
   pub description : refusal ≢ refusals.Description descriptions.NoMemory
   pub verilog : refusal ≢ refusals.Verilog verilogs.NoMemory
   pub image : refusal ≢ refusals.Image images.NoMemory
+  pub object : refusal ≢ refusals.Object objects.NoMemory
   pub schedule : refusal ≢ refusals.Schedule schedules.NoMemory
+  pub source : refusal ≢ refusals.Source sources.NoMemory
+  pub link : refusal ≢ refusals.Link links.NoMemory

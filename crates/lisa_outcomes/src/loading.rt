@@ -66,6 +66,7 @@ pub fn load_files<F: Files>(
     named: &[NamedFile<'_>],
 ) -> Result<Vec<Vec<u8>>, End>
     ensures loads { LoadsFiles all_bytes (F.held files.old) (map named_of named.now) (F.faults files.old) (F.faults files.new) result }
+    ensures count { IfOk result (λ all. length (all_bytes all) ≡ length named.now) }
     ensures short { IfOk result (λ all. (place : ℕ) → length (file_at (all_bytes all) place) < 2 ^ 32) }
     ensures held { F.held files.new ≡ F.held files.old }
     ensures later { (other : List ℕ) → F.faults files.old other ≤ F.faults files.new other }

@@ -1,7 +1,8 @@
 //! How a run ends.
 
+use asm_source::SourceFault;
 use lisa_engine::ScheduleFault;
-use lisa_object::ImageFault;
+use lisa_object::{ImageFault, LinkFault, ObjectFault};
 use lisa_tree::DescFault;
 use lisa_words::{Name, NoMemory};
 use verilog_text::VerilogFault;
@@ -32,7 +33,10 @@ pub enum Refusal {
     Description(DescFault),
     Verilog(VerilogFault),
     Image(ImageFault),
+    Object(ObjectFault),
     Schedule(ScheduleFault),
+    Source(SourceFault),
+    Link(LinkFault),
 }
 
 /// How a run ended. The program exits with 0 to 5, in this order.

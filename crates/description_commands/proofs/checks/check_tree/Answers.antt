@@ -2,9 +2,9 @@ use Rattle.std.proofs.Common.{◌≡◌}
 use Rattle.lisa_outcomes.specs.Outcomes.{Outcome, Finished}
 use Rattle.lisa_outcomes.proofs.Stages.{passed_replies, stopped_replies}
 use Rattle.lisa_outcomes.proofs.Writing.{written_replies}
-use Rattle.description_commands.specs.Checked.{Checked}
+use Rattle.checked_descriptions.specs.Checked.{Checked}
 use Rattle.description_commands.specs.Checks.{counts_of, counts_text}
-use Rattle.description_commands.specs.ToolViews.{checked_of}
+use Rattle.checked_descriptions.specs.ToolViews.{checked_of}
 use Rattle.description_commands.proofs.checks.check_tree.Goals as goal
 
 pub returns-in-Ok : goal.returns-in-Ok

@@ -1,5 +1,5 @@
 use Rattle.lisa_tree.specs.Descriptions.{description_tree}
-use Rattle.description_commands.specs.Descriptions.{Formats}
+use Rattle.description_commands.specs.Formats.{Formats}
 use Rattle.lisa_outcomes.proofs.Stages.{passed_replies, stopped_replies}
 use Rattle.lisa_outcomes.proofs.Writing.{written_replies}
 use Rattle.description_commands.proofs.printing.format_description.Goals as goal

@@ -2,7 +2,7 @@ use Rattle.std.proofs.Common.{List, ℕ}
 use Rattle.lisa_tree.specs.Descriptions.{description_tree}
 use Rattle.lisa_outcomes.specs.RunViews.{bytes_of}
 use Rattle.lisa_outcomes.proofs.Endings.{passed_ends, stopped_ends}
-use Rattle.description_commands.specs.Checked.{AfterChecks}
+use Rattle.checked_descriptions.specs.Checked.{AfterChecks}
 use Rattle.description_commands.specs.Runs.{GivesChecked}
 use Rattle.description_commands.proofs.running.do_with_description.Goals as goal
 

@@ -3,7 +3,7 @@ use Rattle.lisa_tree.specs.Descriptions.{description_tree}
 use Rattle.lisa_meaning.specs.States.{state_of}
 use Rattle.engine_commands.proofs.Made.{parts_make, made_so, made_first}
 use Rattle.description_commands.specs.Runs.{described_machine}
-use Rattle.description_commands.specs.ToolViews.{checked_of}
+use Rattle.checked_descriptions.specs.ToolViews.{checked_of}
 use Rattle.description_commands.proofs.running.do_with_image.Goals as goal
 
 pub do_made-requires-clause-first : goal.do_made-requires-clause-first

@@ -5,7 +5,7 @@ use Rattle.lisa_outcomes.proofs.Endings.{passed_ends, stopped_ends}
 use Rattle.engine_commands.specs.Machines.{schedule_bytes}
 use Rattle.engine_commands.specs.Making.{GivesMade}
 use Rattle.description_commands.specs.Runs.{described_machine}
-use Rattle.description_commands.specs.ToolViews.{checked_of}
+use Rattle.checked_descriptions.specs.ToolViews.{checked_of}
 use Rattle.description_commands.proofs.running.do_with_tools.Goals as goal
 
 pub returns-in-Ok-clause-ends : goal.returns-in-Ok-clause-ends

@@ -2,7 +2,7 @@ use Rattle.std.proofs.Common.{List, ℕ}
 use Rattle.lisa_outcomes.specs.RunViews.{bytes_of}
 use Rattle.lisa_outcomes.proofs.Endings.{passed_ends, stopped_ends}
 use Rattle.description_commands.specs.Runs.{GivesChecked}
-use Rattle.description_commands.specs.ToolViews.{checked_of}
+use Rattle.checked_descriptions.specs.ToolViews.{checked_of}
 use Rattle.description_commands.proofs.running.do_with_tree.Goals as goal
 
 pub returns-in-Ok-clause-ends : goal.returns-in-Ok-clause-ends

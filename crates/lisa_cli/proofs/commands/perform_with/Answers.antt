@@ -1,5 +1,6 @@
 use Rattle.std.proofs.Common.{List, ℕ}
 use Rattle.lisa_outcomes.proofs.Endings.{replies_end}
+use Rattle.lisa_cli.proofs.FileCounts.{behind_short, behind_texts}
 use Rattle.lisa_cli.proofs.commands.perform_with.Goals as goal
 
 pub returns-in-Format-clause-ends : goal.returns-in-Format-clause-ends
@@ -13,3 +14,18 @@ returns-in-Simulate-clause-ends g c = rw c.in-Simulate.is (rw c.run_bytes.ensure
 
 pub returns-in-Clock-clause-ends : goal.returns-in-Clock-clause-ends
 returns-in-Clock-clause-ends g c = rw c.in-Clock.is (rw c.run_bytes-in-Clock.ensures at c.do_with_module.ensures.ends)
+
+pub returns-in-Assemble-clause-ends : goal.returns-in-Assemble-clause-ends
+returns-in-Assemble-clause-ends g c =
+    rw c.in-Assemble.is (replies_end {T = Unit {0}} {W = List ℕ} _ _ _ _ _ _ _ _ (rw c.file_at-in-Assemble.ensures at (rw c.file_at-in-Assemble-2.ensures at c.assemble_source.ensures)))
+
+pub returns-in-Disassemble-clause-ends : goal.returns-in-Disassemble-clause-ends
+returns-in-Disassemble-clause-ends g c =
+    rw c.in-Disassemble.is (replies_end {T = Unit {0}} {W = List ℕ} _ _ _ _ _ _ _ _ (rw c.file_at-in-Disassemble.ensures at (rw c.file_at-in-Disassemble-2.ensures at c.list_image.ensures)))
+
+pub link_objects-requires-clause-short : goal.link_objects-requires-clause-short
+link_objects-requires-clause-short g c = rw c.behind.ensures (behind_short c.args.all.now c.requires.short)
+
+pub returns-in-Link-clause-ends : goal.returns-in-Link-clause-ends
+returns-in-Link-clause-ends g c =
+    rw c.in-Link.is (replies_end {T = Unit {0}} {W = List ℕ} _ _ _ _ _ _ _ _ (rw (behind_texts c.args.all.now) at (rw c.behind.ensures at (rw c.file_at-in-Link.ensures at c.link_objects.ensures))))

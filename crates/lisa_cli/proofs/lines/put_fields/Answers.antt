@@ -9,4 +9,4 @@ returns-in_err-put_field-2 g c =
     puts_exit _ _ c.from_residual-in_err-put_field-2.ensures.1 (puts_then c.in_ok-put_field.ensures (puts_stop _ c.in_err-put_field-2.ensures))
 
 pub returns : goal.returns
-returns g c = puts_then c.in_ok-put_field.ensures (puts_then c.in_ok-put_field-2.ensures c.put_field-3.ensures)
+returns g c = puts_then c.in_ok-put_field.ensures (puts_then c.in_ok-put_field-2.ensures c.put_last_fields.ensures)

@@ -9,3 +9,4 @@ invariant-loop-place g l =
     HasRead (g.F.Files.held l.fn.files) (map named_of l.fn.named) (map named_of (drop l.place l.fn.named)) (all_bytes l.all) (g.F.Files.faults l.fn.files) (g.F.Files.faults l.files)
     × (g.F.Files.held l.files ≡ g.F.Files.held l.fn.files) × ((other : List ℕ) → g.F.Files.faults l.fn.files other ≤ g.F.Files.faults l.files other)
     × ((place : ℕ) → length (file_at (all_bytes l.all) place) < 2 ^ 32)
+    × (length l.all.items ≡ l.place)

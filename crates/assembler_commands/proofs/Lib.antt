@@ -1,0 +1,9 @@
+mod ObjectFiles
+mod Digested
+mod Powers
+mod MemoryRules
+mod Linked
+mod ListingEnds
+mod LineCounts
+mod Sourced
+mod SourceImages

@@ -1,0 +1,12 @@
+use Rattle.std.proofs.Common.{List}
+use Rattle.lisa_engine.specs.Memory.{Memory}
+use Rattle.lisa_outcomes.proofs.Stages.{passed_replies, stopped_replies}
+use Rattle.checked_descriptions.specs.ToolViews.{checked_of}
+use Rattle.assembler_commands.specs.Listed.{Lists}
+use Rattle.assembler_commands.proofs.listing.list_with_tools.Goals as goal
+
+pub returns-in-Ok : goal.returns-in-Ok
+returns-in-Ok g c = passed_replies {X = List Memory} {T = Unit {0}} (λ image. image) _ _ (Lists (checked_of c.args.tools.now).tree) c.in-Ok.image _ _ _ _ _ (rw c.description.ensures at c.in-Ok.ensures) c.list_memories.ensures
+
+pub returns-in-Err : goal.returns-in-Err
+returns-in-Err g c = stopped_replies {X = List Memory} {T = Unit {0}} (λ image. image) _ _ (Lists (checked_of c.args.tools.now).tree) c.in-Err.end _ _ (rw c.description.ensures at c.in-Err.ensures)

@@ -1,0 +1,84 @@
+-- A description's instructions are as they must be, or have a first fault, not both.
+use Rattle.std.proofs.Common.{◌≡◌, ◌⊎◌, ℕ, Option, None, Some, Result, Ok, Err, IfOk, IfErr, option_map, sym, inl, inr, ⊎_elim}
+use Rattle.lisa_tree.specs.declared.faults.DescFault.{DescFault}
+use Rattle.lisa_tree.specs.declared.faults.DescFault.TheVariants as faults
+use Rattle.lisa_tree.specs.Descriptions.{DescriptionTree}
+use Rattle.lisa_machine.specs.Verdicts.{before, nothing}
+use Rattle.pattern_tables.specs.Overlaps.{AnswersOverlap, AnswersUncovered}
+use Rattle.pattern_tables.specs.declared.overlaps.Overlap.{Overlap}
+use Rattle.form_patterns.specs.Instructions.{instruction_frames, instruction_plain}
+use Rattle.lisa_forms.specs.Verdicts.{HasForms, IsFirstFormFault}
+use Rattle.lisa_coding.specs.Verdicts.{overlap, not_an_alias, IsOverlapVerdict, IsUncoveredVerdict}
+use Rattle.lisa_syntax.specs.Texts.{IsAmbiguityVerdict}
+use Rattle.checked_descriptions.specs.Instructions.{from_aliases, from_ambiguities, from_overlaps, HasInstructions, IsFirstInstructionFault}
+use Rattle.checked_descriptions.proofs.FormVerdicts.{no_fault_in_forms}
+use Rattle.lisa_forms.proofs.Steps.{Refusal}
+
+none_is_no_some : {T : Type 0} (t : T) → None ≡ Some t → ⊥
+none_is_no_some t e = cc
+
+-- a condition isn't both broken and kept
+abbrev Decides : (Option DescFault → Type 0) → Type 0
+Decides verdict = (f : DescFault) → verdict None → verdict (Some f) → ⊥
+
+before_decides : (verdict rest : Option DescFault → Type 0) → Decides verdict → Decides rest → Decides (before verdict rest)
+before_decides verdict rest one others f kept broken =
+    ⊎_elim (λ p. none_is_no_some p.fault p.is)
+    (λ p. ⊎_elim (λ q. one q.fault p.0 q.first_fault) (λ q. others f p.1 q.1) broken) kept
+
+nothing_decides : Decides nothing
+nothing_decides f kept broken = none_is_no_some f (sym broken)
+
+-- ---- the verdicts
+
+no_pair : (d : DescriptionTree) (pair : Option Overlap) → None ≡ option_map (overlap d) pair → AnswersOverlap (instruction_frames d) (instruction_plain d) pair
+    → AnswersOverlap (instruction_frames d) (instruction_plain d) None
+no_pair d None e first = first
+no_pair d (Some o) e first = absurd (none_is_no_some _ e)
+
+pair_apart : (d : DescriptionTree) (pair : Option Overlap) (f : DescFault) → Some f ≡ option_map (overlap d) pair → AnswersOverlap (instruction_frames d) (instruction_plain d) pair
+    → AnswersOverlap (instruction_frames d) (instruction_plain d) None → ⊥
+pair_apart d None f e first none = none_is_no_some f (sym e)
+pair_apart d (Some o) f e first none = none o.first o.second o.word first.overlap
+
+overlap_decides : (d : DescriptionTree) → Decides (IsOverlapVerdict d)
+overlap_decides d f kept broken = pair_apart d broken.pair f broken.is broken.first (no_pair d kept.pair kept.is kept.first)
+
+all_covered : (d : DescriptionTree) (form : Option ℕ) → None ≡ option_map (not_an_alias d) form → AnswersUncovered (instruction_frames d) (instruction_plain d) form
+    → AnswersUncovered (instruction_frames d) (instruction_plain d) None
+all_covered d None e first = first
+all_covered d (Some k) e first = absurd (none_is_no_some _ e)
+
+uncovered_apart : (d : DescriptionTree) (form : Option ℕ) (f : DescFault) → Some f ≡ option_map (not_an_alias d) form → AnswersUncovered (instruction_frames d) (instruction_plain d) form
+    → AnswersUncovered (instruction_frames d) (instruction_plain d) None → ⊥
+uncovered_apart d None f e first all = none_is_no_some f (sym e)
+uncovered_apart d (Some k) f e first all = first.uncovered (all k first.within first.alias)
+
+uncovered_decides : (d : DescriptionTree) → Decides (IsUncoveredVerdict d)
+uncovered_decides d f kept broken = uncovered_apart d broken.form f broken.is broken.first (all_covered d kept.form kept.is kept.first)
+
+ambiguity_decides : (d : DescriptionTree) → Decides (IsAmbiguityVerdict d)
+ambiguity_decides d f kept broken = kept broken.first broken.second broken.tokens broken.shared
+
+overlaps_decide : (d : DescriptionTree) → Decides (from_overlaps d)
+overlaps_decide d =
+    let aliases = before_decides (IsUncoveredVerdict d) nothing (uncovered_decides d) nothing_decides in
+    let ambiguities = before_decides (IsAmbiguityVerdict d) (from_aliases d) (ambiguity_decides d) aliases in
+    before_decides (IsOverlapVerdict d) (from_ambiguities d) (overlap_decides d) ambiguities
+
+pub no_fault_in_instructions : (d : DescriptionTree) (f : DescFault) → HasInstructions d → IsFirstInstructionFault d f → ⊥
+no_fault_in_instructions d f well broken = ⊎_elim (λ (h : IsFirstFormFault d f). no_fault_in_forms d f well.0 h) (λ (h : HasForms d × from_overlaps d (Some f)). overlaps_decide d f well.1 h.1) broken
+
+-- ---- of a description that has forms
+
+pub ok_instructions : {X : Type 0} (d : DescriptionTree) (result : Result X DescFault) → HasForms d → IfOk result (λ _. from_overlaps d None) → IfOk result (λ _. HasInstructions d)
+ok_instructions d (Ok x) well h = (well, h)
+ok_instructions d (Err f) well h = h
+
+pub refused_instructions : (d : DescriptionTree) (f : DescFault) → HasForms d → Refusal (from_overlaps d) f → (f ≡ faults.NoMemory) ⊎ IsFirstInstructionFault d f
+refused_instructions d f well h = ⊎_elim (λ p. inl p) (λ r. inr (inr (well, r))) h
+
+pub err_instructions : {X : Type 0} (d : DescriptionTree) (result : Result X DescFault) → HasForms d → IfErr result (Refusal (from_overlaps d))
+    → IfErr result (λ f. (f ≡ faults.NoMemory) ⊎ IsFirstInstructionFault d f)
+err_instructions d (Ok x) well h = h
+err_instructions d (Err f) well h = refused_instructions d f well h

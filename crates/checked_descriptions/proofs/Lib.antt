@@ -1,0 +1,7 @@
+mod Faulty
+mod Settling
+mod FormVerdicts
+mod Steps
+mod InstructionVerdicts
+mod Tooled
+mod Imaging

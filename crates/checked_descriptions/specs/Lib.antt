@@ -1,0 +1,7 @@
+pub mod Descriptions
+pub mod Instructions
+pub mod Checked
+pub mod DescriptionImages
+pub mod ImageViews
+pub mod ToolViews
+pub mod Unread

@@ -1,0 +1,12 @@
+//! Descriptions from bytes, and whether they are accepted: with the tools that work over an accepted one, and images that are for it.
+//!
+//! `specs/Descriptions.antt` says what bytes spell a description, `specs/Checked.antt` when it is accepted and which its first fault is, and `specs/DescriptionImages.antt` what an image for it is.
+#![tactic(auto)]
+
+mod images;
+mod reading;
+mod tools;
+
+pub use images::image_for;
+pub use reading::description_of;
+pub use tools::{Tools, tools_of};

@@ -1,0 +1,9 @@
+mod OneAnswer
+mod FirstFaults
+mod Senses
+mod Linked
+mod SoundLines
+mod KeptLines
+mod WideFields
+mod KeptCells
+mod KeptObjects
