@@ -1,0 +1,6 @@
+//! Why a description isn't lowered.
+#![tactic(auto)]
+
+mod faults;
+
+pub use faults::LowerFault;
