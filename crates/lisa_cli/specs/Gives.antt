@@ -7,18 +7,16 @@ use Rattle.checked_descriptions.specs.Descriptions.{AfterSpelling}
 use Rattle.description_commands.specs.Formats.{Formats}
 use Rattle.description_commands.specs.Checks.{Checks}
 use Rattle.description_commands.specs.Runs.{GivesRun}
-use Rattle.verilog_command.specs.Modules.{WritesVerilog}
 use Rattle.module_commands.specs.Clocks.{GivesClock}
 use Rattle.assembler_commands.specs.Assembled.{GivesObject}
 use Rattle.assembler_commands.specs.Links.{GivesLink}
 use Rattle.assembler_commands.specs.Listed.{GivesListing}
-use Rattle.lisa_cli.specs.Requests.{Request, Format, Check, Verilog, Assemble, Link, Disassemble, Simulate, Clock, files_of}
+use Rattle.lisa_cli.specs.Requests.{Request, Format, Check, Assemble, Link, Disassemble, Simulate, Clock, files_of}
 
 -- for the bytes of its files, in their order, and the bytes of the input
 abbrev pub GivesOver : Request → (bytes : List (List ℕ)) → (input : List ℕ) → Outcome → Type 0
 GivesOver (Format description) bytes input = AfterSpelling (file_at bytes 0) Formats
 GivesOver (Check description) bytes input = AfterSpelling (file_at bytes 0) Checks
-GivesOver (Verilog description) bytes input = AfterSpelling (file_at bytes 0) WritesVerilog
 GivesOver (Assemble description source) bytes input = GivesObject (file_at bytes 0) (file_at bytes 1)
 GivesOver (Link description objects) bytes input = GivesLink (file_at bytes 0) (drop 1 bytes)
 GivesOver (Disassemble description image) bytes input = GivesListing (file_at bytes 0) (file_at bytes 1)

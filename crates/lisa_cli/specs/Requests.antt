@@ -17,7 +17,6 @@ pub data Request : Type 0 where
   -- description
   Format : List ℕ → Request
   Check : List ℕ → Request
-  Verilog : List ℕ → Request
   -- description and source
   Assemble : List ℕ → List ℕ → Request
   -- description and objects
@@ -59,7 +58,6 @@ run_words names counts = names.main ∷ file_word names.image ∷ file_word name
 abbrev pub request_words : Request → List (List ℕ)
 request_words (Format description) = codes "fmt" ∷ description ∷ []
 request_words (Check description) = codes "check" ∷ description ∷ []
-request_words (Verilog description) = codes "verilog" ∷ description ∷ []
 request_words (Assemble description source) = codes "asm" ∷ description ∷ source ∷ []
 request_words (Link description objects) = codes "link" ∷ description ∷ objects
 request_words (Disassemble description image) = codes "dis" ∷ description ∷ image ∷ []
@@ -96,7 +94,6 @@ pub record AreObjectNames (objects : List (List ℕ)) : Type 0 where
 abbrev pub IsAllowed : Request → Type 0
 IsAllowed (Format description) = IsFileName description
 IsAllowed (Check description) = IsFileName description
-IsAllowed (Verilog description) = IsFileName description
 IsAllowed (Assemble description source) = IsFileName description × IsFileName source
 IsAllowed (Link description objects) = IsFileName description × AreObjectNames objects
 IsAllowed (Disassemble description image) = IsFileName description × IsFileName image
@@ -107,7 +104,6 @@ IsAllowed (Clock task names) = AreNames names × IsCounted task
 abbrev pub files_of : Request → List NamedFile
 files_of (Format description) = named description description_limit ∷ []
 files_of (Check description) = named description description_limit ∷ []
-files_of (Verilog description) = named description description_limit ∷ []
 files_of (Assemble description source) = named description description_limit ∷ named source source_limit ∷ []
 files_of (Link description objects) = named description description_limit ∷ map (λ object. named object object_limit) objects
 files_of (Disassemble description image) = named description description_limit ∷ named image image_limit ∷ []
@@ -118,7 +114,6 @@ files_of (Clock task names) = run_files names module_limit
 abbrev pub reads_input : Request → Bool
 reads_input (Format description) = false
 reads_input (Check description) = false
-reads_input (Verilog description) = false
 reads_input (Assemble description source) = false
 reads_input (Link description objects) = false
 reads_input (Disassemble description image) = false

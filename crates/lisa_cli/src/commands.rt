@@ -22,7 +22,6 @@ use lisa_outcomes::{End, NamedFile, RunNames, file_at, load_files, run_bytes};
 use lisa_words::NoMemory;
 use module_commands::do_with_module;
 use std::alloc::Global;
-use verilog_command::write_verilog;
 
 const DESCRIPTION_LIMIT: u32 = 1_048_576;
 
@@ -139,7 +138,6 @@ fn files_of<'a>(alloc: Global, command: &Command<'a>) -> Result<Vec<NamedFile<'a
     match command {
         Command::Format { description } => description_files(alloc, description),
         Command::Check { description } => description_files(alloc, description),
-        Command::Verilog { description } => description_files(alloc, description),
         Command::Assemble {
             description,
             source,
@@ -186,7 +184,6 @@ fn perform_with<I: Source, O: Flush>(
     match command {
         Command::Format { .. } => format_description(alloc, file_at(all, 0), out),
         Command::Check { .. } => check_description(alloc, file_at(all, 0), out),
-        Command::Verilog { .. } => write_verilog(alloc, file_at(all, 0), out),
         Command::Assemble { .. } => assemble_source(alloc, file_at(all, 0), file_at(all, 1), out),
         Command::Link { .. } => link_objects(alloc, file_at(all, 0), behind(all), out),
         Command::Disassemble { .. } => list_image(alloc, file_at(all, 0), file_at(all, 1), out),

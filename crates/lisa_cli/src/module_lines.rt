@@ -1,28 +1,12 @@
 //! The lines of the faults of a module, an image and a schedule.
 ghost use Rattle.std.specs.Prelude.{◌≡◌};
 ghost use Rattle.lisa_cli.specs.LineViews.{line_of};
-ghost use Rattle.lisa_cli.specs.ModuleLines.{netlist_line, verilog_line, image_line, schedule_line};
+ghost use Rattle.lisa_cli.specs.ModuleLines.{verilog_line, image_line, schedule_line};
 
 use crate::lines::{Line, digest_field, line0, line1, line2, line3, name_field, number_field};
 use lisa_engine::ScheduleFault;
 use lisa_object::ImageFault;
-use lower_faults::LowerFault;
 use verilog_text::VerilogFault;
-
-/// The line of what stands against a module.
-pub fn netlist_line(fault: &LowerFault) -> Line<'_>
-    ensures { line_of result ≡ netlist_line fault.now }
-{
-    match fault {
-        LowerFault::TooMany { what, count, limit } => line3(
-            b"netlist 1 TooMany",
-            name_field(b"what", what.as_bytes()),
-            number_field(b"count", *count),
-            number_field(b"limit", *limit),
-        ),
-        LowerFault::NoMemory => line0(b""),
-    }
-}
 
 /// The line of a module's fault.
 pub fn verilog_line(fault: &VerilogFault) -> Line<'_>

@@ -24,10 +24,6 @@ pub enum Command<'a> {
     Check {
         description: &'a str,
     },
-    /// `verilog DESC`
-    Verilog {
-        description: &'a str,
-    },
     /// `asm DESC SOURCE`
     Assemble {
         description: &'a str,
@@ -110,18 +106,6 @@ fn check_command(operands: &[String]) -> Option<Command<'_>>
     };
     let description = file_name(description.as_str())?;
     Some(Command::Check { description })
-}
-
-// The operands of `verilog`.
-fn verilog_command(operands: &[String]) -> Option<Command<'_>>
-    ensures found { IfSome result (λ c. Asks (codes "verilog" ∷ map string_bytes operands.now) (request_of c)) }
-    ensures only { (r : Request) → Asks (codes "verilog" ∷ map string_bytes operands.now) r → option_map request_of result ≡ Some r }
-{
-    let [description] = operands else {
-        return None;
-    };
-    let description = file_name(description.as_str())?;
-    Some(Command::Verilog { description })
 }
 
 // The names of two files.
@@ -322,7 +306,6 @@ fn clock_command<'a>(command: &str, operands: &'a [String]) -> Option<Command<'a
 fn task_command<'a>(command: &str, operands: &'a [String]) -> Option<Command<'a>>
     requires fmt { command.now ≢ codes "fmt" }
     requires check { command.now ≢ codes "check" }
-    requires verilog { command.now ≢ codes "verilog" }
     requires asm { command.now ≢ codes "asm" }
     requires link { command.now ≢ codes "link" }
     requires dis { command.now ≢ codes "dis" }
@@ -347,7 +330,6 @@ pub fn request(words: &[String]) -> Option<Command<'_>>
     match command.as_str() {
         "fmt" => format_command(operands),
         "check" => check_command(operands),
-        "verilog" => verilog_command(operands),
         "asm" => assemble_command(operands),
         "link" => link_command(operands),
         "dis" => disassemble_command(operands),

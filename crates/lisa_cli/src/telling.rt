@@ -8,7 +8,7 @@ ghost use Rattle.lisa_outcomes.specs.declared.status.Status.TheVariants as statu
 
 use crate::fault_lines::{description_line, file_line, input_line};
 use crate::lines::{Line, put_line};
-use crate::module_lines::{image_line, netlist_line, schedule_line, verilog_line};
+use crate::module_lines::{image_line, schedule_line, verilog_line};
 use crate::source_lines::{link_line, object_line, source_line};
 use lisa_io::{Failed, Sink, put_all};
 use lisa_outcomes::{Refusal, Status};
@@ -23,7 +23,6 @@ fn refusal_line(refusal: &Refusal) -> Line<'_>
     match refusal {
         Refusal::File(fault) => file_line(fault),
         Refusal::Input(fault) => input_line(fault),
-        Refusal::Netlist(fault) => netlist_line(fault),
         Refusal::Description(fault) => description_line(fault),
         Refusal::Verilog(fault) => verilog_line(fault),
         Refusal::Image(fault) => image_line(fault),

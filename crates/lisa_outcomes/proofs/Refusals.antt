@@ -12,8 +12,6 @@ use Rattle.lisa_object.specs.declared.faults.ObjectFault.{ObjectFault}
 use Rattle.lisa_object.specs.declared.faults.ObjectFault.TheVariants as objects
 use Rattle.lisa_tree.specs.declared.faults.DescFault.{DescFault}
 use Rattle.lisa_tree.specs.declared.faults.DescFault.TheVariants as descriptions
-use Rattle.lower_faults.specs.declared.faults.LowerFault.{LowerFault}
-use Rattle.lower_faults.specs.declared.faults.LowerFault.TheVariants as netlists
 use Rattle.verilog_text.specs.declared.faults.VerilogFault.{VerilogFault}
 use Rattle.verilog_text.specs.declared.faults.VerilogFault.TheVariants as verilogs
 use Rattle.lisa_outcomes.specs.declared.status.Refusal.TheVariants as refusals
@@ -30,7 +28,6 @@ pub file_refusal : (fault : FileFault) → fault ≢ file_faults.NoMemory → Is
 file_refusal fault other = record {
   file = λ e. other (same_file _ _ e);
   input = λ e. cc;
-  netlist = λ e. cc;
   description = λ e. cc;
   verilog = λ e. cc;
   image = λ e. cc;
@@ -47,24 +44,6 @@ pub input_refusal : (fault : InputFault) → fault ≢ input_faults.NoMemory →
 input_refusal fault other = record {
   file = λ e. cc;
   input = λ e. other (same_input _ _ e);
-  netlist = λ e. cc;
-  description = λ e. cc;
-  verilog = λ e. cc;
-  image = λ e. cc;
-  object = λ e. cc;
-  schedule = λ e. cc;
-  source = λ e. cc;
-  link = λ e. cc;
-}
-
-same_netlist : (a b : LowerFault) → refusals.Netlist a ≡ refusals.Netlist b → a ≡ b
-same_netlist a b e = cc
-
-pub netlist_refusal : (fault : LowerFault) → fault ≢ netlists.NoMemory → IsRefusal (refusals.Netlist fault)
-netlist_refusal fault other = record {
-  file = λ e. cc;
-  input = λ e. cc;
-  netlist = λ e. other (same_netlist _ _ e);
   description = λ e. cc;
   verilog = λ e. cc;
   image = λ e. cc;
@@ -81,7 +60,6 @@ pub description_refusal : (fault : DescFault) → fault ≢ descriptions.NoMemor
 description_refusal fault other = record {
   file = λ e. cc;
   input = λ e. cc;
-  netlist = λ e. cc;
   description = λ e. other (same_description _ _ e);
   verilog = λ e. cc;
   image = λ e. cc;
@@ -98,7 +76,6 @@ pub verilog_refusal : (fault : VerilogFault) → fault ≢ verilogs.NoMemory →
 verilog_refusal fault other = record {
   file = λ e. cc;
   input = λ e. cc;
-  netlist = λ e. cc;
   description = λ e. cc;
   verilog = λ e. other (same_verilog _ _ e);
   image = λ e. cc;
@@ -115,7 +92,6 @@ pub image_refusal : (fault : ImageFault) → fault ≢ images.NoMemory → IsRef
 image_refusal fault other = record {
   file = λ e. cc;
   input = λ e. cc;
-  netlist = λ e. cc;
   description = λ e. cc;
   verilog = λ e. cc;
   image = λ e. other (same_image _ _ e);
@@ -132,7 +108,6 @@ pub schedule_refusal : (fault : ScheduleFault) → fault ≢ schedules.NoMemory 
 schedule_refusal fault other = record {
   file = λ e. cc;
   input = λ e. cc;
-  netlist = λ e. cc;
   description = λ e. cc;
   verilog = λ e. cc;
   image = λ e. cc;
@@ -149,7 +124,6 @@ pub object_refusal : (fault : ObjectFault) → fault ≢ objects.NoMemory → Is
 object_refusal fault other = record {
   file = λ e. cc;
   input = λ e. cc;
-  netlist = λ e. cc;
   description = λ e. cc;
   verilog = λ e. cc;
   image = λ e. cc;
@@ -166,7 +140,6 @@ pub source_refusal : (fault : SourceFault) → fault ≢ sources.NoMemory → Is
 source_refusal fault other = record {
   file = λ e. cc;
   input = λ e. cc;
-  netlist = λ e. cc;
   description = λ e. cc;
   verilog = λ e. cc;
   image = λ e. cc;
@@ -183,7 +156,6 @@ pub link_refusal : (fault : LinkFault) → fault ≢ links.NoMemory → IsRefusa
 link_refusal fault other = record {
   file = λ e. cc;
   input = λ e. cc;
-  netlist = λ e. cc;
   description = λ e. cc;
   verilog = λ e. cc;
   image = λ e. cc;

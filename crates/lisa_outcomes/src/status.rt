@@ -5,7 +5,6 @@ use lisa_engine::ScheduleFault;
 use lisa_object::{ImageFault, LinkFault, ObjectFault};
 use lisa_tree::DescFault;
 use lisa_words::{Name, NoMemory};
-use lower_faults::LowerFault;
 use verilog_text::VerilogFault;
 
 /// What may be wrong with a file as a whole.
@@ -31,7 +30,6 @@ pub enum InputFault {
 pub enum Refusal {
     File(FileFault),
     Input(InputFault),
-    Netlist(LowerFault),
     Description(DescFault),
     Verilog(VerilogFault),
     Image(ImageFault),

@@ -1,5 +1,5 @@
 -- The BEHAVIOR of an occurrence does in its scene what it does in the core.
-use Rattle.std.proofs.Common.{◌≡◌, ◌<◌, ◌≤◌, ◌+◌, ◌∙◌, ◌||◌, ◌⊎◌, ℕ, suc, Bool, true, false, cond, List, [], ◌∷◌, Option, None, Some, length, refl, sym, ap, ap₂, subst, arith, ⊎_elim}
+use Rattle.std.proofs.Common.{◌≡◌, ◌<◌, ◌≤◌, ◌∙◌, ◌||◌, ℕ, suc, Bool, true, false, cond, List, [], Option, None, Some, length, refl, sym, ap, ap₂, subst, arith, ⊎_elim}
 use Rattle.std.specs.Prelude.{slice_get, is_some, option_map, if◌then◌else◌}
 use Rattle.std.specs.Option.{option_and_then, option_map_or}
 use Rattle.std.proofs.lemmas.Bool.{both_ways}
@@ -19,7 +19,6 @@ use Rattle.pipeline_time.specs.Cores.{is_past}
 use Rattle.step_program.specs.Programs.{Program, Expr}
 use Rattle.step_program.specs.Effects as steps
 use Rattle.step_program.specs.Effects.{value}
-use Rattle.step_pieces.specs.Pieces.{always}
 use Rattle.step_pieces.specs.Running.{ran, IsLow}
 use Rattle.step_pieces.specs.Formed.{Lies}
 use Rattle.lisa_meaning.specs.Scenes.{has_word, instruction_with, scene_of}
@@ -186,6 +185,7 @@ module _ (d : DescriptionTree) (types : Types) (declared : Option ℕ) (width : 
     pub behaves : (word : ℕ) → value p before pins now guard ≡ 1 → RowHas (meant d width p) row word now
         → time.Runs (core_of d) (operations d types width) (time_layout d width) p (meant d width p) number row word
         → Done (behave d number word m)
+    unfolding ground_is
     behaves word one has runs =
         let x = there number runs.0 in
         let scene = scene_of d number word in

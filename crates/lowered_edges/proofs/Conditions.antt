@@ -1,5 +1,5 @@
 -- The condition of an `if` of an occurrence.
-use Rattle.std.proofs.Common.{◌≡◌, ◌<◌, ◌≤◌, ◌+◌, ◌++◌, ◌∙◌, ℕ, zero, suc, List, [], ◌∷◌, Option, None, Some, refl, subst}
+use Rattle.std.proofs.Common.{◌≡◌, ◌++◌, ℕ, zero, suc, List, [], ◌∷◌, Option, None, Some, refl, subst}
 use Rattle.std.specs.Prelude.{slice_get}
 use Rattle.std.specs.List.{AllByRecursion}
 use Rattle.std.proofs.lemmas.Option.{same_Some}
@@ -13,7 +13,7 @@ use Rattle.description_names.specs.Operations.{sections_at, activation_in}
 use Rattle.description_promises.specs.Freedom.{AllStand}
 use Rattle.description_promises.proofs.Among.{among_left, among_right}
 use Rattle.description_promises.proofs.Standing.{activation_stand}
-use Rattle.lisa_meaning.specs.Cores.{item_conditions, items_conditions, conditions_in, condition}
+use Rattle.lisa_meaning.specs.Cores.{item_conditions, items_conditions, conditions_in}
 
 module _ (d : DescriptionTree) (o : ℕ) where
   abbrev AreReads : List ExprTree → Type 0

@@ -1,5 +1,5 @@
 -- The steps of a description's program are well formed.
-use Rattle.std.proofs.Common.{◌≡◌, ◌<◌, ◌≤◌, ◌+◌, ◌-◌, ◌*◌, ◌^◌, ⊎_elim, ℕ, zero, suc, List, [], ◌∷◌, ◌++◌, Option, length, get_or, replicate, sym, subst, arith}
+use Rattle.std.proofs.Common.{◌≡◌, ◌<◌, ◌+◌, ◌-◌, ◌*◌, ◌^◌, ⊎_elim, ℕ, zero, suc, List, [], ◌∷◌, ◌++◌, Option, length, get_or, replicate, sym, subst, arith}
 use Rattle.std.specs.Prelude.{All}
 use Rattle.std.specs.List.{flat_map, range_with_len}
 use Rattle.std.proofs.lemmas.Bool.{cases_lt}
@@ -20,7 +20,7 @@ use Rattle.machine_parts.proofs.Fitting.{firsts_fit}
 use Rattle.activation_trees.specs.Unfolding.{occurrences}
 use Rattle.activation_trees.specs.Items.{items_behind}
 use Rattle.description_sizes.specs.Sizes.{items}
-use Rattle.program_declarations.proofs.Declared.{shown_declared}
+use Rattle.program_declarations.specs.Laws.{ShownIsDeclared}
 use Rattle.lisa_meaning.proofs.Shown.{registers_fit}
 use Rattle.step_program.specs.WellFormed.{IsWidth, IsWellFormed}
 use Rattle.step_pieces.specs.Formed.{IsPiece}
@@ -114,9 +114,9 @@ module _ (d : DescriptionTree) (types : Types) (declared : Option ℕ) (lowered 
             (cases_lt k (length (registers_of d)));
       }
 
-  well_formed : IsSpelled d → IsWellFormed (edge_program d types declared)
-  well_formed spelled =
-      let shown = shown_declared d declared lowered.accepted spelled lowered.has_forms lowered.arranged.has_width in
+  well_formed : ShownIsDeclared d declared → IsSpelled d → IsWellFormed (edge_program d types declared)
+  well_formed declares spelled =
+      let shown = declares lowered.accepted spelled lowered.has_forms lowered.arranged.has_width in
       record {
         items = shown.of_items;
         arrays = shown.of_arrays;
@@ -130,5 +130,5 @@ module _ (d : DescriptionTree) (types : Types) (declared : Option ℕ) (lowered 
         few_pins = shown.few_pins;
       }
 
-  pub program_formed : AreStepsFormed (edge_program d types declared) × (IsSpelled d → IsWellFormed (edge_program d types declared))
-  program_formed = (steps_formed, λ spelled. well_formed spelled)
+  pub program_formed : ShownIsDeclared d declared → AreStepsFormed (edge_program d types declared) × (IsSpelled d → IsWellFormed (edge_program d types declared))
+  program_formed declares = (steps_formed, λ spelled. well_formed declares spelled)

@@ -16,6 +16,3 @@ pub mod Made
 pub mod Firsts
 pub mod Shown
 pub mod Formed
-pub mod Lining
-pub mod Worded
-pub mod Parting

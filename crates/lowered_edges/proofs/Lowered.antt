@@ -13,7 +13,7 @@ use Rattle.description_types.specs.Types.{Types}
 use Rattle.step_program.specs.Programs.{Program}
 use Rattle.lowered_edges.specs.Laws.{PartsAreLowered}
 
-pub parts_lowered : (d : DescriptionTree) (types : Types) (declared : Option ℕ) (width : ℕ) (p : Program) → PartsAreLowered d types width p declared
+pub parts_lowered : (d : DescriptionTree) (types : Types) (declared : Option ℕ) (width : ℕ) (p : Program) → PartsAreLowered d types declared width p
 parts_lowered d types declared width p lowered = record {
   owned = owned d;
   chosen = λ number word plain. chosen_plain d types declared width p lowered number word plain;

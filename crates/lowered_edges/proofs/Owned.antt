@@ -1,5 +1,5 @@
 -- An `if` stands among the items of its own occurrence.
-use Rattle.std.proofs.Common.{◌≡◌, ◌+◌, ℕ, zero, suc, false, List, [], ◌∷◌, Option, None, Some, refl}
+use Rattle.std.proofs.Common.{◌+◌, ℕ, zero, suc, false, List, [], ◌∷◌, Option, None, Some, refl}
 use Rattle.std.specs.Option.{option_to_list}
 use Rattle.lisa_tree.specs.Activations as items
 use Rattle.lisa_tree.specs.Activations.{ActTree, ActTrees}

@@ -1,5 +1,5 @@
 -- The states of a description's program are those of the description.
-use Rattle.std.proofs.Common.{◌≡◌, ◌∙◌, ℕ, List, [], ◌∷◌, Option, None, get_or, refl, ap₂}
+use Rattle.std.proofs.Common.{◌≡◌, ℕ, List, [], Option, None, get_or, refl, ap₂}
 use Rattle.std.specs.Prelude.{All}
 use Rattle.std.proofs.lemmas.Nat.{pow_pos}
 use Rattle.lisa_tree.specs.Descriptions.{DescriptionTree}

@@ -1,5 +1,5 @@
 -- The piece of a condition tells whether it holds, and leaves what is held as it was.
-use Rattle.std.proofs.Common.{◌≡◌, ◌<◌, ◌≤◌, ◌+◌, ◌++◌, ◌∙◌, ℕ, suc, Bool, true, false, not, cond, List, [], ◌∷◌, Option, None, Some, length, nat_eq, refl, sym, ap, subst, arith}
+use Rattle.std.proofs.Common.{◌≡◌, ◌≤◌, ◌+◌, ◌∙◌, ℕ, suc, Bool, true, false, not, cond, List, [], ◌∷◌, Option, None, Some, length, nat_eq, refl, sym, ap, subst, arith}
 use Rattle.std.specs.Prelude.{All, slice_get, option_map, filter_map}
 use Rattle.std.specs.List.{cons_option}
 use Rattle.std.specs.Option.{option_and_then}

@@ -1,5 +1,5 @@
 -- What the parts of a description become: the operations of `lowered_time`. On the way to the program: nothing here needs to be trusted.
-use Rattle.std.specs.Prelude.{ℕ, suc, Bool, false, [], ◌∷◌, Option, None, Some, cond, filter_map, option_map, slice_get}
+use Rattle.std.specs.Prelude.{ℕ, suc, Bool, false, [], Option, None, Some, cond, filter_map, option_map, slice_get}
 use Rattle.std.specs.Option.{option_map_or}
 use Rattle.lisa_tree.specs.Expressions.{ExprTree}
 use Rattle.lisa_tree.specs.Descriptions.{DescriptionTree}

@@ -5,6 +5,8 @@ ghost use Rattle.description_types.specs.Types.{Types};
 ghost use Rattle.step_program.specs.Programs.{Program};
 ghost use Rattle.lowered_edges.specs.Laws.{ScenesStand, PartsAreLowered, PartsAreFormed, ProgramsAreArranged, ProgramsMakeEdges, ProgramsBegin, ProgramsShowStates, ProgramsAreFormed};
 
+use program_declarations::shown_is_declared;
+
 /// The standpoint of an occurrence has the operations of its scene, each as the part of forms that it is there.
 pub fn scenes_stand()
     ensures { (d : DescriptionTree) (types : Types) (width : ℕ) → ScenesStand d types width }
@@ -31,4 +33,6 @@ pub fn programs_show_states()
 /// Its steps are well formed, and not deep; and so is all of it, where its description is spelled.
 pub fn programs_are_formed()
     ensures { (d : DescriptionTree) (types : Types) (declared : Option ℕ) → ProgramsAreFormed d types declared }
-{}
+{
+    shown_is_declared();
+}
