@@ -2,6 +2,7 @@
 use Rattle.std.proofs.Common.{◌≡◌, ◌<◌, ◌≤◌, ◌^◌, ◌∙◌, ℕ, List, Option, None, Some, refl, sym, ap, subst, arith}
 use Rattle.std.specs.Prelude.{slice_index}
 use Rattle.description_types.specs.Tables.{Known}
+use Rattle.description_types.specs.Types.{Types}
 use Rattle.description_types.proofs.OneKnown.{one_known}
 use Rattle.description_promises.specs.Soundness.{IsSound}
 use Rattle.description_promises.proofs.Sound.{sound}

@@ -1,5 +1,6 @@
 -- What an expression reads, where it stands in an operation of an accepted description.
-use Rattle.std.proofs.Common.{◌≡◌, ◌+◌, ◌++◌, ◌∙◌, ℕ, Bool, true, false, cond, List, [], ◌∷◌, Option, None, Some, refl, sym, ap, subst, arith, inl, inr, ⊎_elim}
+use Rattle.std.proofs.Common.{◌≡◌, ◌⊎◌, ◌<◌, ◌≤◌, ◌+◌, ◌^◌, ◌++◌, ◌∙◌, ℕ, Bool, true, false, cond, List, [], ◌∷◌, Option, None, Some, length, refl, sym, ap, subst, arith, inl, inr, ⊎_elim}
+use Rattle.std.specs.Prelude.{slice_get}
 use Rattle.std.specs.List.{AllZip}
 use Rattle.std.specs.Map.{lookup}
 use Rattle.std.proofs.lemmas.Option.{same_Some}
@@ -13,9 +14,11 @@ use Rattle.description_places.specs.Scopes as standings
 use Rattle.description_places.specs.Scopes.{local_named}
 use Rattle.description_places.specs.Places as marks
 use Rattle.description_places.specs.Places.{at, uses}
+use Rattle.description_names.specs.declared.declared.Meaning.{Meaning}
+use Rattle.description_names.specs.declared.declared.Meaning.TheVariants as meanings
 use Rattle.description_names.specs.Same.{same_name}
 use Rattle.description_names.specs.Resources.{resource_at, stage_at}
-use Rattle.description_names.specs.Meanings.{meaning_of}
+use Rattle.description_names.specs.Meanings.{meaning, meaning_of}
 use Rattle.description_types.specs.Types.{element_shape}
 use Rattle.description_promises.specs.Freedom.{Stands, AllStand}
 use Rattle.description_promises.specs.Resolving.{IsArray, IsBoundary}
@@ -30,16 +33,16 @@ use Rattle.lisa_meaning.specs.Scenes.{Scene, running}
 use Rattle.lisa_meaning.specs.Moments.{Moment}
 use Rattle.lisa_meaning.specs.Values.{Array, Below, array_place, array_of, meant_array, named_array, field_place, reader}
 use Rattle.meaning_promises.specs.Scoping.{AreLocalsOf}
-use Rattle.lowered_values.specs.Operands.{StandsFor, IsOperand}
+use Rattle.lowered_values.specs.Operands.{Operand, StandsFor, IsOperand}
 use Rattle.lowered_values.specs.Sources.{AreSources, Mirrors}
-use Rattle.lowered_statements.specs.Scopes.{Scope, names_of}
+use Rattle.lowered_statements.specs.Scopes.{Scope, Names, names_of}
 use Rattle.lowered_statements.specs.Agreement.{IsLocal}
 use Rattle.lowered_resources.specs.Places.{Places, IsThere}
 use Rattle.lowered_resources.specs.Reading.{Known, sources}
 use Rattle.lowered_resources.specs.Laws.{IsDeclared, ReadResources, FormResources}
 use Rattle.lowered_resources.proofs.Standing.{stage_low, field_low}
 use Rattle.lowered_behaviors.specs.Values.{names_in}
-use Rattle.lowered_behaviors.specs.Agreement.{AreNames}
+use Rattle.lowered_behaviors.specs.Agreement.{IsNamed, AreNames}
 use Rattle.lowered_behaviors.proofs.Prepared.{Among, among_first, among_second}
 
 -- ---- locals

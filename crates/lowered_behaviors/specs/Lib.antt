@@ -3,6 +3,3 @@ pub mod Values
 pub mod Behaviors
 pub mod Agreement
 pub mod Laws
-pub mod Settled
-pub mod Positions
-pub mod Code

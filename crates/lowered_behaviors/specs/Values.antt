@@ -1,5 +1,5 @@
 -- Expressions with the names that their operations declare. On the way to the program: nothing here needs to be trusted.
-use Rattle.std.specs.Prelude.{ℕ, zero, suc, List, [], ◌∷◌, ◌++◌, Option, None, Some, cond}
+use Rattle.std.specs.Prelude.{ℕ, zero, suc, List, [], ◌∷◌, ◌++◌, Option, None, Some, cond, slice_get}
 use Rattle.std.specs.Option.{is_some}
 use Rattle.std.specs.Map.{lookup}
 use Rattle.lisa_words.specs.declared.words.Kind.TheVariants.{Unsigned}
