@@ -4,8 +4,9 @@
     cases.py PROGRAM [KIND ..]
 
 cases/KIND.jsonl has one case a line: its runs one after the other, each with words, input, status, out and err, whose bytes stand as
-characters of the same numbers, and the files that it has besides those of the runs before it. The answers were worked out apart from the program, which must give each of them. Where a rule leaves the
-place or the text of a refusal open, any is taken. It ends with 1 where a case differs."""
+characters of the same numbers, and the files that it has besides those of the runs before it. What a run prints may be saved as a file for
+the runs behind it (`save`), or be anything (`out` is null), and other words may have the same answer (`again`). The answers were worked out
+apart from the program, which must give each of them. Where a rule leaves the place or the text of a refusal open, any is taken. It ends with 1 where a case differs."""
 
 import json
 import os
@@ -27,23 +28,31 @@ def settled(line):
     return line
 
 
-def difference(program, run, folder):
-    """None where the run gives its answer, else both."""
-    for name, text in run["files"].items():
-        with open(os.path.join(folder, name), "wb") as file:
-            file.write(text.encode("latin-1"))
-    done = subprocess.run([program, *run["words"]], input=run["input"].encode("latin-1"), cwd=folder, capture_output=True, timeout=120)
+def write(folder, name, data):
+    with open(os.path.join(folder, name), "wb") as file:
+        file.write(data)
+
+
+def difference(program, run, words, folder):
+    """None where the run gives its answer for these words, else both."""
+    done = subprocess.run([program, *words], input=run["input"].encode("latin-1"), cwd=folder, capture_output=True, timeout=120)
+    if "save" in run:
+        write(folder, run["save"], done.stdout)
+    out = done.stdout if run["out"] is None else run["out"].encode("latin-1")
     got = [done.returncode, done.stdout, settled(done.stderr)]
-    wanted = [run["status"], run["out"].encode("latin-1"), settled(run["err"].encode("latin-1"))]
+    wanted = [run["status"], out, settled(run["err"].encode("latin-1"))]
     return None if got == wanted else f"  got    {got!r:.2000}\n  wanted {wanted!r:.2000}"
 
 
 def first_difference(program, case):
     with tempfile.TemporaryDirectory() as folder:
         for run in case["runs"]:
-            found = difference(program, run, folder)
-            if found:
-                return f"{' '.join(run['words'])}\n{found}"
+            for name, text in run["files"].items():
+                write(folder, name, text.encode("latin-1"))
+            for words in [run["words"], *([run["again"]] if "again" in run else [])]:
+                found = difference(program, run, words, folder)
+                if found:
+                    return f"{' '.join(words)}\n{found}"
     return None
 
 

@@ -15,6 +15,8 @@ import sys
 import tempfile
 from pathlib import Path
 
+from verilog_benches import Bench, by_icarus, differences, states_of, write_bench
+
 WIDEST = 64
 # The operators by their levels, from the loosest to the tightest.
 LEVELS = (("||",), ("&&",), ("|",), ("^",), ("&",), ("==", "!="), ("<", "<=", ">", ">="), ("<<", ">>"), ("+", "-"), ("*",))
@@ -178,80 +180,30 @@ def image_text(arrays, image):
     return "\n".join([*out, "end"]) + "\n"
 
 
-def bench_text(module, edges):
-    """A test bench that prints each register and cell after each edge."""
-    _, inputs, registers, arrays, image, schedule = module
-    out = ["module bench;", "  reg clk;", "  integer i;"]
-    out += [f"  reg [{width - 1}:0] {name};" for name, width in inputs.items()]
-    out.append("  m dut (" + ", ".join(["clk", *inputs]) + ");")
-    out.append("  task show; begin")
-    out += [f'    $display("{name} %h", dut.{name});' for name in registers]
-    out += [f'    for (i = 0; i < {depth}; i = i + 1) $display("{name}[%0d] %h", i, dut.{name}[i]);' for name, (_, depth) in arrays.items()]
-    out += ["  end endtask", "  initial begin", "    clk = 0;"]
-    out += [f"    {name} = 0;" for name in inputs]
-    for name, (width, depth) in arrays.items():
-        cells = image.get(name, [])
-        out += [f"    dut.{name}[{i}] = {width}'h{cells[i] if i < len(cells) else 0:x};" for i in range(depth)]
-    out += ["    #1 $display(\"edge 0\"); show;"]
-    for edge in range(1, edges + 1):
-        out += [f"    {name} = {inputs[name]}'h{value:x};" for name, value in schedule.get(edge, {}).items()]
-        out.append(f'    #1 clk = 1; #1 clk = 0; $display("edge {edge}"); show;')
-    return "\n".join([*out, "    $finish;", "  end", "endmodule"]) + "\n"
-
-
-def states_of(text, whole):
-    """The state after each edge: of a text with whole states, or of a trace, which tells what changed."""
-    states = []
-    for line in text.splitlines():
-        name, value = line.split()
-        if name == "edge":
-            states.append({} if whole or not states else dict(states[-1]))
-        else:
-            states[-1][name] = int(value, 16)
-    return states
-
-
-def by_icarus(folder, module, edges):
-    """The states by Icarus Verilog, or nothing where it writes a program that it can't read itself."""
-    (folder / "bench.v").write_text(bench_text(module, edges))
-    subprocess.run(["iverilog", "-g2001", "-o", "bench", "m.v", "bench.v"], cwd=folder, check=True)
-    done = subprocess.run(["vvp", "-n", "bench"], cwd=folder, capture_output=True, text=True)
-    return None if done.returncode else states_of(done.stdout, True)
-
-
-def by_lisa(program, folder, module, edges):
+def by_lisa(program, folder, bench):
     """The states by the program, or what it says where it gives none."""
-    _, _, _, arrays, image, schedule = module
-    (folder / "image").write_text(image_text(arrays, image))
+    (folder / "image").write_text(image_text(bench.arrays, bench.image))
     (folder / "schedule").write_text("".join(
-        f"{edge} " + " ".join(f"{name}={value}" for name, value in some.items()) + "\n" for edge, some in schedule.items()))
-    words = [program, "clocktrace", "m.v", "image", "schedule", str(edges)]
+        f"{edge} " + " ".join(f"{name}={value}" for name, value in some.items()) + "\n" for edge, some in bench.schedule.items()))
+    words = [program, "clocktrace", "m.v", "image", "schedule", str(bench.edges)]
     done = subprocess.run(words, cwd=folder, capture_output=True, text=True)
     if done.returncode:
         return f"status {done.returncode}: {done.stderr.strip()}"
     return states_of(done.stdout, False)
 
 
-def differences(ours, theirs):
-    if len(ours) != len(theirs):
-        yield f"{len(ours)} states, {len(theirs)} expected"
-    for edge, (one, other) in enumerate(zip(ours, theirs)):
-        for name in other:
-            if one.get(name, 0) != other[name]:
-                yield f"edge {edge}: {name} is {one.get(name, 0):#x}, {other[name]:#x} expected"
-
-
 def compare(program, folder, seed, edges):
     """The first difference, if there is one, and whether Icarus Verilog ran the module."""
     maker = Maker(seed)
     text, inputs, registers, arrays = maker.module()
-    module = text, inputs, registers, arrays, maker.image(arrays), maker.schedule(inputs, edges)
+    bench = Bench("m", inputs, registers, arrays, maker.image(arrays), maker.schedule(inputs, edges), edges)
     folder.mkdir(parents=True, exist_ok=True)
     (folder / "m.v").write_text(text)
-    ours = by_lisa(program, folder, module, edges)
+    write_bench(folder, bench)
+    ours = by_lisa(program, folder, bench)
     if isinstance(ours, str):
         return ours, True
-    theirs = by_icarus(folder, module, edges)
+    theirs = by_icarus(folder, ["m.v"])
     return (None, False) if theirs is None else (next(differences(ours, theirs), None), True)
 
 

@@ -26,6 +26,7 @@ SORTS = [("allocation", 5, b"lisa: out of memory\n"), ("read", 3, b"lisa: read f
 
 NIL = "0" * 64
 COUNTER = "RESOURCE { REGISTER uint8 n; }\nOPERATION reset { BEHAVIOR { n = 5; } }\nOPERATION main { BEHAVIOR { n = n + 1; } }\n"
+HEAVY = "RESOURCE { REGISTER uint8 M[2]; }\nOPERATION main { BEHAVIOR { " + "M[0] = M[0] + 1; " * 221 + "} }\n"
 MODULE = """module t (input clk, input [3:0] step);
   reg [7:0] n;
   reg [7:0] m [0:3];
@@ -33,6 +34,7 @@ MODULE = """module t (input clk, input [3:0] step);
   always @(posedge clk) begin n <= n + step; if (n > 8'd2) m[n[1:0]] <= n; end
 endmodule
 """
+STORE = "module t (input clk); reg [7:0] prog [0:15]; endmodule\n"
 IMAGE = f"image 1 {NIL}\nmemory m 8 4 2\n1\n2\nend\n"
 LINES = "step 2\nwhere\nshow n\nback 1\nstate\nquit\n"
 
@@ -48,6 +50,8 @@ COMMANDS = [
     ("check C", "", 0), ("check F", "", 1), ("run A - - 3", "", 0), ("run A I - 3", "", 1), ("run A - K 3", "", 1), ("run F - - 3", "", 1), ("run C - - 3", "", 0), ("trace A - - 3", "", 0),
     ("trace E - S 3", "", 0), ("debug A - -", LINES, 0), ("debug C - -", LINES, 0),
     ("asm C P", "", 0), ("asm C Y", "", 1), ("asm F P", "", 1), ("link C O Q", "", 0), ("link C O", "", 1), ("link C O A", "", 1), ("dis C J", "", 0), ("dis C I", "", 1),
+    ("gen C 7 8", "", 0), ("gen A 7 8", "", 1), ("soak C W 7 8 5", "", 0), ("soak C W 7 17 5", "", 1), ("soak C V 7 8 5", "", 1), ("soak A W 7 8 5", "", 1),
+    ("verilog A", "", 0), ("verilog C", "", 0), ("verilog X", "", 1), ("verilog F", "", 1), ("verilog Z", "", 1),
     ("clock V I H 3", "", 0), ("clock V - K 3", "", 1), ("clocktrace V I H 3", "", 0), ("vdebug V I H", LINES, 0),
 ]
 
@@ -56,8 +60,8 @@ def write_files(folder, program):
     """The files, with objects and an image that have the digest of C: that of its canonical text, which the program prints."""
     canonical = subprocess.run([program, "fmt", os.path.join(TOP, "examples", "c.lisa")], capture_output=True, timeout=120, check=True).stdout
     head = f"1 {hashlib.sha256(canonical).hexdigest()}\n"
-    files = {"A": COUNTER, "C": example("c.lisa"), "E": example("e.lisa"), "F": example("f.lisa"), "X": COUNTER[:-3], "V": MODULE, "I": IMAGE, "H": "1 step=3\n2 step=1\n",
-             "K": "1 stop=1\n", "S": "2 hold=1 kill=1\n3 hold=0 kill=0\n",
+    files = {"A": COUNTER, "C": example("c.lisa"), "E": example("e.lisa"), "F": example("f.lisa"), "X": COUNTER[:-3], "Z": HEAVY, "V": MODULE, "I": IMAGE, "H": "1 step=3\n2 step=1\n",
+             "K": "1 stop=1\n", "S": "2 hold=1 kill=1\n3 hold=0 kill=0\n", "W": STORE,
              "P": ".section prog\n.global start\nstart: BR @(far-$-2) ; back\nADDI R1,7\n.word 0xc0, -1, @start\n.equ step 3\n", "Y": ".section prog\nADDI R1,@step\nHALT\n",
              "O": f"object {head}section prog 8\nglobal start\nlabel start\ncell 80\nfix 0 6 s -2 +far -$\nend\n",
              "Q": f"object {head}section prog 8\nglobal far\nspace 3\nlabel far\ncell 0\nend\n", "J": f"image {head}memory prog 8 16 3\n67\nc0\n5\nend\n"}

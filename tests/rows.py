@@ -68,6 +68,12 @@ row("too many edges", {"A": A}, step("run A - - 1000001", err=USAGE, status=2))
 row("edges with a leading zero", {"A": A}, step("run A - - 03", err=USAGE, status=2))
 row("a dash where a file stands", {"A": A}, step("run - - - 3", err=USAGE, status=2))
 row("an empty word where a file stands", {"A": A}, step(["run", "", "-", "-", "3"], err=USAGE, status=2))
+for name, words in [("a dash where a description stands", "verilog -"), ("a dash where a module stands", "soak A - 7 4 1"),
+                    ("too many instructions", "gen A 7 65537"), ("a number of 65 bits to draw from", "gen A 18446744073709551616 4"),
+                    ("a number to draw from with a leading zero", "gen A 07 4"), ("no number of instructions", "gen A 7"),
+                    ("too many instructions of a soak", "soak A A 7 65537 1"), ("too many edges of a soak", "soak A A 7 4 1000001"),
+                    ("no number of edges of a soak", "soak A A 7 4")]:
+    row(name, {"A": A}, step(words, err=USAGE, status=2))
 
 # ---------------------------------------------------------------- run
 
@@ -531,9 +537,98 @@ row("run of a value that is read again", {"X": """RESOURCE { REGISTER uint8 a; R
 OPERATION reset { BEHAVIOR { a = 1; } }
 OPERATION main { BEHAVIOR { a = a + b; b = a - 1; a = a + 2; } }
 """}, step("run X - - 3", slashed("edge 3/a 0x9/b 0x6/")))
+def machine(resources, *operations):
+    return "RESOURCE { " + resources + " }\n" + "\n".join(operations) + "\n"
+
+
+def behaves(resources, statements, reset=""):
+    """A machine whose `main` does these statements in each edge."""
+    return machine(resources, *(["OPERATION reset { BEHAVIOR { " + reset + " } }"] if reset else []), "OPERATION main { BEHAVIOR { " + statements + " } }")
+
+
+# What one edge does where it is easily done wrong.
+row("a test whose branch changes it", {"X": behaves("REGISTER uint4 n;", "if (n == 0) n = 1; else n = 2;")},
+    step("trace X - - 2", slashed("edge 0/n 0x0/edge 1/n 0x1/edge 2/n 0x2/")))
+row("a test of an activation that what it activates changes", {"X": machine(
+    "REGISTER uint4 n;", "OPERATION main { DECLARE { INSTANCE a, b; } ACTIVATION { if (n == 0) { a } else { b } } }",
+    "OPERATION a { BEHAVIOR { n = 1; } }", "OPERATION b { BEHAVIOR { n = 2; } }")}, step("trace X - - 2", slashed("edge 0/n 0x0/edge 1/n 0x1/edge 2/n 0x2/")))
+row("a local that is assigned in a branch", {"X": behaves("PIN uint1 p; REGISTER uint8 n;", "uint8 x = 1; if (p) x = 2; n = x;"), "H": "2 p=1\n"},
+    step("trace X - H 2", slashed("edge 0/n 0x0/edge 1/n 0x1/edge 2/n 0x2/")))
+row("a local without value in each turn", {"X": behaves("REGISTER uint8 n;", "for (uint4 i = 0; i < 3; i = i + 1) { uint8 t; n = n + t; t = 5; }")},
+    step("run X - - 1", slashed("edge 1/n 0x0/")))
+row("an index and an amount below 0", {"X": behaves("REGISTER int2 i; REGISTER uint8 n; REGISTER uint8 M[8];", "M[i] = 1; n = n << i;", "i = (int2) 3; n = 1;")},
+    step("run X - - 1", slashed("edge 1/i 0x3/n 0x8/M[3] 0x1/")))
+ROOTED = ["OPERATION main { DECLARE { INSTANCE root; } BEHAVIOR { if (h) { p.B.stall(); p.B.flush(); } } ACTIVATION { root } }",
+          "OPERATION root IN p.A { DECLARE { GROUP g = { x }; } CODING { ir == g } BEHAVIOR { ir = ir + 1; } ACTIVATION { g } }",
+          'OPERATION x IN p.B { DECLARE { LABEL k; } CODING { 0b0 k=0bx[3] } SYNTAX { "X" k=#U } BEHAVIOR { n = n + k; } }']
+PARTS = "PIN uint1 h; REGISTER uint4 ir; REGISTER uint4 n; PIPELINE p = { A; B };"
+row("the root's word is that as it begins", {"X": machine(PARTS, "OPERATION reset { BEHAVIOR { ir = 5; } }", *ROOTED)}, step("trace X - - 4", slashed(
+    "edge 0/ir 0x5/n 0x0/B.word 0x0/B.x.2 0x0/edge 1/ir 0x6/B.word 0x5/B.x.2 0x1/edge 2/ir 0x7/n 0x5/B.word 0x6/edge 3/ir 0x8/n 0xb/B.word 0x7/"
+    "edge 4/ir 0x9/n 0x2/B.word 0x0/B.x.2 0x0/")))
+row("the only alternative of the root's group", {"X": machine(PARTS, "OPERATION reset { BEHAVIOR { ir = 8; } }", *ROOTED)},
+    step("trace X - - 1", slashed("edge 0/ir 0x8/n 0x0/B.word 0x0/B.x.2 0x0/edge 1/ir 0x9/")))
+row("a word whose stage is held and flushed", {"X": machine(PARTS, "OPERATION reset { BEHAVIOR { ir = 5; } }", *ROOTED), "H": "2 h=1\n3 h=0\n"}, step(
+    "trace X - H 3", slashed("edge 0/ir 0x5/n 0x0/B.word 0x0/B.x.2 0x0/edge 1/ir 0x6/B.word 0x5/B.x.2 0x1/edge 2/B.word 0x0/B.x.2 0x0/edge 3/ir 0x7/B.word 0x6/B.x.2 0x1/")))
+with_image("a word that is of no instruction", {"D": C, "I": slashed("image 1 {DIGEST}/memory prog 8 16 1/c0/end/")}, "trace D I - 3", slashed(
+    "edge 0/pc 0x0/FE§DC.ir 0x0/DC§EX.ir 0x0/EX.word 0x0/DC.decode.2 0x0/EX.addi.3 0x0/EX.nop.4 0x0/EX.br.5 0x0/prog[0] 0xc0/"
+    "edge 1/pc 0x1/FE§DC.ir 0xc0/DC.decode.2 0x1/edge 2/pc 0x2/FE§DC.ir 0x0/DC§EX.ir 0xc0/edge 3/pc 0x3/DC§EX.ir 0x0/EX.nop.4 0x1/"))
+row("the last of several writes to a boundary", {"X": machine(
+    "REGISTER uint4 n; PIPELINE p = { A; B }; PIPELINE_REGISTER IN p { uint4 v; };", "OPERATION main { DECLARE { INSTANCE a; } ACTIVATION { a } }",
+    "OPERATION a IN p.A { DECLARE { INSTANCE b; } BEHAVIOR { OUT.v = 1; OUT.v = 2; } ACTIVATION { b } }", "OPERATION b IN p.B { BEHAVIOR { n = IN.v; } }")},
+    step("trace X - - 2", slashed("edge 0/n 0x0/A§B.v 0x0/B.b.2 0x0/edge 1/A§B.v 0x2/B.b.2 0x1/edge 2/n 0x2/")))
+row("a call of a group in a branch that isn't taken", {"X": machine(
+    "REGISTER uint4 ir; REGISTER uint4 n;", "OPERATION main { DECLARE { INSTANCE root; } ACTIVATION { root } }",
+    "OPERATION root { DECLARE { GROUP g = { x }; } CODING { ir == g } BEHAVIOR { ir = ir + 1; } ACTIVATION { g } }",
+    'OPERATION x { DECLARE { GROUP c = { u || v }; } CODING { 0b0 c 0bx[2] } SYNTAX { "X" c } BEHAVIOR { if (n == 1) c(); n = n + 1; } }',
+    'OPERATION u { CODING { 0b0 } SYNTAX { "U" } BEHAVIOR { n = n + 4; } }', 'OPERATION v { CODING { 0b1 } SYNTAX { "V" } BEHAVIOR { n = n + 8; } }')},
+    step("trace X - - 3", slashed("edge 0/ir 0x0/n 0x0/edge 1/ir 0x1/n 0x1/edge 2/ir 0x2/n 0x6/edge 3/ir 0x3/n 0x7/")))
 row("run of 126 signs", {"A": swap(A, ("n = n + 1;", "n = " + "~" * 126 + "n;"))}, step("run A - - 1", slashed("edge 1/n 0x5/")))
 row("run of a name of 64 bytes", {"A": A.replace("uint8 n;", f"uint8 {LONG_NAME};").replace("n = 5", f"{LONG_NAME} = 5").replace("n = n + 1", f"{LONG_NAME} = {LONG_NAME} + 1")},
     step("run A - - 1", f"edge 1\n{LONG_NAME} 0x6\n"))
+
+# ---------------------------------------------------------------- the modules of descriptions
+
+BY_MODULE = {"run": "clock", "trace": "clocktrace", "debug": "vdebug"}
+
+
+def by_module(name, files, steps):
+    """What a row shows of a description, once more by the module that is written for it."""
+    shown = [it for it in steps if it["status"] == 0 and it["words"][0] in BY_MODULE]
+    if shown:
+        words = [[BY_MODULE[it["words"][0]], "the module", *it["words"][2:]] for it in shown]
+        row(f"by its module: {name}", files, step(["verilog", shown[0]["words"][1]], None, save="the module"),
+            *(dict(it, words=some) for it, some in zip(shown, words)))
+
+
+INC = swap(C, ("{ addi || nop", "{ addi || inc || nop"),
+           ("OPERATION reg {", 'ALIAS OPERATION inc { DECLARE { GROUP dst = { reg }; } CODING { 0b01 dst 0b00001 } SYNTAX { "INC" dst } }\nOPERATION reg {'))
+with_image("trace of an instruction with a second text", {"D": INC, "I": slashed("image 1 {DIGEST}/memory prog 8 16 1/67/end/")}, "trace D I - 3", ROW7)
+row("run of nothing", {"X": "RESOURCE { } OPERATION main { }"}, step("run X - - 2", "edge 2\n"))
+for one in list(ROWS):
+    by_module(*one)
+
+
+def heavy(statements):
+    return "RESOURCE { REGISTER uint8 M[2]; REGISTER uint8 n; }\nOPERATION main { BEHAVIOR { " + statements + "} }\n"
+
+
+for name, statements, weight in [("a product of reads and writes", "M[0] = M[0] + 1; " * 221, 50388),
+                                 ("one more than the limit", "M[0] = M[0] + 1; " * 220 + "n = n; " * 20 + ";", 50001)]:
+    row(f"a description that is too heavy: {name}", {"X": heavy(statements)},
+        step("verilog X", err=f"lisa: netlist 1 TooMany what=weight count={weight} limit=50000\n"),
+        step("run X - - 1", None))
+for name, statements in [("less", ""), ("as much as it may", "n = n; " * 20)]:
+    row(f"a description that weighs {name}", {"X": heavy("M[0] = M[0] + 1; " * 220 + statements)}, step("verilog X", None, save="W"),
+        step("clock W - - 1", slashed("edge 1/n 0x0/M[0] 0xdc/")), step("run X - - 1", slashed("edge 1/n 0x0/M[0] 0xdc/")))
+row("a sum that is shared", {"X": "RESOURCE { REGISTER uint8 a; REGISTER uint8 b; REGISTER uint8 c; }\nOPERATION main { BEHAVIOR { b = a + 1; c = a + 1; } }\n"},
+    step("verilog X", re.compile(r"[^+]*\+[^+]*"), save="W"), step("clock W - - 1", slashed("edge 1/a 0x0/b 0x1/c 0x1/")))
+row("verilog of what is read and not accepted", {"F": SAMPLES["f.lisa"]}, step("verilog F", err='lisa: description 25 Ambiguous first=p second=q text="R1"\n'))
+row("a fault goes before the weight", {"X": heavy("M[0] = M[0] + 1; " * 221 + "n = z; ")}, step("verilog X", err="lisa: description 7 Unknown operation=main name=z\n"))
+row("verilog of no description", {"X": "@"}, step("verilog X", err="lisa: description 1 BadByte at=0\n"))
+row("verilog of a missing file", {}, step("verilog G", err="lisa: read fault\n", status=3))
+row("verilog of a file over its limit", {"A": A + " " * (1048577 - len(A))}, step("verilog A", err="lisa: file 1 TooLong name=A\n"))
+for number, words in enumerate(["verilog", "verilog A A", "verilog -", "verilog A - - 1"]):
+    row(f"words of verilog {number + 1}", {"A": A}, step(words, err=USAGE, status=2))
 
 # ---------------------------------------------------------------- checks of descriptions
 
@@ -651,8 +746,6 @@ row("a linked object over its limit", {"C": C, "O": " " * 50331649}, step("link 
 # ---------------------------------------------------------------- asm
 
 CALLING = lines(".section prog", ".global start", "start: BR @(far-$-2)")
-INC = swap(C, ("{ addi || nop", "{ addi || inc || nop"),
-           ("OPERATION reg {", 'ALIAS OPERATION inc { DECLARE { GROUP dst = { reg }; } CODING { 0b01 dst 0b00001 } SYNTAX { "INC" dst } }\nOPERATION reg {'))
 SPLIT = """RESOURCE { MEMORY uint8 prog[16]; MEMORY uint4 nib[4]; REGISTER uint8 ir; REGISTER uint8 R[4]; }
 OPERATION main { }
 OPERATION root { DECLARE { GROUP g = { one || two }; } CODING { ir == g } }
@@ -707,6 +800,53 @@ row("asm of too long a source", {"C": C, "S": " " * 4194305}, step("asm C S", er
 row("asm of a refused description", {"F": SAMPLES["f.lisa"], "S": "\x80"},
     step("asm F S", err=re.compile('lisa: description 25 Ambiguous first=p second=q text="R1"\n')))
 
+# ---------------------------------------------------------------- gen, soak
+
+
+def soaked(count, edges, clock):
+    """The summary of a soak: the digests of the image `I`, of the state text `R`, and of the state text `clock`."""
+    return lines(f"cells {count}", f"edges {edges}", "image <digest of the file I>", "state <digest of the file R>", f"clock <digest of the file {clock}>")
+
+
+def program_of(description, number, count):
+    """Steps that write the image `I` of a program of the description."""
+    return (step(f"gen {description} {number} {count}", None, save="S"), step(f"asm {description} S", None, save="O"), step(f"link {description} O", None, save="I"))
+
+
+DRAWN = r"(ADDI R[01],\d+|NOP|BR( |-)\d+)\n"
+BARE = "module t (input clk); reg [7:0] prog [0:15]; endmodule\n"
+NARROW = "module t (input clk); reg [6:0] prog [0:15]; endmodule\n"
+SHALLOW = "module t (input clk); reg [7:0] prog [0:7]; endmodule\n"
+
+row("a program of no instruction", {"C": C}, step("gen C 7 0", lines(".section prog")))
+row("a program without instructions", {"A": A}, step("gen A 1 4", err="lisa: program 1 NoProgram\n"), step("gen A 1 0", err="lisa: program 1 NoProgram\n"))
+row("a program by its numbers", {"C": C},
+    step("gen C 18446744073709551615 65536", re.compile(r"\.section prog\n(?:[A-Z].*\n){65536}")), step("gen C 18446744073709551616 1", err=USAGE, status=2),
+    step("gen C 1 65537", err=USAGE, status=2), step("gen C 01 1", err=USAGE, status=2), step("gen C 1", err=USAGE, status=2), step("gen - 1 1", err=USAGE, status=2))
+row("programs that are drawn", {"C": C, "D": INC}, step("gen C 7 16", re.compile(r"\.section prog\n(" + DRAWN + "){16}"), save="S"), step("gen C 7 16", same="S"),
+    step("gen D 7 400", re.compile(r"\.section prog\n(" + DRAWN + "){400}")))
+row("gen of a refused description", {"F": SAMPLES["f.lisa"]}, step("gen F 1 4", err=re.compile('lisa: description 25 Ambiguous first=p second=q text="R1"\n')))
+row("a soak of a description and its module", {"C": C, "V": V}, *program_of("C", 7, 16), step("run C I - 100", None, save="R"),
+    step("verilog C", None, save="W"), step("clock W I - 100", None, same="R"), step("soak C W 7 16 100", soaked(16, 100, "R"), save="T"),
+    step("soak C W 7 16 100", None, same="T"), step("soak C V 7 16 100", err="lisa: image 3 NoSuchMemory name=prog\n"))
+row("a soak of another module", {"C": C, "T": BARE}, *program_of("C", 7, 16), step("run C I - 100", None, save="R"),
+    step("clock T I - 100", None, save="K"), step("soak C T 7 16 100", soaked(16, 100, "K")))
+row("a soak of the large sample", {"M": example("mips.lisa")}, *program_of("M", 11, 1024), step("run M I - 1000", None, save="R"), step("verilog M", None, save="W"),
+    step("soak M W 11 1024 1000", soaked(1024, 1000, "R"), save="T"), step("soak M W 11 1024 1000", None, same="T"))
+row("a soak of no instruction", {"C": C, "V": V}, *program_of("C", 7, 0), step("run C I - 9", None, save="R"),
+    step("clock V I - 9", None, save="K"), step("soak C V 7 0 9", soaked(0, 9, "K")))
+row("a soak of no edge", {"C": C, "T": BARE}, *program_of("C", 1, 3), step("run C I - 0", None, save="R"),
+    step("clock T I - 0", None, save="K"), step("soak C T 1 3 0", soaked(3, 0, "K")))
+row("a soak that doesn't fit", {"C": C, "V": V, "W": "("}, step("soak C W 7 17 100", err=up_to("lisa: verilog 3 NotInSubset at=", 1)), step("soak C V 7 17 100", err="lisa: link 3 DoesNotFit memory=prog cells=17 depth=16\n"))
+row("a soak of a module without the memory", {"C": C, "N": NARROW, "S": SHALLOW},
+    step("soak C N 7 16 1", err="lisa: image 3 NoSuchMemory name=prog\n"), step("soak C S 7 4 1", err="lisa: image 3 NoSuchMemory name=prog\n"))
+row("a soak reads the description, and then the module", {"A": A, "F": SAMPLES["f.lisa"], "X": "module t (input clk);", "V": V},
+    step("soak F X 1 4 1", err=re.compile('lisa: description 25 Ambiguous first=p second=q text="R1"\n')), step("soak A X 1 4 1", err=at_most("lisa: verilog 3 NotInSubset at=", "module t (input clk);")),
+    step("soak A V 1 4 1", err="lisa: program 1 NoProgram\n"))
+row("a soak by its numbers", {"C": C, "V": V}, step("soak C V 1 4 1000001", err=USAGE, status=2), step("soak C V 1 65537 1", err=USAGE, status=2),
+    step("soak C V 18446744073709551616 1 1", err=USAGE, status=2), step("soak C V 1 4", err=USAGE, status=2), step("soak C - 1 4 1", err=USAGE, status=2),
+    step("soak C G 1 4 1", err="lisa: read fault\n", status=3))
+
 # ---------------------------------------------------------------- running
 
 
@@ -719,12 +859,14 @@ def canonical_digest(program, description):
     return hashlib.sha256(text).hexdigest()
 
 
-def with_digests(program, text):
-    return re.sub("<digest of ([0-9a-f]*)>", lambda found: canonical_digest(program, bytes.fromhex(found[1])), text)
+def with_digests(program, text, held):
+    """What stands for digests in a text: of a description's canonical text, and of a file that is held."""
+    text = re.sub("<digest of ([0-9a-f]*)>", lambda found: canonical_digest(program, bytes.fromhex(found[1])), text)
+    return re.sub(r"<digest of the file (\w+)>", lambda found: hashlib.sha256(held[found[1]]).hexdigest(), text)
 
 
 def run_row(program, files, steps):
-    held = {name: with_digests(program, text).encode("latin-1") for name, text in files.items()}
+    held = {name: with_digests(program, text, {}).encode("latin-1") for name, text in files.items()}
     for number, one in enumerate(steps):
         with tempfile.TemporaryDirectory() as folder:
             for name, data in held.items():
@@ -736,7 +878,7 @@ def run_row(program, files, steps):
             held[one["save"]] = done.stdout
         got = [done.returncode, done.stdout.decode("latin-1"), done.stderr.decode("latin-1")]
         want = [one["status"], held[one["same"]].decode("latin-1") if one["same"] else one["out"], one["err"]]
-        want = [with_digests(program, it) if isinstance(it, str) else it for it in want]
+        want = [with_digests(program, it, held) if isinstance(it, str) else it for it in want]
         if not all(matches(w, g) for w, g in zip(want, got)):
             return f"step {number + 1}, {' '.join(one['words'])}\n  got    {got!r:.2000}\n  wanted {want!r:.2000}"
     return None

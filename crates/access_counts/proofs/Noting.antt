@@ -3,8 +3,8 @@ use Rattle.std.proofs.Common.{◌≡◌, ◌<◌, ◌+◌, ◌*◌, ℕ, List, [
 use Rattle.std.specs.Prelude.{IfSome, position}
 use Rattle.std.proofs.lemmas.List.Quantifiers.{position-Some}
 use Rattle.lisa_tree.specs.Descriptions.{DescriptionTree}
-use Rattle.description_names.specs.Resources.{is_named, resource_at}
-use Rattle.description_names.specs.Declarations.{Entry, entries, declared_at}
+use Rattle.lisa_tree.specs.Resources.{is_named, resource_at}
+use Rattle.lisa_tree.specs.Declarations.{Entry, entries, declared_at}
 use Rattle.access_counts.specs.declared.ledger.Ledger.{Ledger}
 use Rattle.access_counts.specs.Accesses.{Access, Naming}
 use Rattle.access_counts.specs.Ledgers.{Prices, capped, ledger_worth, access_by, naming_by, HasRoom, IsAdded, IsGoing}

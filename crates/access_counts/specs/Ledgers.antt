@@ -2,7 +2,7 @@
 use Rattle.std.specs.Prelude.{ℕ, ◌≡◌, ◌+◌, ◌-◌, ◌*◌, ◌^◌, min, List, [], ◌∷◌, length}
 use Rattle.std.specs.Option.{option_map_or}
 use Rattle.lisa_tree.specs.Descriptions.{DescriptionTree}
-use Rattle.description_names.specs.Declarations.{entries, declared_at}
+use Rattle.lisa_tree.specs.Declarations.{entries, declared_at}
 use Rattle.access_counts.specs.Accesses.{Access, Naming}
 use Rattle.access_counts.specs.Unfolded.{of_resources}
 use Rattle.access_counts.specs.declared.ledger.Ledger.{Ledger}

@@ -1,7 +1,7 @@
 -- On the way: what is still to be unfolded, one level after another.
 use Rattle.std.specs.Prelude.{ℕ, ◌≡◌, ◌<◌, ◌+◌, List, get_or, length, sum_by}
 use Rattle.lisa_tree.specs.Descriptions.{DescriptionTree}
-use Rattle.description_names.specs.Operations.{sections_at}
+use Rattle.lisa_tree.specs.Operations.{sections_at}
 use Rattle.access_counts.specs.declared.ledger.Ledger.{Ledger}
 use Rattle.access_counts.specs.Accesses.{Access}
 use Rattle.access_counts.specs.Unfolded.{Counted, of_resources, sections_accesses, texts_accesses, counted_within}

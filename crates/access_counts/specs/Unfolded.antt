@@ -4,9 +4,9 @@
 use Rattle.std.specs.Prelude.{ℕ, zero, suc, ◌+◌, List, sum_by}
 use Rattle.std.specs.Option.{option_map_or}
 use Rattle.lisa_tree.specs.Descriptions.{SectionTree, DescriptionTree}
-use Rattle.description_names.specs.Operations.{sections_at, behavior_in, expression_in, activation_in}
-use Rattle.description_names.specs.Resources.{resource_at}
-use Rattle.description_names.specs.Declarations.{declared_at}
+use Rattle.lisa_tree.specs.Operations.{sections_at, behavior_in, expression_in, activation_in}
+use Rattle.lisa_tree.specs.Resources.{resource_at}
+use Rattle.lisa_tree.specs.Declarations.{declared_at}
 use Rattle.access_counts.specs.Accesses.{Access, Naming, value_accesses, place_accesses, statements_accesses, items_accesses}
 
 -- what an operation counts: where its expression is read, where its expression is assigned, and where its behaviour runs

@@ -6,8 +6,7 @@ ghost use Rattle.access_counts.specs.Ledgers.{HasRoom, IsAdded};
 
 use crate::expressions::note_value;
 use crate::ledger::Ledger;
-use description_names::Names;
-use lisa_tree::Act;
+use lisa_tree::{Act, Names};
 
 // Notes what an item's conditions do, so many times.
 #[cycle(items)]

@@ -7,8 +7,7 @@ ghost use Rattle.access_counts.specs.Ledgers.{HasRoom, IsAdded, capped};
 
 use crate::expressions::{note_place, note_value};
 use crate::ledger::{Ledger, note_call};
-use description_names::Names;
-use lisa_tree::{ForHead, Stmt};
+use lisa_tree::{ForHead, Names, Stmt};
 use shape_checks::bounds_of;
 
 // How many turns so many runs of a loop make.

@@ -5,8 +5,7 @@ ghost use Rattle.access_counts.specs.Accesses.{value_accesses, place_accesses};
 ghost use Rattle.access_counts.specs.Ledgers.{HasRoom, IsAdded};
 
 use crate::ledger::{Ledger, note_assigned, note_name, note_read, note_write};
-use description_names::Names;
-use lisa_tree::Expr;
+use lisa_tree::{Expr, Names};
 
 /// Notes what an expression of an operation does that is read so many times.
 pub(crate) fn note_value<N: Names>(

@@ -4,7 +4,7 @@ ghost use Rattle.std.specs.Prelude.{◌≡◌, ◌<◌, ◌*◌, ℕ, IfOk, IfSo
 ghost use Rattle.std.specs.Option.{option_map_or};
 ghost use Rattle.access_counts.specs.Ledgers.{HasRoom, IsAdded, Gains, worth};
 
-use description_names::Names;
+use lisa_tree::Names;
 use lisa_words::{Name, NoMemory};
 use std::alloc::Global;
 

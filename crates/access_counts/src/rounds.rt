@@ -3,7 +3,7 @@
 ghost use Rattle.std.specs.Prelude.{◌≡◌, ◌+◌, ◌&&◌, ℕ, List, IfOk, length, true};
 ghost use Rattle.lisa_tree.specs.Descriptions.{DescriptionTree};
 ghost use Rattle.std.specs.Option.{option_map_or};
-ghost use Rattle.description_names.specs.Operations.{sections_at, behavior_in, expression_in};
+ghost use Rattle.lisa_tree.specs.Operations.{sections_at, behavior_in, expression_in};
 ghost use Rattle.access_counts.specs.Accesses.{value_accesses, place_accesses, statements_accesses};
 ghost use Rattle.access_counts.specs.Ledgers.{Prices, HasRoom, IsAdded, Gains, capped, worth, ledger_worth};
 ghost use Rattle.access_counts.specs.Rounds.{Rates, AllBelow, IsUnfolded, priced, worth_within, bare};
@@ -12,8 +12,8 @@ use crate::behaviors::note_behavior;
 use crate::due::{Choices, due};
 use crate::expressions::{note_place, note_value};
 use crate::ledger::{Ledger, zeros};
-use description_names::{Names, behavior, expression};
 use description_types::{operation_count, sections};
+use lisa_tree::{Names, behavior, expression};
 use lisa_words::NoMemory;
 use std::alloc::Global;
 

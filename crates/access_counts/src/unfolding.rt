@@ -2,7 +2,7 @@
 
 ghost use Rattle.std.specs.Prelude.{◌≡◌, ◌<◌, ◌+◌, ℕ, IfOk, get_or, length};
 ghost use Rattle.std.specs.Option.{option_map_or};
-ghost use Rattle.description_names.specs.Operations.{sections_at, behavior_in, activation_in};
+ghost use Rattle.lisa_tree.specs.Operations.{sections_at, behavior_in, activation_in};
 ghost use Rattle.access_counts.specs.Accesses.{statements_accesses, items_accesses};
 ghost use Rattle.access_counts.specs.Unfolded.{texts_accesses, text_accesses};
 ghost use Rattle.access_counts.specs.Ledgers.{HasRoom, IsAdded, Gains, Prices, capped, worth, ledger_worth};
@@ -13,8 +13,8 @@ use crate::behaviors::note_behavior;
 use crate::due::Choices;
 use crate::ledger::{Ledger, zeros};
 use crate::rounds::unfold;
-use description_names::{Names, activation, behavior};
 use description_types::sections;
+use lisa_tree::{Names, activation, behavior};
 use lisa_words::NoMemory;
 use std::alloc::Global;
 

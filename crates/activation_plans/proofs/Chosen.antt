@@ -12,7 +12,7 @@ use Rattle.lisa_tree.specs.Expressions.{expr_tree}
 use Rattle.lisa_tree.specs.Activations as items
 use Rattle.lisa_tree.specs.Activations.{ActTree, ActTrees, act_tree, act_trees}
 use Rattle.lisa_tree.specs.Descriptions.{DescriptionTree, section_tree}
-use Rattle.description_names.specs.Operations.{sections_at, activation_in}
+use Rattle.lisa_tree.specs.Operations.{sections_at, activation_in}
 use Rattle.activation_trees.specs.declared.parts.Occurrence.{Occurrence}
 use Rattle.activation_trees.specs.Starting.{activation}
 use Rattle.pipeline_time.specs.Acts.{Acts, Done, When, size}

@@ -11,7 +11,7 @@ use Rattle.lisa_tree.specs.Activations.{act_tree, act_trees}
 use Rattle.lisa_tree.specs.Activations as items
 use Rattle.lisa_tree.specs.Activations.{ActTree, ActTrees}
 use Rattle.lisa_tree.specs.Descriptions.{OperationTree, DescriptionTree}
-use Rattle.description_names.specs.Operations.{operation_at, sections_at, activation_in}
+use Rattle.lisa_tree.specs.Operations.{operation_at, sections_at, activation_in}
 
 abbrev mutual
   pub item_size : ActTree → ℕ

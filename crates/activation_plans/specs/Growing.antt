@@ -1,7 +1,7 @@
 -- Items in memory against the items that a description's activations unfold to.
 use Rattle.std.specs.Prelude.{ℕ, ◌≡◌, ◌+◌, Bool, List}
 use Rattle.lisa_tree.specs.Descriptions.{DescriptionTree}
-use Rattle.description_names.specs.Operations.{sections_at, coding_in}
+use Rattle.lisa_tree.specs.Operations.{sections_at, coding_in}
 use Rattle.coded_names.specs.Codings.{names_instructions}
 use Rattle.activation_trees.specs.declared.parts.Occurrence.{Occurrence}
 use Rattle.pipeline_time.specs.Acts.{Acts, Done, Act, size}

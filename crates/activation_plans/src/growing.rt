@@ -3,7 +3,7 @@
 ghost use Rattle.std.specs.Prelude.{◌≡◌, ◌+◌, ◌||◌, None, IfOk, OnOk, false, map, suc};
 ghost use Rattle.std.specs.Option.{option_or};
 ghost use Rattle.lisa_tree.specs.Activations.{act_tree, act_trees};
-ghost use Rattle.description_names.specs.Operations.{own_stage};
+ghost use Rattle.lisa_tree.specs.Operations.{own_stage};
 ghost use Rattle.stage_checks.specs.Running.{choice_of};
 ghost use Rattle.activation_trees.specs.Starting.{activation, plain_named};
 ghost use Rattle.activation_trees.specs.Unfolding.{occurrence, child};
@@ -14,9 +14,8 @@ ghost use Rattle.activation_plans.specs.Growing.{activator, alone, IsGrown, root
 
 use activation_trees::Occurrence;
 use coded_names::names_instructions;
-use description_names::{Names, What, activation, coding};
 use description_types::sections;
-use lisa_tree::Act;
+use lisa_tree::{Act, Names, What, activation, coding};
 use lisa_words::{Name, NoMemory};
 use pipeline_runs::Tree;
 use std::alloc::Global;

@@ -2,9 +2,9 @@
 
 ghost use Rattle.std.specs.Prelude.{◌≡◌, ◌≤◌, IfOk, find, length, map};
 ghost use Rattle.lisa_tree.specs.Descriptions.{resource_tree};
-ghost use Rattle.description_names.specs.Resources.{stages, stages_in};
-ghost use Rattle.description_names.specs.Operations.{is_root, number_of};
-ghost use Rattle.description_names.specs.Paths.{node_count};
+ghost use Rattle.lisa_tree.specs.Resources.{stages, stages_in};
+ghost use Rattle.lisa_tree.specs.Operations.{is_root, number_of};
+ghost use Rattle.lisa_tree.specs.Paths.{node_count};
 ghost use Rattle.stage_checks.specs.Controls.{main_name};
 ghost use Rattle.activation_trees.specs.Unfolding.{occurrences as all_occurrences};
 ghost use Rattle.pipeline_time.specs.Cores.{all_nodes};
@@ -16,9 +16,8 @@ ghost use Rattle.lisa_meaning.specs.Cores.{core_of, root_level};
 use crate::copies::list_nodes;
 use crate::growing::{first, grow_below, level_of_stage};
 use activation_trees::Occurrence;
-use description_names::Names;
 use description_types::{is_root, operation_count};
-use lisa_tree::Resource;
+use lisa_tree::{Names, Resource};
 use lisa_words::{Name, NoMemory};
 use pipeline_runs::{Plan, Tree};
 use std::alloc::Global;

@@ -4,8 +4,8 @@ use Rattle.std.specs.List.{AllByRecursion}
 use Rattle.std.specs.Prelude.{reverse}
 use Rattle.std.proofs.lemmas.List.{length-append, reverse-append, append-nil}
 use Rattle.lisa_tree.specs.Descriptions.{DescriptionTree}
-use Rattle.description_names.specs.Declarations.{choices, plain_at}
-use Rattle.description_names.specs.Paths.{node_count}
+use Rattle.lisa_tree.specs.Declarations.{choices, plain_at}
+use Rattle.lisa_tree.specs.Paths.{node_count}
 use Rattle.activation_trees.specs.declared.parts.Occurrence.{Occurrence}
 use Rattle.activation_trees.specs.declared.parts.Start.{Start}
 use Rattle.activation_trees.specs.Starting.{Activated, activation, alternatives, activated_by, activated, starts}

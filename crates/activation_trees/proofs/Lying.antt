@@ -6,13 +6,13 @@ use Rattle.std.specs.List.{AllByRecursion}
 use Rattle.std.proofs.lemmas.Bool.{eq-eqb}
 use Rattle.std.proofs.lemmas.Option.{same_Some}
 use Rattle.lisa_tree.specs.Descriptions.{DescriptionTree}
-use Rattle.description_names.specs.Operations.{number_of, own_stage, sections_at, coding_in, activation_in}
-use Rattle.description_names.specs.Declarations.{plain_at}
-use Rattle.description_names.specs.Paths.{node_count}
+use Rattle.lisa_tree.specs.Operations.{number_of, own_stage, sections_at, coding_in, activation_in}
+use Rattle.lisa_tree.specs.Declarations.{plain_at}
+use Rattle.lisa_tree.specs.Paths.{node_count}
 use Rattle.graph_paths.specs.Paths.{is_in}
 use Rattle.stage_checks.specs.Controls.{main_name}
 use Rattle.stage_checks.specs.Running.{started, choices_named, named_choices, activation_names, Activates, RunsIn, begins, goes}
-use Rattle.description_promises.proofs.Entries.{get_left, get_right, Split, in_first, in_second, split}
+use Rattle.lisa_machine.proofs.Entries.{get_left, get_right, Split, in_first, in_second, split}
 use Rattle.activation_trees.specs.declared.parts.Occurrence.{Occurrence}
 use Rattle.activation_trees.specs.declared.parts.Start.{Start}
 use Rattle.activation_trees.specs.Starting.{Activated, activation, alternatives, activated_by, activated, start, starts_named, starts}

@@ -8,14 +8,14 @@ use Rattle.std.proofs.lemmas.List.{length-map}
 use Rattle.std.proofs.lemmas.List.Elements.{filter-append}
 use Rattle.std.proofs.lemmas.Option.{same_Some}
 use Rattle.lisa_tree.specs.Descriptions.{DescriptionTree}
-use Rattle.description_names.specs.Operations.{number_of, sections_at, coding_in, activation_in}
-use Rattle.description_names.specs.Declarations.{plain_at}
+use Rattle.lisa_tree.specs.Operations.{number_of, sections_at, coding_in, activation_in}
+use Rattle.lisa_tree.specs.Declarations.{plain_at}
 use Rattle.description_graph.specs.Circles.{IsFirstCircularOperation}
 use Rattle.coded_names.specs.Codings.{names_instructions}
 use Rattle.graph_paths.specs.Paths.{is_in}
 use Rattle.stage_checks.specs.Controls.{main_name}
 use Rattle.stage_checks.specs.Running.{started, activation_names}
-use Rattle.description_promises.proofs.Entries.{get_left, get_right, Split, in_first, in_second, split}
+use Rattle.lisa_machine.proofs.Entries.{get_left, get_right, Split, in_first, in_second, split}
 use Rattle.activation_trees.specs.declared.parts.Occurrence.{Occurrence}
 use Rattle.activation_trees.specs.Starting.{Activated, activation, activated_by, activated, start, starts_named, plain_of, names_by}
 use Rattle.activation_trees.specs.Unfolding.{occurrence, child, children, in_turn, whole, firsts, occurrences}

@@ -12,7 +12,7 @@ use Rattle.std.proofs.lemmas.Option.{slice_get_within, get_or_from_slice_get, sa
 use Rattle.lisa_tree.specs.Descriptions.{DescriptionTree}
 use Rattle.stage_checks.specs.Graphs.{names_in}
 use Rattle.stage_checks.proofs.Rows.{names_push, regroup}
-use Rattle.description_promises.proofs.Entries.{get_left, get_right}
+use Rattle.lisa_machine.proofs.Entries.{get_left, get_right}
 use Rattle.activation_trees.specs.declared.parts.Occurrence.{Occurrence}
 use Rattle.activation_trees.specs.Starting.{plain_named, names_by}
 use Rattle.activation_trees.specs.Places.{is_child_of, children_of, place, AreParentsBefore, ArePlaces, count_at, count_more}

@@ -7,20 +7,20 @@ use Rattle.std.proofs.lemmas.Bool.{and_parts, eq-eqb, eqb-true, or_cases}
 use Rattle.std.proofs.lemmas.Option.{same_Some, slice_get_within, slice_get-get_or}
 use Rattle.std.proofs.lemmas.List.Quantifiers.{position-Some}
 use Rattle.lisa_tree.specs.Descriptions.{DescriptionTree}
-use Rattle.description_names.specs.declared.declared.What.{What}
-use Rattle.description_names.specs.declared.declared.What.TheVariants as whats
-use Rattle.description_names.specs.Same.{same_name}
-use Rattle.description_names.specs.Operations.{is_alias, sections_at, coding_in, activation_in}
-use Rattle.description_names.specs.Declarations.{Entry, Choice, choice, choices, entries, declared_at, what_at, alternatives_at, plain_at}
+use Rattle.lisa_tree.specs.declared.declared.What.{What}
+use Rattle.lisa_tree.specs.declared.declared.What.TheVariants as whats
+use Rattle.lisa_tree.specs.Same.{same_name}
+use Rattle.lisa_tree.specs.Operations.{is_alias, sections_at, coding_in, activation_in}
+use Rattle.lisa_tree.specs.Declarations.{Entry, Choice, choice, choices, entries, declared_at, what_at, alternatives_at, plain_at}
 use Rattle.graph_paths.specs.Paths.{is_in}
 use Rattle.description_graph.specs.Circles.{IsFirstCircularOperation}
 use Rattle.stage_checks.specs.Running.{choice_of, choice_at, started, activation_names}
 use Rattle.stage_checks.proofs.Nodes.{plain_within}
-use Rattle.description_promises.specs.Ranks.{OperationRanks}
-use Rattle.description_promises.specs.Declaring.{Chooses}
-use Rattle.description_promises.proofs.Entries.{entry_chooses}
-use Rattle.description_promises.proofs.Named.{what_is}
-use Rattle.description_promises.proofs.Falling.{operation_ranks}
+use Rattle.lisa_machine.specs.Ranks.{OperationRanks}
+use Rattle.lisa_machine.specs.Declaring.{Chooses}
+use Rattle.lisa_machine.proofs.Entries.{entry_chooses}
+use Rattle.lisa_machine.proofs.Named.{what_is}
+use Rattle.lisa_machine.proofs.Falling.{operation_ranks}
 use Rattle.activation_trees.specs.Starting.{start, start_of, starts_named}
 use Rattle.activation_trees.proofs.Levels.{FallsBelow, Falling}
 

@@ -4,9 +4,9 @@ use Rattle.std.specs.List.{AllByRecursion}
 use Rattle.std.specs.Prelude.{◌↔◌}
 use Rattle.std.proofs.lemmas.Bool.{cases_lt}
 use Rattle.lisa_tree.specs.Descriptions.{DescriptionTree}
-use Rattle.description_names.specs.Operations.{number_of}
-use Rattle.description_names.specs.Declarations.{choices, plain_at}
-use Rattle.description_names.specs.Paths.{Operation, Choosing, node_at, node_count, choice_node}
+use Rattle.lisa_tree.specs.Operations.{number_of}
+use Rattle.lisa_tree.specs.Declarations.{choices, plain_at}
+use Rattle.lisa_tree.specs.Paths.{Operation, Choosing, node_at, node_count, choice_node}
 use Rattle.description_graph.proofs.Nodes.{at_operation, at_choice}
 use Rattle.stage_checks.specs.Controls.{main_name}
 use Rattle.least_fixed_points.specs.Settles.{Settles, settled}

@@ -1,7 +1,7 @@
 -- Each occurrence is `main`'s, or a child of one before it.
 use Rattle.std.specs.Prelude.{ℕ, ◌≡◌, ◌<◌, false, List, Option, None, Some, slice_get}
 use Rattle.lisa_tree.specs.Descriptions.{DescriptionTree}
-use Rattle.description_names.specs.Operations.{number_of}
+use Rattle.lisa_tree.specs.Operations.{number_of}
 use Rattle.stage_checks.specs.Controls.{main_name}
 use Rattle.activation_trees.specs.declared.parts.Occurrence.{Occurrence}
 use Rattle.activation_trees.specs.Starting.{Activated, activated}

@@ -4,8 +4,8 @@ use Rattle.std.specs.Prelude.{ℕ, ◌+◌, Bool, true, false, ◌&&◌, List, [
 use Rattle.lisa_engine.specs.declared.parts.Item.{Item}
 use Rattle.lisa_tree.specs.declared.tokens.Shape.{Shape}
 use Rattle.lisa_tree.specs.Descriptions.{DescriptionTree}
-use Rattle.description_names.specs.Resources.{stages, fields}
-use Rattle.description_names.specs.Operations.{name_at, is_root}
+use Rattle.lisa_tree.specs.Resources.{stages, fields}
+use Rattle.lisa_tree.specs.Operations.{name_at, is_root}
 use Rattle.activation_trees.specs.declared.parts.Occurrence.{Occurrence}
 
 abbrev pub item : List ℕ → ℕ → Item

@@ -3,7 +3,7 @@
 use Rattle.std.specs.Prelude.{ℕ, ◌≡◌, ◌<◌, ◌+◌, Bool, true, false, List, Option, None, Some, length, filter, nat_eq, slice_get, slice_index_or, slice_set, take}
 use Rattle.std.specs.Option.{option_map_or}
 use Rattle.lisa_tree.specs.Descriptions.{DescriptionTree}
-use Rattle.description_names.specs.Operations.{sections_at, coding_in}
+use Rattle.lisa_tree.specs.Operations.{sections_at, coding_in}
 use Rattle.coded_names.specs.Codings.{names_instructions}
 use Rattle.graph_paths.specs.Paths.{is_in}
 use Rattle.activation_trees.specs.declared.parts.Occurrence.{Occurrence}

@@ -3,8 +3,8 @@ use Rattle.std.specs.Prelude.{ℕ, zero, suc, ◌≡◌, Bool, List, [], ◌∷�
 use Rattle.std.specs.Option.{option_to_list}
 use Rattle.std.specs.Global.{Vec}
 use Rattle.lisa_tree.specs.Descriptions.{CodingTree, DescriptionTree}
-use Rattle.description_names.specs.Operations.{sections_at, coding_in, activation_in}
-use Rattle.description_names.specs.Declarations.{plain_at}
+use Rattle.lisa_tree.specs.Operations.{sections_at, coding_in, activation_in}
+use Rattle.lisa_tree.specs.Declarations.{plain_at}
 use Rattle.coded_names.specs.Codings.{names_instructions}
 use Rattle.stage_checks.specs.Running.{started, activation_names}
 use Rattle.activation_trees.specs.declared.parts.Start.{Start}

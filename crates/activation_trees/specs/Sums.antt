@@ -1,8 +1,8 @@
 -- Sums over what is below operations and choices: what follows for each from those it leads to.
 use Rattle.std.proofs.Common.{◌≡◌, ℕ, ◌+◌, ◌-◌, ◌≤◌, Bool, false, List, [], ◌∷◌, Option, None, Some, cond, nat_eq, nat_lt, length, map, refl, ap, ap₂, ◌∙◌, arith}
 use Rattle.lisa_tree.specs.Descriptions.{DescriptionTree}
-use Rattle.description_names.specs.Declarations.{choices, plain_at}
-use Rattle.description_names.specs.Paths.{Node, Operation, Choosing, Declaring, node_at, choice_node}
+use Rattle.lisa_tree.specs.Declarations.{choices, plain_at}
+use Rattle.lisa_tree.specs.Paths.{Node, Operation, Choosing, Declaring, node_at, choice_node}
 use Rattle.least_fixed_points.specs.Settles.{IsWithin, IsMonotone}
 use Rattle.description_types.specs.Larger.{Less, none_less, same_less, within_less}
 use Rattle.activation_trees.specs.declared.parts.Start.{Start}

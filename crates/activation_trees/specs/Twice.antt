@@ -1,7 +1,7 @@
 -- Roots that occur twice.
 use Rattle.std.specs.Prelude.{ℕ, zero, suc, ◌+◌, Bool, true, false, ◌||◌, ◌&&◌, Option, None, Some, cond, nat_lt, length}
 use Rattle.lisa_tree.specs.Descriptions.{DescriptionTree}
-use Rattle.description_names.specs.Operations.{is_root}
+use Rattle.lisa_tree.specs.Operations.{is_root}
 use Rattle.activation_trees.specs.Unfolding.{occurrences_of}
 
 -- an operation before this one has a root

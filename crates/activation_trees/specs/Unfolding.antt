@@ -2,8 +2,8 @@
 use Rattle.std.specs.Prelude.{ℕ, zero, suc, ◌≡◌, ◌+◌, ◌-◌, ◌^◌, Bool, false, ◌||◌, List, [], ◌∷◌, ◌++◌, Option, None, Some, length, map, min, filter, reverse, nat_eq}
 use Rattle.std.specs.Option.{option_or}
 use Rattle.lisa_tree.specs.Descriptions.{DescriptionTree}
-use Rattle.description_names.specs.Operations.{number_of, own_stage}
-use Rattle.description_names.specs.Paths.{node_count}
+use Rattle.lisa_tree.specs.Operations.{number_of, own_stage}
+use Rattle.lisa_tree.specs.Paths.{node_count}
 use Rattle.stage_checks.specs.Controls.{main_name}
 use Rattle.activation_trees.specs.declared.parts.Occurrence.{Occurrence}
 use Rattle.activation_trees.specs.Starting.{Activated, activated}

@@ -8,8 +8,8 @@ ghost use Rattle.activation_trees.specs.Places.{AreParentsBefore, ArePlaces, cou
 
 use crate::parts::Occurrence;
 use crate::starts::{activation_names, started};
-use description_names::Names;
 use description_types::sections;
+use lisa_tree::Names;
 use lisa_words::Name;
 use std::alloc::{AllocError, Global};
 

@@ -12,10 +12,10 @@ use crate::parts::Start;
 use crate::starts::{all_starts, row};
 use crate::unfolding::main_at;
 use description_graph::edges;
-use description_names::Names;
 use description_types::{is_root, known_choice, known_operation, operation_count};
 use graph_paths::order;
 use least_fixed_points::{Rule, settle_along};
+use lisa_tree::Names;
 use lisa_words::NoMemory;
 use std::alloc::Global;
 

@@ -5,16 +5,15 @@ ghost use Rattle.std.specs.Prelude.{◌≡◌, ◌++◌, ◌∷◌, [], ℕ, map
 ghost use Rattle.std.specs.Option.{option_to_list};
 ghost use Rattle.lisa_tree.specs.Activations.{act_tree, act_trees};
 ghost use Rattle.lisa_tree.specs.Descriptions.{section_tree};
-ghost use Rattle.description_names.specs.Operations.{activation_in};
+ghost use Rattle.lisa_tree.specs.Operations.{activation_in};
 ghost use Rattle.stage_checks.specs.Running.{started, choice_of, act_names, acts_names, activation_names};
 ghost use Rattle.stage_checks.specs.Graphs.{names_in};
 ghost use Rattle.activation_trees.specs.Starting.{start_of, starts_named, starts, row_at, AreStarts};
 
 use crate::parts::Start;
 use coded_names::names_instructions;
-use description_names::{Names, What, activation, coding};
 use description_types::{operation_count, sections};
-use lisa_tree::{Act, Section};
+use lisa_tree::{Act, Names, Section, What, activation, coding};
 use lisa_words::Name;
 use std::alloc::{AllocError, Global};
 

@@ -3,7 +3,7 @@
 ghost use Rattle.std.specs.Prelude.{◌≡◌, ◌≤◌, ◌+◌, ◌++◌, ◌∷◌, [], None, IfOk, OnOk, length, map, reverse};
 ghost use Rattle.std.specs.Option.{option_or};
 ghost use Rattle.lisa_tree.specs.Descriptions.{DescriptionTree};
-ghost use Rattle.description_names.specs.Operations.{number_of, own_stage};
+ghost use Rattle.lisa_tree.specs.Operations.{number_of, own_stage};
 ghost use Rattle.description_graph.specs.Circles.{IsFirstCircularOperation};
 ghost use Rattle.stage_checks.specs.Controls.{main_name};
 ghost use Rattle.activation_trees.specs.Starting.{activation, activated_by, AreStarts};
@@ -11,7 +11,7 @@ ghost use Rattle.activation_trees.specs.Unfolding.{occurrence, child, firsts, oc
 
 use crate::parts::{Occurrence, Start};
 use crate::starts::{all_starts, row};
-use description_names::Names;
+use lisa_tree::Names;
 use lisa_words::{Name, NoMemory};
 use std::alloc::{AllocError, Global};
 

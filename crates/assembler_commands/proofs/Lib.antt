@@ -1,7 +1,7 @@
 mod ObjectFiles
 mod Digested
 mod Powers
-mod MemoryRules
+pub mod MemoryRules
 mod Linked
 mod ListingEnds
 mod LineCounts

@@ -43,8 +43,8 @@ fn unassembled(fault: SourceFault) -> End
     }
 }
 
-// What the lines of a source say.
-fn lines_of(alloc: Global, bytes: &[u8]) -> Result<Vec<SourceLine>, End>
+/// What the lines of a source say.
+pub fn lines_of(alloc: Global, bytes: &[u8]) -> Result<Vec<SourceLine>, End>
     requires { length bytes.now < 2 ^ 32 }
     ensures { Finds (λ lines. map line_tree lines.items) (IsSource bytes.now) (IsNoSource bytes.now) result }
 {
@@ -82,8 +82,8 @@ fn assembled(
     }
 }
 
-// The object of a source.
-fn object_of(
+/// The object of a source.
+pub fn object_of(
     alloc: Global,
     tools: &Tools,
     digest: [u8; 32],

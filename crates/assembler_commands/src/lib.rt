@@ -11,7 +11,8 @@ mod memories;
 mod objects;
 mod writing;
 
-pub use assembling::assemble_source;
+pub use assembling::{assemble_source, lines_of, object_of};
 pub use laws::linked_sources_are_their_image;
-pub use linking::link_objects;
+pub use linking::{image_of, link_objects};
 pub use listing::list_image;
+pub use writing::write_text;

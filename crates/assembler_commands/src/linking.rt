@@ -1,7 +1,8 @@
 //! The command that links objects.
-ghost use Rattle.std.specs.Prelude.{◌≡◌, ◌<◌, ◌^◌, length, All};
+ghost use Rattle.std.specs.Prelude.{◌≡◌, ◌<◌, ◌^◌, length, All, IfOk};
 ghost use Rattle.lisa_tree.specs.Descriptions.{description_tree};
 ghost use Rattle.description_digest.specs.Digests.{digest_of};
+ghost use Rattle.lisa_engine.specs.Images.{IsImage};
 ghost use Rattle.lisa_forms.specs.Verdicts.{HasForms};
 ghost use Rattle.lisa_machine.specs.Machines.{IsSpelled};
 ghost use Rattle.lisa_object.specs.Objects.{object_tree};
@@ -40,12 +41,13 @@ fn unlinked(fault: LinkFault) -> End
     }
 }
 
-// The image of objects.
-fn image_of(alloc: Global, machine: &Machine, objects: &[Object]) -> Result<Image, End>
+/// The image of objects.
+pub fn image_of(alloc: Global, machine: &Machine, objects: &[Object]) -> Result<Image, End>
     requires forms { HasForms (description_tree machine.now) }
     requires objects { All (λ o. IsObject (object_tree o)) objects.now }
     requires few { length objects.now < 2 ^ 32 }
-    ensures { Finds (λ image. image) (IsLinked (description_tree machine.now) (trees_of objects.now)) (IsUnlinked (description_tree machine.now) (trees_of objects.now)) result }
+    ensures finds { Finds (λ image. image) (IsLinked (description_tree machine.now) (trees_of objects.now)) (IsUnlinked (description_tree machine.now) (trees_of objects.now)) result }
+    ensures rules { IfOk result IsImage }
 {
     let memories = match memories_of(alloc, machine) {
         Ok(memories) => memories,

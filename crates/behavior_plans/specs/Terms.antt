@@ -1,7 +1,7 @@
 -- Expressions whose names are resolved to places, as plain trees, without where they lie in memory.
 use Rattle.std.specs.Prelude.{ℕ}
 use Rattle.lisa_tree.specs.declared.tokens.Shape.{Shape}
-use Rattle.operators.specs.declared.binary.Operator.{Operator}
+use Rattle.lisa_words.specs.declared.binary.Operator.{Operator}
 use Rattle.behavior_plans.specs.declared.terms.Term.{Term}
 use Rattle.behavior_plans.specs.declared.terms.Term.TheVariants as terms
 

@@ -4,7 +4,7 @@ use Rattle.lisa_tree.specs.Expressions.{ExprTree}
 use Rattle.lisa_tree.specs.Statements.{StmtTrees}
 use Rattle.lisa_tree.specs.Descriptions.{DescriptionTree}
 use Rattle.instruction_forms.specs.Trees.{FormTree}
-use Rattle.description_names.specs.Operations.{sections_at, behavior_in, expression_in}
+use Rattle.lisa_tree.specs.Operations.{sections_at, behavior_in, expression_in}
 use Rattle.typed_values.specs.Effects.{Locals, effects}
 use Rattle.lisa_meaning.specs.Scenes.{Link, Scene, at_path, home, child_at_home}
 use Rattle.lisa_meaning.specs.Moments.{Moment, bare, with_locals}

@@ -6,7 +6,7 @@ use Rattle.lisa_tree.specs.Expressions as exprs
 use Rattle.lisa_tree.specs.Expressions.{ExprTree, expr_depth}
 use Rattle.lisa_tree.specs.Descriptions as trees
 use Rattle.lisa_tree.specs.Descriptions.{SectionTree, OperationTree, DescriptionTree, section_depth, sections_depth, operations_depth, description_depth}
-use Rattle.description_names.specs.Operations.{expression_in, sections_at}
+use Rattle.lisa_tree.specs.Operations.{expression_in, sections_at}
 
 expression_deep : (all : List SectionTree) (e : ExprTree) → expression_in all ≡ Some e → expr_depth e ≤ sections_depth all
 expression_deep [] e is = absurd (cc is)

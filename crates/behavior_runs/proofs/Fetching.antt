@@ -4,7 +4,7 @@ use Rattle.std.specs.Prelude.{option_map}
 use Rattle.std.proofs.lemmas.Option.{same_Some}
 use Rattle.lisa_tree.specs.Expressions.{ExprTree}
 use Rattle.lisa_tree.specs.Descriptions.{DescriptionTree}
-use Rattle.description_names.specs.Operations.{coding_in, sections_at}
+use Rattle.lisa_tree.specs.Operations.{coding_in, sections_at}
 use Rattle.coding_tables.specs.Instructions.{Root}
 use Rattle.instruction_forms.specs.Trees.{FormTree}
 use Rattle.typed_values.specs.Words.{TypedWord}

@@ -8,7 +8,7 @@ use Rattle.lisa_tree.specs.Descriptions.{ResourceTree, DescriptionTree}
 use Rattle.lisa_engine.specs.declared.parts.Item.{Item}
 use Rattle.machine_parts.specs.Parts.{item, register_in, registers_of}
 use Rattle.lisa_machine.specs.Verdicts.{IsAccepted}
-use Rattle.description_promises.specs.Resolving.{IsWidth}
+use Rattle.lisa_machine.specs.Resolving.{IsWidth}
 use Rattle.lisa_meaning.specs.Moments.{Moment}
 use Rattle.lisa_meaning.specs.Values.{register_place, shape_at}
 use Rattle.lisa_meaning.specs.Effects.{Given, bits_for, register_put, resource_put}

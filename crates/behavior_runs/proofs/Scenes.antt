@@ -4,7 +4,7 @@ use Rattle.std.specs.Prelude.{option_map}
 use Rattle.std.proofs.lemmas.Option.{same_Some}
 use Rattle.lisa_tree.specs.Expressions.{ExprTree, expr_depth}
 use Rattle.lisa_tree.specs.Descriptions.{DescriptionTree, CodingTree, description_depth}
-use Rattle.description_names.specs.Operations.{coding_in, expression_in, sections_at}
+use Rattle.lisa_tree.specs.Operations.{coding_in, expression_in, sections_at}
 use Rattle.instruction_forms.specs.Trees.{FormTree}
 use Rattle.typed_values.specs.Words.{TypedWord, is_zero, truth}
 use Rattle.typed_values.specs.Expressions.{value}

@@ -5,7 +5,7 @@ use Rattle.lisa_tree.specs.declared.statements.Stmt.{Stmt}
 use Rattle.lisa_tree.specs.Statements.{StmtTrees, stmt_tree, stmt_trees, stmt_depth, stmts_depth}
 use Rattle.lisa_tree.specs.Descriptions as trees
 use Rattle.lisa_tree.specs.Descriptions.{SectionTree, OperationTree, DescriptionTree, description_depth, sections_depth, operations_depth}
-use Rattle.description_names.specs.Operations.{sections_at, behavior_in}
+use Rattle.lisa_tree.specs.Operations.{sections_at, behavior_in}
 use Rattle.behavior_runs.specs.Rooms.{all_locals, most_locals, sections_locals, operations_locals}
 
 abbrev pub work : DescriptionTree → ℕ → ℕ → ℕ → ℕ

@@ -1,8 +1,8 @@
 //! The values of resources and of what an expression names.
 
 ghost use Rattle.std.specs.Prelude.{◌≡◌, ◌≤◌, ◌<◌, ◌^◌, IfSome, is_some, option_map, slice_get, slice_index_or};
-ghost use Rattle.description_names.specs.Resources.{stage_at};
-ghost use Rattle.description_names.specs.Operations.{own_stage};
+ghost use Rattle.lisa_tree.specs.Resources.{stage_at};
+ghost use Rattle.lisa_tree.specs.Operations.{own_stage};
 ghost use Rattle.lisa_engine.specs.declared.parts.ArrayItem.{ArrayItem};
 ghost use Rattle.machine_parts.specs.Parts.{arrays_of};
 ghost use Rattle.typed_values.specs.Words.{truth, typed_word};
@@ -15,8 +15,7 @@ ghost use Rattle.scene_paths.specs.Sights.{form_of, scene_at};
 ghost use Rattle.behavior_runs.specs.Views.{view_tree, moment_seen, named_value};
 
 use crate::view::{Named, View};
-use description_names::{Meaning, What};
-use lisa_tree::{BoundaryField, Resource, Shape};
+use lisa_tree::{BoundaryField, Meaning, Resource, Shape, What};
 use lisa_words::{Name, Word};
 use scene_paths::{Array, Part, Path, home};
 use typed_values::Value;

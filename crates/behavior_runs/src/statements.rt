@@ -3,8 +3,8 @@ ghost use Rattle.std.specs.Prelude.{◌≡◌, ◌<◌, ◌≤◌, ◌+◌, leng
 ghost use Rattle.lisa_tree.specs.Expressions.{expr_tree};
 ghost use Rattle.lisa_tree.specs.Statements.{head_tree, stmt_tree, stmt_trees, stmt_depth, stmts_depth};
 ghost use Rattle.lisa_tree.specs.Descriptions.{description_depth, description_tree};
-ghost use Rattle.description_names.specs.Resources.{stage_at};
-ghost use Rattle.description_names.specs.Operations.{sections_at, behavior_in};
+ghost use Rattle.lisa_tree.specs.Resources.{stage_at};
+ghost use Rattle.lisa_tree.specs.Operations.{sections_at, behavior_in};
 ghost use Rattle.description_places.specs.Literals.{literal};
 ghost use Rattle.shape_checks.specs.Bounds.{turns};
 ghost use Rattle.typed_values.specs.Words.{typed_word};
@@ -20,9 +20,8 @@ ghost use Rattle.behavior_runs.specs.Running.{doing_within, HasRoom};
 
 use crate::evaluation::evaluate;
 use crate::targets::put;
-use description_names::behavior;
 use lisa_machine::Machine;
-use lisa_tree::{Expr, ForHead, Shape, Stmt};
+use lisa_tree::{Expr, ForHead, Shape, Stmt, behavior};
 use lisa_words::{Kind, Name};
 use moment_stores::Store;
 use scene_paths::{Path, Sight, child, home};

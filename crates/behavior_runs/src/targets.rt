@@ -1,8 +1,8 @@
 // Places that are assigned to.
 ghost use Rattle.std.specs.Prelude.{◌≡◌, ◌≤◌, slice_get};
 ghost use Rattle.lisa_tree.specs.Expressions.{expr_tree};
-ghost use Rattle.description_names.specs.Operations.{own_stage};
-ghost use Rattle.description_names.specs.Meanings.{meaning};
+ghost use Rattle.lisa_tree.specs.Operations.{own_stage};
+ghost use Rattle.lisa_tree.specs.Meanings.{meaning};
 ghost use Rattle.typed_values.specs.Effects.{in_kind};
 ghost use Rattle.lisa_meaning.specs.Scenes.{running};
 ghost use Rattle.lisa_meaning.specs.Values.{field_place, named_array, value_of};
@@ -14,8 +14,7 @@ ghost use Rattle.behavior_runs.specs.Running.{put_below_within};
 
 use crate::evaluation::evaluate;
 use crate::registers::register_at;
-use description_names::Meaning;
-use lisa_tree::{Expr, Shape};
+use lisa_tree::{Expr, Meaning, Shape};
 use lisa_words::{Name, Word};
 use moment_stores::Store;
 use scene_paths::{Path, Sight, child, home};

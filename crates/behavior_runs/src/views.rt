@@ -2,7 +2,7 @@
 
 ghost use Rattle.std.specs.Prelude.{◌≡◌, option_map};
 ghost use Rattle.std.specs.Map.{lookup};
-ghost use Rattle.description_names.specs.Same.{same_name};
+ghost use Rattle.lisa_tree.specs.Same.{same_name};
 ghost use Rattle.typed_values.specs.Words.{typed_word};
 ghost use Rattle.lisa_meaning.specs.Moments.{bare};
 ghost use Rattle.moment_stores.specs.Stores.{description_of, moment_of};

@@ -4,7 +4,7 @@ use Rattle.std.proofs.Math.Path.{fun_ext}
 use Rattle.std.proofs.lemmas.Option.{same_Some}
 use Rattle.lisa_tree.specs.declared.faults.DescFault.{DescFault}
 use Rattle.lisa_tree.specs.Descriptions.{DescriptionTree}
-use Rattle.description_names.specs.Paths.{choice_node}
+use Rattle.lisa_tree.specs.Paths.{choice_node}
 use Rattle.description_places.specs.Places.{first, description_places}
 use Rattle.coding_checks.specs.Widths.{width_step, AreWidths}
 use Rattle.coding_checks.specs.Steady.{widths_monotone}

@@ -8,11 +8,11 @@ use Rattle.pattern_tables.specs.Overlaps.{AnswersOverlap, AnswersUncovered}
 use Rattle.pattern_tables.specs.declared.overlaps.Overlap.{Overlap}
 use Rattle.form_patterns.specs.Instructions.{instruction_frames, instruction_plain}
 use Rattle.lisa_forms.specs.Verdicts.{HasForms, IsFirstFormFault}
-use Rattle.lisa_coding.specs.Verdicts.{overlap, not_an_alias, IsOverlapVerdict, IsUncoveredVerdict}
+use Rattle.lisa_forms.specs.Coverage.{overlap, not_an_alias, IsOverlapVerdict, IsUncoveredVerdict}
 use Rattle.lisa_syntax.specs.Texts.{IsAmbiguityVerdict}
 use Rattle.checked_descriptions.specs.Instructions.{from_aliases, from_ambiguities, from_overlaps, HasInstructions, IsFirstInstructionFault}
 use Rattle.checked_descriptions.proofs.FormVerdicts.{no_fault_in_forms}
-use Rattle.lisa_forms.proofs.Steps.{Refusal}
+use Rattle.lisa_forms.proofs.Walking.{Refusal}
 
 none_is_no_some : {T : Type 0} (t : T) → None ≡ Some t → ⊥
 none_is_no_some t e = cc

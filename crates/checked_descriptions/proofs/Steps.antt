@@ -2,7 +2,7 @@
 use Rattle.std.proofs.Common.{◌≡◌, Option, None, Result, Ok, Err, IfOk, IfErr, refl, sym, subst}
 use Rattle.lisa_tree.specs.declared.faults.DescFault.{DescFault}
 use Rattle.lisa_machine.specs.Verdicts.{before, nothing}
-use Rattle.lisa_forms.proofs.Steps.{past, Refusal, refused_here}
+use Rattle.lisa_forms.proofs.Walking.{past, Refusal, refused_here}
 
 pub ok_last : {X : Type 0} (verdict : Option DescFault → Type 0) (result : Result X DescFault) → IfOk result (λ _. verdict None) → IfOk result (λ _. before verdict nothing None)
 ok_last verdict (Ok x) h = past verdict nothing None h refl

@@ -31,13 +31,13 @@ use Rattle.checked_descriptions.proofs.InstructionVerdicts.{no_fault_in_instruct
 
 -- ---- a description is checked, or has a first fault, not both
 
-no_fault_in_checked : (d : DescriptionTree) (f : DescFault) (c : Checked) → IsChecked d c → IsFirstOfAll d f → ⊥
+pub no_fault_in_checked : (d : DescriptionTree) (f : DescFault) (c : Checked) → IsChecked d c → IsFirstOfAll d f → ⊥
 no_fault_in_checked d f c is broken = ⊎_elim (λ h. no_fault_in_accepted d f is.accepted h) (λ h. no_fault_in_instructions d f is.instructions h.1) broken
 
 same_checked : (a b : Checked) → a.tree ≡ b.tree → a.width ≡ b.width → a ≡ b
 same_checked a b tree width = λ i. record { tree = tree i; width = width i }
 
-one_checked : (d : DescriptionTree) (a b : Checked) → IsChecked d a → IsChecked d b → a ≡ b
+pub one_checked : (d : DescriptionTree) (a b : Checked) → IsChecked d a → IsChecked d b → a ≡ b
 one_checked d a b x y = same_checked a b (x.tree ∙ sym y.tree) (one_width d a.width b.width x.width y.width)
 
 -- ---- its tools

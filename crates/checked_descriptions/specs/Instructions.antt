@@ -4,7 +4,7 @@ use Rattle.lisa_tree.specs.declared.faults.DescFault.{DescFault}
 use Rattle.lisa_tree.specs.Descriptions.{DescriptionTree}
 use Rattle.lisa_machine.specs.Verdicts.{Verdict, before, nothing}
 use Rattle.lisa_forms.specs.Verdicts.{HasForms, IsFirstFormFault}
-use Rattle.lisa_coding.specs.Verdicts.{IsOverlapVerdict, IsUncoveredVerdict}
+use Rattle.lisa_forms.specs.Coverage.{IsOverlapVerdict, IsUncoveredVerdict}
 use Rattle.lisa_syntax.specs.Texts.{IsAmbiguityVerdict}
 
 -- ---- the conditions on forms, the last one first, each with those behind it

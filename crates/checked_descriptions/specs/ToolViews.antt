@@ -2,7 +2,7 @@
 use Rattle.lisa_tree.specs.Descriptions.{description_tree}
 use Rattle.lisa_machine.specs.Verdicts.{IsAccepted}
 use Rattle.lisa_forms.specs.Parts.{AreFormsOf}
-use Rattle.lisa_coding.specs.Parts.{IsCodingOf}
+use Rattle.lisa_forms.specs.Codings.{IsCodingOf}
 use Rattle.lisa_syntax.specs.Parts.{IsSyntaxOf}
 use Rattle.checked_descriptions.specs.declared.tools.Tools.{Tools}
 use Rattle.checked_descriptions.specs.Checked.{Checked}

@@ -4,9 +4,11 @@
 #![tactic(auto)]
 
 mod images;
+mod laws;
 mod reading;
 mod tools;
 
 pub use images::image_for;
+pub use laws::checks_are_unique;
 pub use reading::description_of;
 pub use tools::{Tools, tools_of};

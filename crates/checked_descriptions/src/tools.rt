@@ -6,8 +6,8 @@ ghost use Rattle.lisa_machine.specs.Machines.{IsSpelled};
 ghost use Rattle.lisa_machine.specs.Verdicts.{IsAccepted};
 ghost use Rattle.lisa_forms.specs.Parts.{AreFormsOf};
 ghost use Rattle.lisa_forms.specs.Verdicts.{HasForms};
-ghost use Rattle.lisa_coding.specs.Parts.{IsCodingOf};
-ghost use Rattle.lisa_coding.specs.Verdicts.{IsOverlapVerdict};
+ghost use Rattle.lisa_forms.specs.Codings.{IsCodingOf};
+ghost use Rattle.lisa_forms.specs.Coverage.{IsOverlapVerdict};
 ghost use Rattle.lisa_syntax.specs.Parts.{IsSyntaxOf};
 ghost use Rattle.lisa_outcomes.specs.Stages.{Finds};
 ghost use Rattle.checked_descriptions.specs.Checked.{IsChecked, IsFaulty, IsFirstOfAll};
@@ -15,8 +15,7 @@ ghost use Rattle.checked_descriptions.specs.Instructions.{from_aliases, from_amb
 ghost use Rattle.checked_descriptions.specs.ToolViews.{checked_of, AreTools};
 
 use crate::reading::unread;
-use lisa_coding::Coding;
-use lisa_forms::Forms;
+use lisa_forms::{Coding, Forms};
 use lisa_machine::{Machine, check};
 use lisa_outcomes::End;
 use lisa_syntax::Syntax;

@@ -13,7 +13,7 @@ use Rattle.lisa_tree.specs.declared.descriptions.SyntaxPart.{SyntaxPart}
 use Rattle.lisa_tree.specs.declared.descriptions.SyntaxPart.TheVariants as parts
 use Rattle.lisa_tree.specs.Descriptions as trees
 use Rattle.lisa_tree.specs.Descriptions.{CodingTree}
-use Rattle.description_names.specs.Same.{same_name}
+use Rattle.lisa_tree.specs.Same.{same_name}
 
 -- a value, where two names are the same
 abbrev pub if_same : {V : Type 0} → List ℕ → List ℕ → V → Option V

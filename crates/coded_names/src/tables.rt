@@ -6,14 +6,13 @@ ghost use Rattle.std.specs.Prelude.{◌≡◌, IfOk, OnOk, List, ℕ, Some, None
 ghost use Rattle.std.specs.Option.{option_or};
 ghost use Rattle.indexmap.specs.IndexMap.{get};
 ghost use Rattle.lisa_tree.specs.Descriptions.{coding_tree, section_tree};
-ghost use Rattle.description_names.specs.Same.{same_name};
-ghost use Rattle.description_names.specs.Operations.{coding_in, syntax_in};
+ghost use Rattle.lisa_tree.specs.Same.{same_name};
+ghost use Rattle.lisa_tree.specs.Operations.{coding_in, syntax_in};
 ghost use Rattle.coded_names.specs.Codings.{if_same, item_width, items_width, field_width, part_kind, parts_kind, number_kind, item_child, items_child, coded_child, in_coding};
 
 use crate::codings::{format_kind, pattern_width};
-use description_names::{coding, syntax};
 use indexmap::IndexMap;
-use lisa_tree::{CodingItem, CodingPart, Section, SyntaxItem, SyntaxPart};
+use lisa_tree::{CodingItem, CodingPart, Section, SyntaxItem, SyntaxPart, coding, syntax};
 use lisa_words::{Kind, Name, NoMemory};
 use std::alloc::{AllocError, Global};
 

@@ -5,8 +5,8 @@ use Rattle.std.proofs.lemmas.List.{get_or_past}
 use Rattle.std.proofs.lemmas.Option.{slice_get_past}
 use Rattle.std.proofs.lemmas.Grind.{common_steps}
 use Rattle.lisa_tree.specs.Descriptions.{DescriptionTree}
-use Rattle.description_names.specs.Operations.{sections_at}
-use Rattle.description_names.specs.Declarations.{choices, entries, owner_at, what_at, entry_name_at, alternatives_at}
+use Rattle.lisa_tree.specs.Operations.{sections_at}
+use Rattle.lisa_tree.specs.Declarations.{choices, entries, owner_at, what_at, entry_name_at, alternatives_at}
 use Rattle.coding_checks.specs.Uneven.{is_uneven}
 use Rattle.coding_checks.specs.Written.{no_writing, writing_in, writing_at}
 

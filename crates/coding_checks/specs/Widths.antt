@@ -5,11 +5,11 @@ use Rattle.lisa_tree.specs.declared.descriptions.CodingItem.{CodingItem}
 use Rattle.lisa_tree.specs.declared.descriptions.CodingItem.TheVariants as items
 use Rattle.lisa_tree.specs.Descriptions as trees
 use Rattle.lisa_tree.specs.Descriptions.{CodingTree, DescriptionTree}
-use Rattle.description_names.specs.declared.declared.What.{What}
-use Rattle.description_names.specs.declared.declared.What.TheVariants as whats
-use Rattle.description_names.specs.Operations.{coding_in, sections_at}
-use Rattle.description_names.specs.Declarations.{declared_at, what_at, alternatives_at}
-use Rattle.description_names.specs.Paths.{Node, Operation, Choosing, Declaring, node_at, choice_node}
+use Rattle.lisa_tree.specs.declared.declared.What.{What}
+use Rattle.lisa_tree.specs.declared.declared.What.TheVariants as whats
+use Rattle.lisa_tree.specs.Operations.{coding_in, sections_at}
+use Rattle.lisa_tree.specs.Declarations.{declared_at, what_at, alternatives_at}
+use Rattle.lisa_tree.specs.Paths.{Node, Operation, Choosing, Declaring, node_at, choice_node}
 use Rattle.coded_names.specs.Codings.{pattern_width}
 use Rattle.least_fixed_points.specs.Settles.{Settles}
 

@@ -12,9 +12,8 @@ use crate::group_widths::GroupWidths;
 use crate::not_written::NotWritten;
 use crate::widths::Widths;
 use crate::writings::writings;
-use description_names::Names;
 use description_places::first_fault;
-use lisa_tree::DescFault;
+use lisa_tree::{DescFault, Names};
 use lisa_words::NoMemory;
 use std::alloc::Global;
 

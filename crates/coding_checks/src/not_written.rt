@@ -5,10 +5,9 @@ ghost use Rattle.coding_checks.specs.Written.{AreWritings, unwritten_fault, not_
 
 use crate::values::Writing;
 use crate::writings::writing_named;
-use description_names::Names;
 use description_places::{Condition, Region, Scope, Site};
 use description_types::operation_name;
-use lisa_tree::DescFault;
+use lisa_tree::{DescFault, Names};
 use lisa_words::{Name, NoMemory};
 use std::alloc::Global;
 

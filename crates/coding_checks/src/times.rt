@@ -3,15 +3,14 @@
 ghost use Rattle.std.specs.Prelude.{◌≡◌, IfOk, OnOk, List, ℕ, sum_by, map, option_map};
 ghost use Rattle.indexmap.specs.IndexMap.{get};
 ghost use Rattle.lisa_tree.specs.Descriptions.{coding_tree, section_tree};
-ghost use Rattle.description_names.specs.Same.{same_name};
-ghost use Rattle.description_names.specs.Operations.{coding_in, syntax_in};
+ghost use Rattle.lisa_tree.specs.Same.{same_name};
+ghost use Rattle.lisa_tree.specs.Operations.{coding_in, syntax_in};
 ghost use Rattle.coding_checks.specs.Written.{is_coded, is_shown, item_count, part_count, coded_count, shown_count, times_for, again, more_times, is_once, is_written};
 
 use crate::values::Times;
 use coded_names::CodedNames;
-use description_names::{coding, syntax};
 use indexmap::IndexMap;
-use lisa_tree::{CodingItem, CodingPart, Section, SyntaxItem, SyntaxPart};
+use lisa_tree::{CodingItem, CodingPart, Section, SyntaxItem, SyntaxPart, coding, syntax};
 use lisa_words::{Name, NoMemory};
 use std::alloc::{AllocError, Global};
 

@@ -2,14 +2,14 @@
 
 ghost use Rattle.std.specs.Prelude.{◌≡◌, IfOk, Option, option_copied, map, get_or};
 ghost use Rattle.lisa_tree.specs.Descriptions.{section_tree};
-ghost use Rattle.description_names.specs.Operations.{sections_at};
+ghost use Rattle.lisa_tree.specs.Operations.{sections_at};
 ghost use Rattle.coding_checks.specs.Written.{is_to_write, no_writing, writing_in, writing_named, AreWritings};
 
 use crate::times::WrittenNames;
 use crate::values::Writing;
 use coded_names::is_coding;
-use description_names::{Names, What, coding};
 use description_types::sections;
+use lisa_tree::{Names, What, coding};
 use lisa_words::{Name, NoMemory};
 use std::alloc::Global;
 

@@ -1,8 +1,8 @@
 -- No instruction tree is deeper than there are operations, and no form is listed twice.
 use Rattle.std.proofs.Common.{◌≤◌, ◌+◌, ℕ, suc, List, [], ◌∷◌, Option, None, Some, length, sym, arith, subst}
 use Rattle.lisa_tree.specs.Descriptions.{DescriptionTree}
-use Rattle.description_names.specs.Declarations.{alternatives_at}
-use Rattle.description_names.specs.Paths.{node_count}
+use Rattle.lisa_tree.specs.Declarations.{alternatives_at}
+use Rattle.lisa_tree.specs.Paths.{node_count}
 use Rattle.description_graph.specs.Circles.{IsFirstCircularOperation}
 use Rattle.description_graph.proofs.Nodes.{alternatives_below}
 use Rattle.coding_checks.specs.Widths.{choice_named}

@@ -4,7 +4,7 @@ use Rattle.std.specs.List.{flat_map}
 use Rattle.std.specs.Prelude.{slice_get}
 use Rattle.std.proofs.lemmas.Option.{slice_get_within}
 use Rattle.lisa_tree.specs.Descriptions.{OperationTree, DescriptionTree}
-use Rattle.description_names.specs.Paths.{node_count}
+use Rattle.lisa_tree.specs.Paths.{node_count}
 use Rattle.description_graph.specs.Circles.{IsFirstCircularOperation}
 use Rattle.instruction_trees.specs.Trees.{Item, Fixed, Free, Field, Child, Table, coding, Pass, Value, Choose, Form, In, here, there}
 use Rattle.instruction_trees.specs.Forms.{listed, forms}

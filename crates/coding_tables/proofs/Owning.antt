@@ -8,11 +8,11 @@ use Rattle.std.proofs.lemmas.List.{length-append}
 use Rattle.std.proofs.lemmas.List.Quantifiers.{position-Some}
 use Rattle.lisa_tree.specs.Descriptions as trees
 use Rattle.lisa_tree.specs.Descriptions.{DeclareTree, OperationTree, DescriptionTree}
-use Rattle.description_names.specs.declared.declared.What.{What}
-use Rattle.description_names.specs.declared.declared.What.TheVariants as whats
-use Rattle.description_names.specs.Same.{same_name}
-use Rattle.description_names.specs.Operations.{declares_in}
-use Rattle.description_names.specs.Declarations.{Entry, Choice, entry, choice, instances, choices_of, entries_of, choices_in, entries_in, choices_from, entries_from, choices, entries, declared_at}
+use Rattle.lisa_tree.specs.declared.declared.What.{What}
+use Rattle.lisa_tree.specs.declared.declared.What.TheVariants as whats
+use Rattle.lisa_tree.specs.Same.{same_name}
+use Rattle.lisa_tree.specs.Operations.{declares_in}
+use Rattle.lisa_tree.specs.Declarations.{Entry, Choice, entry, choice, instances, choices_of, entries_of, choices_in, entries_in, choices_from, entries_from, choices, entries, declared_at}
 use Rattle.coding_checks.specs.Widths.{choice_of, choice_named}
 
 -- there is a choice of this number, and it belongs to the operation

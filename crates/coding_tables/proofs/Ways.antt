@@ -8,9 +8,9 @@ use Rattle.lisa_tree.specs.declared.descriptions.CodingItem.{CodingItem}
 use Rattle.lisa_tree.specs.declared.descriptions.CodingItem.TheVariants as items
 use Rattle.lisa_tree.specs.Descriptions as trees
 use Rattle.lisa_tree.specs.Descriptions.{CodingTree, DescriptionTree}
-use Rattle.description_names.specs.Operations.{coding_in, sections_at}
-use Rattle.description_names.specs.Declarations.{Choice, choices, alternatives_at}
-use Rattle.description_names.specs.Paths.{Operation, Choosing, leads}
+use Rattle.lisa_tree.specs.Operations.{coding_in, sections_at}
+use Rattle.lisa_tree.specs.Declarations.{Choice, choices, alternatives_at}
+use Rattle.lisa_tree.specs.Paths.{Operation, Choosing, leads}
 use Rattle.graph_paths.specs.Paths.{is_in}
 use Rattle.description_graph.specs.Circles.{Reaches, edge, more, IsFirstCircularOperation}
 use Rattle.description_graph.proofs.Nodes.{alternatives_below}

@@ -3,9 +3,9 @@ use Rattle.std.specs.Prelude.{ℕ, zero, suc, ◌+◌, ◌*◌, ◌≡◌, ◌<�
 use Rattle.std.specs.Option.{option_or}
 use Rattle.lisa_tree.specs.Descriptions as trees
 use Rattle.lisa_tree.specs.Descriptions.{CodingTree, DescriptionTree}
-use Rattle.description_names.specs.Operations.{coding_in, sections_at}
-use Rattle.description_names.specs.Declarations.{choices, alternatives_at}
-use Rattle.description_names.specs.Paths.{node_count, choice_node}
+use Rattle.lisa_tree.specs.Operations.{coding_in, sections_at}
+use Rattle.lisa_tree.specs.Declarations.{choices, alternatives_at}
+use Rattle.lisa_tree.specs.Paths.{node_count, choice_node}
 use Rattle.instruction_trees.specs.Trees.{Item, Fixed, Free, Field, Child, Form, coding, instructions}
 use Rattle.instruction_trees.specs.Forms.{forms}
 use Rattle.coding_checks.specs.Widths.{choice_named, capped}

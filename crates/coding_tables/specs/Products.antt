@@ -4,9 +4,9 @@ use Rattle.lisa_tree.specs.declared.descriptions.CodingItem.{CodingItem}
 use Rattle.lisa_tree.specs.declared.descriptions.CodingItem.TheVariants as items
 use Rattle.lisa_tree.specs.Descriptions as trees
 use Rattle.lisa_tree.specs.Descriptions.{CodingTree, DescriptionTree}
-use Rattle.description_names.specs.Operations.{coding_in, sections_at}
-use Rattle.description_names.specs.Declarations.{choices, alternatives_at}
-use Rattle.description_names.specs.Paths.{Node, Operation, Choosing, Declaring, node_at, choice_node}
+use Rattle.lisa_tree.specs.Operations.{coding_in, sections_at}
+use Rattle.lisa_tree.specs.Declarations.{choices, alternatives_at}
+use Rattle.lisa_tree.specs.Paths.{Node, Operation, Choosing, Declaring, node_at, choice_node}
 use Rattle.least_fixed_points.specs.Settles.{IsWithin, IsMonotone}
 use Rattle.description_types.specs.Larger.{Less, none_less, same_less, within_less}
 use Rattle.coding_checks.specs.Widths.{choice_named, added, capped}

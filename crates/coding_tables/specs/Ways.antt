@@ -2,7 +2,7 @@
 use Rattle.std.specs.Prelude.{ℕ, ◌≡◌, ◌<◌, ◌≤◌, ◌+◌, true, List, ◌∷◌, nat_eq, length}
 use Rattle.std.specs.List.{IsDistinct}
 use Rattle.lisa_tree.specs.Descriptions.{DescriptionTree}
-use Rattle.description_names.specs.Paths.{Operation}
+use Rattle.lisa_tree.specs.Paths.{Operation}
 use Rattle.graph_paths.specs.Paths.{is_in}
 use Rattle.description_graph.specs.Circles.{Reaches}
 

@@ -1,8 +1,8 @@
 //! How many forms there are, by sums and products over operations: nothing is listed.
 
 ghost use Rattle.std.specs.Prelude.{◌≡◌, ℕ, List, Option, Some, None, IfOk, unwrap_or};
-ghost use Rattle.description_names.specs.Operations.{coding_in, sections_at};
-ghost use Rattle.description_names.specs.Paths.{choice_node};
+ghost use Rattle.lisa_tree.specs.Operations.{coding_in, sections_at};
+ghost use Rattle.lisa_tree.specs.Paths.{choice_node};
 ghost use Rattle.description_graph.specs.Circles.{IsFirstCircularOperation};
 ghost use Rattle.least_fixed_points.specs.Settles.{entry};
 ghost use Rattle.coding_checks.specs.Widths.{added, capped};
@@ -11,11 +11,10 @@ ghost use Rattle.coding_tables.specs.Products.{times, summed, item_forms, items_
 
 use crate::roots::{choice_named, instruction_choice};
 use description_graph::edges;
-use description_names::{Names, coding};
 use description_types::{known_choice, known_operation, operation_count, sections};
 use graph_paths::order;
 use least_fixed_points::{Rule, settle_along};
-use lisa_tree::{CodingItem, CodingPart};
+use lisa_tree::{CodingItem, CodingPart, Names, coding};
 use lisa_words::NoMemory;
 use std::alloc::Global;
 use std::marker::Model;

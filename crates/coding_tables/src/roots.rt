@@ -1,13 +1,12 @@
 //! The group of all instructions.
 
 ghost use Rattle.std.specs.Prelude.{◌≡◌, option_map};
-ghost use Rattle.description_names.specs.Operations.{coding_in, sections_at};
+ghost use Rattle.lisa_tree.specs.Operations.{coding_in, sections_at};
 ghost use Rattle.coding_checks.specs.Widths.{choice_of, choice_named};
 ghost use Rattle.coding_tables.specs.Instructions.{root_group, instruction_choice};
 
-use description_names::{Names, What, coding};
 use description_types::{operation_count, sections};
-use lisa_tree::CodingPart;
+use lisa_tree::{CodingPart, Names, What, coding};
 use lisa_words::Name;
 
 fn choice_of(what: Option<What>) -> Option<usize>

@@ -11,6 +11,25 @@ const COUNTER: &[u8] =
 const MODULE: &[u8] =
     b"module t (input clk); reg [7:0] n; initial n = 8'd5; always @(posedge clk) n <= n + 8'd1; endmodule\n";
 
+// Two instructions, a source with both, its object and image, and a module that has the memory of a program.
+const MACHINE: &[u8] =
+    b"RESOURCE { REGISTER uint4 pc; REGISTER uint8 ir; REGISTER uint8 n; PROGRAM_MEMORY uint8 m[16]; }
+OPERATION main { DECLARE { INSTANCE step; } BEHAVIOR { ir = m[pc]; pc = pc + 1; } ACTIVATION { step } }
+OPERATION step { DECLARE { GROUP i = { add || nop }; } CODING { ir == i } ACTIVATION { i } }
+OPERATION add { DECLARE { LABEL k; } CODING { 0b1 k=0bx[7] } SYNTAX { \"ADD\" k=#U } BEHAVIOR { n = n + k; } }
+OPERATION nop { CODING { 0b0 0bx[7] } SYNTAX { \"NOP\" } }
+";
+
+const SOURCE: &[u8] = b".section m\nADD 5\nNOP\n";
+
+const OBJECT: &[u8] =
+    b"object 1 24492fff91fe75666938538b387552847f1e3a282ce3eb382685088f727e50ac\nsection m 8\ncell 85\ncell 0\nend\n";
+
+const IMAGE: &[u8] =
+    b"image 1 24492fff91fe75666938538b387552847f1e3a282ce3eb382685088f727e50ac\nmemory m 8 16 2\n85\n0\nend\n";
+
+const STORE: &[u8] = b"module t (input clk); reg [7:0] m [0:15]; endmodule\n";
+
 const LINES: &[u8] = b"step 5\nshow n\n";
 
 // The words that are asked, the numbers of the calls that fail of files, the input, the output and what is said, and what is to come: the
@@ -31,15 +50,24 @@ fn file(alloc: Global, name: &str, bytes: &[u8]) -> Result<MemFile, Fail> {
     Ok(MemFile::new(String::from_str(alloc, name)?, bytes.to_vec(alloc)?))
 }
 
-// The description is the file D, and the module V.
+// The counter is the file D as a description and V as a module, the two instructions P, the module with their memory M, the source S, its
+// object O and its image J.
 fn files(alloc: Global, failing: &[u64]) -> Result<MemFiles, Fail> {
-    let all = vec![in alloc; file(alloc, "D", COUNTER)?, file(alloc, "V", MODULE)?]?;
+    let all = vec![in alloc;
+        file(alloc, "D", COUNTER)?,
+        file(alloc, "V", MODULE)?,
+        file(alloc, "P", MACHINE)?,
+        file(alloc, "M", STORE)?,
+        file(alloc, "S", SOURCE)?,
+        file(alloc, "O", OBJECT)?,
+        file(alloc, "J", IMAGE)?,
+    ]?;
     Ok(MemFiles::new(all, failing.to_vec(alloc)?))
 }
 
 // A sink that takes at most 8 bytes at once.
 fn sink(alloc: Global, failing: &[u64]) -> Result<MemSink, Fail> {
-    Ok(MemSink::new(vec![in alloc; 0; 400]?, 8, failing.to_vec(alloc)?))
+    Ok(MemSink::new(vec![in alloc; 0; 4096]?, 8, failing.to_vec(alloc)?))
 }
 
 fn word(status: Status) -> &'static str {
@@ -106,6 +134,24 @@ fn nothing_fails(rt: HostRuntime) -> Result<(), Fail> {
             "refused",
             b"",
             b"lisa: description 1 BadByte at=48\n",
+        ),
+        ("asm P S", NONE, "done", OBJECT, b""),
+        ("link P O", NONE, "done", IMAGE, b""),
+        ("dis P J", NONE, "done", SOURCE, b""),
+        ("gen P 7 0", NONE, "done", b".section m\n", b""),
+        (
+            "gen D 7 0",
+            NONE,
+            "refused",
+            b"",
+            b"lisa: program 1 NoProgram\n",
+        ),
+        (
+            "soak P V 7 4 3",
+            NONE,
+            "refused",
+            b"",
+            b"lisa: image 3 NoSuchMemory name=m\n",
         ),
     ];
     for case in cases {
@@ -244,7 +290,7 @@ fn fails_well(alloc: Global, asked: &str, whole: &Seen, call: u64) -> Result<boo
 }
 
 // The words of each command that is built, with what is given and with what is refused.
-const COMMANDS: [&str; 17] = [
+const COMMANDS: [&str; 31] = [
     "",
     "fmt D",
     "fmt V",
@@ -262,6 +308,20 @@ const COMMANDS: [&str; 17] = [
     "clock V D - 2",
     "clocktrace V - D 2",
     "vdebug V - -",
+    "asm P S",
+    "asm P D",
+    "link P O O",
+    "link P D",
+    "dis P J",
+    "dis D J",
+    "verilog D",
+    "verilog V",
+    "gen P 7 4",
+    "gen D 7 4",
+    "soak P M 7 4 3",
+    "soak P M 7 17 3",
+    "soak P V 7 4 3",
+    "soak P D 7 4 3",
 ];
 
 #[test]

@@ -7,9 +7,9 @@ use Rattle.std.proofs.lemmas.Bool.{or_cases, eqb-true, and_parts, eq-eqb}
 use Rattle.std.proofs.lemmas.List.Folds.{list_any-append}
 use Rattle.graph_paths.specs.Paths.{is_in, IsAcyclic}
 use Rattle.lisa_tree.specs.Descriptions.{DescriptionTree}
-use Rattle.description_names.specs.Operations.{numbers_of, is_alias}
-use Rattle.description_names.specs.Declarations.{Entry, Choice, entries, choices, listings, above_in, above, owner_at, declared_at}
-use Rattle.description_names.specs.Paths.{Node, Operation, Choosing, Declaring, refers, node_at, leads}
+use Rattle.lisa_tree.specs.Operations.{numbers_of, is_alias}
+use Rattle.lisa_tree.specs.Declarations.{Entry, Choice, entries, choices, listings, above_in, above, owner_at, declared_at}
+use Rattle.lisa_tree.specs.Paths.{Node, Operation, Choosing, Declaring, refers, node_at, leads}
 use Rattle.description_graph.specs.Graph.{IsGraph, is_at}
 use Rattle.description_graph.specs.Circles.{Reaches, edge, more, IsFirstCircularOperation}
 use Rattle.description_graph.proofs.Hits.{found, at_is}

@@ -10,8 +10,8 @@ use Rattle.std.proofs.lemmas.Option.{slice_get_within, get_or_from_slice_get}
 use Rattle.std.proofs.lemmas.List.Quantifiers.{position-Some}
 use Rattle.graph_paths.specs.Paths.{targets, is_in}
 use Rattle.lisa_tree.specs.Descriptions.{DescriptionTree}
-use Rattle.description_names.specs.Same.{same_name}
-use Rattle.description_names.specs.Declarations.{Entry, entries, owner_at, entry_name_at, declared_at}
+use Rattle.lisa_tree.specs.Same.{same_name}
+use Rattle.lisa_tree.specs.Declarations.{Entry, entries, owner_at, entry_name_at, declared_at}
 use Rattle.description_graph.specs.Graph.{ranged, is_at, is_first, first_in, hits, means}
 use Rattle.description_graph.proofs.Numbered.{read_entry, ranged_high, entry_owner}
 

@@ -8,11 +8,11 @@ use Rattle.std.proofs.lemmas.Bool.Decides.{nat_tests}
 use Rattle.std.proofs.lemmas.Option.{same_Some}
 use Rattle.graph_paths.specs.Paths.{is_in}
 use Rattle.lisa_tree.specs.Descriptions.{DescriptionTree}
-use Rattle.description_names.specs.Same.{same_name}
-use Rattle.description_names.specs.declared.declared.What.{What}
-use Rattle.description_names.specs.declared.declared.What.TheVariants as whats
-use Rattle.description_names.specs.Declarations.{Entry, entries, owner_at, entry_name_at, declared_at, above}
-use Rattle.description_names.specs.Paths.{Declaring, refers, leads}
+use Rattle.lisa_tree.specs.Same.{same_name}
+use Rattle.lisa_tree.specs.declared.declared.What.{What}
+use Rattle.lisa_tree.specs.declared.declared.What.TheVariants as whats
+use Rattle.lisa_tree.specs.Declarations.{Entry, entries, owner_at, entry_name_at, declared_at, above}
+use Rattle.lisa_tree.specs.Paths.{Declaring, refers, leads}
 use Rattle.description_graph.specs.Graph.{is_at, is_first, hits, hit_named, means, is_reference_at, shifted, first_entry, to_meanings_of}
 use Rattle.description_graph.proofs.Hits.{found, at_is, is_at-Some, first_named, declared_below, of_name}
 

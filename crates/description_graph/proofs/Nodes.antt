@@ -7,10 +7,10 @@ use Rattle.std.proofs.lemmas.Bool.{or_cases, eqb-true, lt-ltb, le-ltb, ltb-true,
 use Rattle.std.proofs.lemmas.Bool.Decides.{nat_tests}
 use Rattle.graph_paths.specs.Paths.{targets, is_in}
 use Rattle.lisa_tree.specs.Descriptions.{DescriptionTree, OperationTree}
-use Rattle.description_names.specs.Same.{same_name}
-use Rattle.description_names.specs.Operations.{number_of, numbers_of}
-use Rattle.description_names.specs.Declarations.{Choice, entries, choices, alternatives_at}
-use Rattle.description_names.specs.Paths.{Node, Operation, Choosing, Declaring, node_at, node_count, leads}
+use Rattle.lisa_tree.specs.Same.{same_name}
+use Rattle.lisa_tree.specs.Operations.{number_of, numbers_of}
+use Rattle.lisa_tree.specs.Declarations.{Choice, entries, choices, alternatives_at}
+use Rattle.lisa_tree.specs.Paths.{Node, Operation, Choosing, Declaring, node_at, node_count, leads}
 use Rattle.description_graph.specs.Graph.{IsGraph, ranged, first_choice, first_entry, to_choices, to_references, to_alternatives, to_chosen, to_chosen_by, to_meanings, to_meanings_of}
 use Rattle.description_graph.proofs.Numbered.{ranged_low, ranged_high, ranged_at, ranged_off, each_owner, each_reference}
 

@@ -9,11 +9,11 @@ use Rattle.std.proofs.lemmas.Bool.Decides.{nat_tests}
 use Rattle.std.proofs.lemmas.List.Folds.{list_all-append}
 use Rattle.lisa_tree.specs.Descriptions as trees
 use Rattle.lisa_tree.specs.Descriptions.{DescriptionTree, DeclareTree, OperationTree}
-use Rattle.description_names.specs.declared.declared.What.{What}
-use Rattle.description_names.specs.declared.declared.What.TheVariants as whats
-use Rattle.description_names.specs.Operations.{declares_in}
-use Rattle.description_names.specs.Declarations.{Choice, Entry, entry, choice, instances, choices, entries, choices_of, choices_in, choices_from, entries_of, entries_in, entries_from, what_at, owner_at}
-use Rattle.description_names.specs.Paths.{Operation, Choosing, Declaring, refers, chooses, leads}
+use Rattle.lisa_tree.specs.declared.declared.What.{What}
+use Rattle.lisa_tree.specs.declared.declared.What.TheVariants as whats
+use Rattle.lisa_tree.specs.Operations.{declares_in}
+use Rattle.lisa_tree.specs.Declarations.{Choice, Entry, entry, choice, instances, choices, entries, choices_of, choices_in, choices_from, entries_of, entries_in, entries_from, what_at, owner_at}
+use Rattle.lisa_tree.specs.Paths.{Operation, Choosing, Declaring, refers, chooses, leads}
 use Rattle.description_graph.specs.Graph.{owners, ranged, to_choices, to_chosen_by, first_choice}
 
 pub eq_swap : (a b : ℕ) → nat_eq a b ≡ nat_eq b a

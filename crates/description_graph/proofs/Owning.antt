@@ -4,8 +4,8 @@ use Rattle.std.proofs.lemmas.List.{map-append}
 use Rattle.lisa_tree.specs.Descriptions.{declare_tree, operation_tree}
 use Rattle.lisa_tree.specs.declared.descriptions.Declare.{Declare}
 use Rattle.lisa_tree.specs.declared.descriptions.Operation.{Operation}
-use Rattle.description_names.specs.Operations.{declares_in}
-use Rattle.description_names.specs.Declarations.{Choice, choice, choices_of, choices_in, choices_from}
+use Rattle.lisa_tree.specs.Operations.{declares_in}
+use Rattle.lisa_tree.specs.Declarations.{Choice, choice, choices_of, choices_in, choices_from}
 use Rattle.description_graph.specs.Graph.{owners}
 use Rattle.description_graph.proofs.Lists.{one_more}
 

@@ -7,8 +7,8 @@ use Rattle.graph_paths.specs.Paths.{targets, is_in, Leads, AreNodes, IsFirstCirc
 use Rattle.graph_paths.specs.Paths as numbers
 use Rattle.graph_paths.proofs.Long.{within}
 use Rattle.lisa_tree.specs.Descriptions.{DescriptionTree}
-use Rattle.description_names.specs.Declarations.{Entry, Choice, entries, choices}
-use Rattle.description_names.specs.Paths.{Node, Operation, Choosing, Declaring, node_at, node_count, leads}
+use Rattle.lisa_tree.specs.Declarations.{Entry, Choice, entries, choices}
+use Rattle.lisa_tree.specs.Paths.{Node, Operation, Choosing, Declaring, node_at, node_count, leads}
 use Rattle.description_graph.specs.Graph.{IsGraph, first_choice, first_entry}
 use Rattle.description_graph.specs.Circles.{Reaches, edge, more, IsFirstCircularOperation}
 use Rattle.description_graph.proofs.Numbered.{chosen_within}

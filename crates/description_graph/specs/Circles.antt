@@ -1,7 +1,7 @@
 -- Operations that lead back to themselves.
 use Rattle.std.specs.Prelude.{ℕ, ◌≡◌, ◌<◌, true, Option, None, Some, length}
 use Rattle.lisa_tree.specs.Descriptions.{DescriptionTree}
-use Rattle.description_names.specs.Paths.{Node, Operation, leads}
+use Rattle.lisa_tree.specs.Paths.{Node, Operation, leads}
 
 -- a path of one edge or more
 pub data Reaches (d : DescriptionTree) : Node → Node → Type 0 where

@@ -4,8 +4,8 @@ use Rattle.std.specs.List.{list_any}
 use Rattle.std.specs.Global.{Vec}
 use Rattle.lisa_tree.specs.Descriptions.{DescriptionTree}
 use Rattle.graph_paths.specs.Paths.{targets, is_in, AreNodes}
-use Rattle.description_names.specs.Declarations.{Choice, choices, entries, what_at, is_reference, owner_at, entry_name_at, declared_at, alternatives_at, above}
-use Rattle.description_names.specs.Paths.{Operation, Choosing, Declaring, node_at, node_count, leads}
+use Rattle.lisa_tree.specs.Declarations.{Choice, choices, entries, what_at, is_reference, owner_at, entry_name_at, declared_at, alternatives_at, above}
+use Rattle.lisa_tree.specs.Paths.{Operation, Choosing, Declaring, node_at, node_count, leads}
 
 -- next has the edges between all nodes, by their numbers
 pub record IsGraph (d : DescriptionTree) (next : List (Vec ℕ)) : Type 0 where

@@ -6,8 +6,8 @@ ghost use Rattle.description_graph.specs.Graph.{IsGraph};
 
 use crate::graph::edges;
 use crate::owners::operation_count;
-use description_names::Names;
 use graph_paths::first_circular;
+use lisa_tree::Names;
 use std::alloc::{AllocError, Global};
 
 /// The first operation, in source order, that leads to itself by groups, instances and references, where these are the edges.

@@ -8,7 +8,7 @@ use crate::meanings::meanings;
 use crate::owners::{choice_owners, operation_count};
 use crate::references::add_meanings;
 use crate::rows::{add_alternatives, add_choices, add_chosen, add_references};
-use description_names::Names;
+use lisa_tree::Names;
 use std::alloc::{AllocError, Global};
 
 // Adds so many nodes, without edges.

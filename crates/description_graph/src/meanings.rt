@@ -3,12 +3,12 @@
 ghost use Rattle.std.specs.Prelude.{◌≡◌, ◌<◌, ◌||◌, ◌&&◌, ℕ, IfOk, IfSome, OnOk, length, nat_eq, true};
 ghost use Rattle.std.specs.List.{list_any};
 ghost use Rattle.graph_paths.specs.Paths.{targets, is_in};
-ghost use Rattle.description_names.specs.Declarations.{entries, above};
+ghost use Rattle.lisa_tree.specs.Declarations.{entries, above};
 ghost use Rattle.description_graph.specs.Graph.{is_at, is_first, first_in, hits, means};
 
 use crate::owners::operation_count;
-use description_names::Names;
 use graph_paths::{add_edge, no_edges};
+use lisa_tree::Names;
 use std::alloc::{AllocError, Global};
 
 /// A row by its number, which is empty where there is none.

@@ -2,12 +2,11 @@
 
 ghost use Rattle.std.specs.Prelude.{◌≡◌, ◌++◌, ◌∷◌, [], List, ℕ, IfOk, OnOk, length, map};
 ghost use Rattle.lisa_tree.specs.Descriptions.{declare_tree, operation_tree, section_tree};
-ghost use Rattle.description_names.specs.Operations.{declares_in};
-ghost use Rattle.description_names.specs.Declarations.{choice, choices, choices_of, choices_in, choices_from};
+ghost use Rattle.lisa_tree.specs.Operations.{declares_in};
+ghost use Rattle.lisa_tree.specs.Declarations.{choice, choices, choices_of, choices_in, choices_from};
 ghost use Rattle.description_graph.specs.Graph.{owners};
 
-use description_names::{Names, declares};
-use lisa_tree::{Declare, Operation};
+use lisa_tree::{Declare, Names, Operation, declares};
 use lisa_words::Name;
 use std::alloc::{AllocError, Global};
 

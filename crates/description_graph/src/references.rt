@@ -2,14 +2,14 @@
 
 ghost use Rattle.std.specs.Prelude.{◌≡◌, ◌<◌, ◌+◌, ◌^◌, ◌||◌, ◌&&◌, ℕ, OnOk, length, nat_eq, true};
 ghost use Rattle.graph_paths.specs.Paths.{targets, is_in};
-ghost use Rattle.description_names.specs.Declarations.{entries};
-ghost use Rattle.description_names.specs.Paths.{Declaring, node_count, leads};
+ghost use Rattle.lisa_tree.specs.Declarations.{entries};
+ghost use Rattle.lisa_tree.specs.Paths.{Declaring, node_count, leads};
 ghost use Rattle.description_graph.specs.Graph.{first_entry, means, shifted, to_meanings, to_meanings_of};
 
 use crate::meanings::row_at;
 use crate::rows::is_reference;
-use description_names::Names;
 use graph_paths::add_edge;
+use lisa_tree::Names;
 use std::alloc::AllocError;
 
 // What a declared name may mean, if it is a reference.

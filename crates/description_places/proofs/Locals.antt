@@ -9,7 +9,7 @@ use Rattle.lisa_tree.specs.declared.tokens.Shape.{Shape}
 use Rattle.lisa_tree.specs.Statements.{HeadTree, StmtTree, Empty, Block, Assign, If, IfElse, While, For, Call, Stall, Flush, Execute, Shift}
 use Rattle.lisa_tree.specs.Statements as stmts
 use Rattle.description_places.specs.declared.scopes.Local.{Local}
-use Rattle.description_names.specs.Same.{same_name}
+use Rattle.lisa_tree.specs.Same.{same_name}
 use Rattle.description_places.specs.Scopes.{Scope, local_named, entered}
 use Rattle.description_places.specs.Places.{after, with_counted, with_counter}
 

@@ -1,7 +1,7 @@
 -- The locals that are in scope.
 use Rattle.std.specs.Prelude.{ℕ, List, [], ◌∷◌, ◌++◌, Option, None, Some, cond}
 use Rattle.std.specs.Option.{is_some}
-use Rattle.description_names.specs.Same.{same_name}
+use Rattle.lisa_tree.specs.Same.{same_name}
 use Rattle.description_places.specs.declared.scopes.Local.{Local}
 
 -- the locals in scope by their names, the first one that was declared first

@@ -4,14 +4,14 @@ use Rattle.std.specs.List.{list_any, range_with_len}
 use Rattle.std.proofs.lemmas.Bool.{and_from, and_parts, or_cases, or_left, or_right}
 use Rattle.lisa_tree.specs.Descriptions.{DescriptionTree}
 use Rattle.graph_paths.specs.Paths.{is_in}
-use Rattle.description_names.specs.declared.declared.What.TheVariants as whats
-use Rattle.description_names.specs.Operations.{is_alias}
-use Rattle.description_names.specs.Declarations.{choices, entries, what_at, alternatives_at, plain_at}
-use Rattle.description_names.specs.Paths.{Operation, Choosing, Declaring, leads}
+use Rattle.lisa_tree.specs.declared.declared.What.TheVariants as whats
+use Rattle.lisa_tree.specs.Operations.{is_alias}
+use Rattle.lisa_tree.specs.Declarations.{choices, entries, what_at, alternatives_at, plain_at}
+use Rattle.lisa_tree.specs.Paths.{Operation, Choosing, Declaring, leads}
 use Rattle.description_graph.proofs.Numbered.{chosen_within}
 use Rattle.description_graph.proofs.Meant.{meant_below}
 use Rattle.stage_checks.proofs.Nodes.{plain_within}
-use Rattle.description_promises.specs.Ranks.{Ranks}
+use Rattle.lisa_machine.specs.Ranks.{Ranks}
 use Rattle.text_counts.specs.References.{MayMean, chosen, referenced, AreMeanings}
 use Rattle.description_sizes.specs.Texts.{may_choose, levels, chosen_by}
 use Rattle.description_sizes.proofs.Rising.{rises, same_list, passing_rise, passing_has, filter_passes, filter_in, some_below, some_of}

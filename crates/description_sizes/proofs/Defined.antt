@@ -9,18 +9,18 @@ use Rattle.lisa_tree.specs.Statements.{StmtTrees}
 use Rattle.graph_paths.specs.Paths.{is_in}
 use Rattle.least_fixed_points.specs.Settles.{Settles}
 use Rattle.least_fixed_points.specs.Settles as settles
-use Rattle.description_names.specs.declared.declared.What.{What}
-use Rattle.description_names.specs.declared.declared.What.TheVariants as whats
-use Rattle.description_names.specs.Same.{same_name}
-use Rattle.description_names.specs.Operations.{sections_at, behavior_in, expression_in, activation_in}
-use Rattle.description_names.specs.Declarations.{Entry, Choice, choice, entries, choices, declared_at, what_at, plain_at}
-use Rattle.description_names.specs.Paths.{Node, Operation, Choosing, Declaring, node_at, node_count, leads, choice_node, entry_node}
+use Rattle.lisa_tree.specs.declared.declared.What.{What}
+use Rattle.lisa_tree.specs.declared.declared.What.TheVariants as whats
+use Rattle.lisa_tree.specs.Same.{same_name}
+use Rattle.lisa_tree.specs.Operations.{sections_at, behavior_in, expression_in, activation_in}
+use Rattle.lisa_tree.specs.Declarations.{Entry, Choice, choice, entries, choices, declared_at, what_at, plain_at}
+use Rattle.lisa_tree.specs.Paths.{Node, Operation, Choosing, Declaring, node_at, node_count, leads, choice_node, entry_node}
 use Rattle.description_graph.proofs.Nodes.{at_operation, at_choice, at_entry}
 use Rattle.stage_checks.proofs.Nodes.{plain_within}
-use Rattle.description_promises.specs.Ranks.{Ranks}
-use Rattle.description_promises.specs.Declaring.{Chooses}
-use Rattle.description_promises.proofs.Entries.{entry_chooses}
-use Rattle.description_promises.proofs.Named.{what_is}
+use Rattle.lisa_machine.specs.Ranks.{Ranks}
+use Rattle.lisa_machine.specs.Declaring.{Chooses}
+use Rattle.lisa_machine.proofs.Entries.{entry_chooses}
+use Rattle.lisa_machine.proofs.Named.{what_is}
 use Rattle.text_counts.specs.Sums.{Counts, plus}
 use Rattle.text_counts.specs.References.{AreMeanings}
 use Rattle.text_counts.specs.Expressions.{counted_at, counted_of}

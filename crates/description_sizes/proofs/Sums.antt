@@ -5,10 +5,10 @@ use Rattle.std.specs.Option.{option_map_or}
 use Rattle.std.specs.List.{AllByRecursion}
 use Rattle.std.proofs.lemmas.List.Sums.{sum_by-cons}
 use Rattle.lisa_tree.specs.Descriptions.{DescriptionTree}
-use Rattle.description_names.specs.Operations.{number_of}
+use Rattle.lisa_tree.specs.Operations.{number_of}
 use Rattle.description_graph.specs.Circles.{IsFirstCircularOperation}
 use Rattle.stage_checks.proofs.Nodes.{number_within}
-use Rattle.description_promises.proofs.Falling.{node_ranks}
+use Rattle.lisa_machine.proofs.Falling.{node_ranks}
 use Rattle.activation_trees.specs.declared.parts.Occurrence.{Occurrence}
 use Rattle.machine_parts.specs.Parts.{reset_count}
 use Rattle.activation_trees.specs.Unfolding.{occurrences}

@@ -4,9 +4,9 @@ use Rattle.std.specs.List.{AllByRecursion}
 use Rattle.std.proofs.lemmas.Bool.{eq-eqb, or_left, or_right}
 use Rattle.lisa_tree.specs.Descriptions.{DescriptionTree}
 use Rattle.graph_paths.specs.Paths.{is_in}
-use Rattle.description_names.specs.Operations.{number_of}
-use Rattle.description_names.specs.Declarations.{plain_at}
-use Rattle.description_names.specs.Paths.{node_count}
+use Rattle.lisa_tree.specs.Operations.{number_of}
+use Rattle.lisa_tree.specs.Declarations.{plain_at}
+use Rattle.lisa_tree.specs.Paths.{node_count}
 use Rattle.stage_checks.specs.Controls.{main_name}
 use Rattle.stage_checks.proofs.Nodes.{number_within, plain_within}
 use Rattle.activation_trees.specs.declared.parts.Occurrence.{Occurrence}

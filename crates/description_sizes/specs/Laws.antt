@@ -1,7 +1,7 @@
 -- What holds of the sizes of every description.
 use Rattle.std.specs.Prelude.{ℕ, ◌≡◌, ◌≤◌, Option, Some, length}
 use Rattle.lisa_tree.specs.Descriptions.{DescriptionTree}
-use Rattle.description_names.specs.Resources.{stages}
+use Rattle.lisa_tree.specs.Resources.{stages}
 use Rattle.machine_parts.specs.Parts.{arrays_of, pins_of}
 use Rattle.activation_trees.specs.Unfolding.{occurrences}
 use Rattle.text_counts.specs.Tables.{nodes_of}

@@ -3,9 +3,9 @@ use Rattle.std.specs.Prelude.{ℕ, zero, suc, Bool, false, ◌&&◌, ◌||◌, L
 use Rattle.std.specs.List.{list_any, range_with_len}
 use Rattle.lisa_tree.specs.Descriptions.{DescriptionTree}
 use Rattle.graph_paths.specs.Paths.{is_in}
-use Rattle.description_names.specs.Operations.{sections_at, activation_in}
-use Rattle.description_names.specs.Declarations.{choices, entries, plain_at}
-use Rattle.description_names.specs.Paths.{Choosing, Declaring, leads, node_count}
+use Rattle.lisa_tree.specs.Operations.{sections_at, activation_in}
+use Rattle.lisa_tree.specs.Declarations.{choices, entries, plain_at}
+use Rattle.lisa_tree.specs.Paths.{Choosing, Declaring, leads, node_count}
 use Rattle.text_counts.specs.Sums.{Counts}
 use Rattle.text_counts.specs.Activations.{activation_nodes}
 use Rattle.text_counts.specs.Steps.{Counting, follows, statements_counting, expressions_counting, behaviors_counting}

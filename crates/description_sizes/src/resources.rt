@@ -3,7 +3,7 @@
 
 ghost use Rattle.std.specs.Prelude.{◌≡◌, ◌-◌, ◌^◌, filter_map, is_some, length, map, min, sum_by, IfOk};
 ghost use Rattle.lisa_tree.specs.Descriptions.{resource_tree, description_tree};
-ghost use Rattle.description_names.specs.Resources.{stages_in};
+ghost use Rattle.lisa_tree.specs.Resources.{stages_in};
 ghost use Rattle.machine_parts.specs.Parts.{item, array_in, pin_in, register_in, registers_of};
 ghost use Rattle.description_sizes.specs.Cells.{depth_in};
 

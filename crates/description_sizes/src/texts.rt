@@ -8,7 +8,7 @@ ghost use Rattle.description_sizes.specs.Sums.{statements_by, nodes_by};
 ghost use Rattle.description_sizes.specs.Sizes.{text_statements, reset_nodes, text_nodes};
 
 use activation_trees::Occurrence;
-use description_names::Names;
+use lisa_tree::Names;
 use lisa_words::{Name, NoMemory};
 use machine_parts::count_reset;
 use std::alloc::Global;

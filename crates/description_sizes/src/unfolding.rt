@@ -12,10 +12,9 @@ use crate::resources::{count_arrays, count_cells, count_pins, count_stages, regi
 use crate::sizes::{Measure, Size, amount, fault, first_exceeding};
 use crate::texts::{count_nodes, count_statements};
 use activation_trees::{Occurrence, count_items, count_occurrences, items, occurrences};
-use description_names::Names;
 use description_types::operation_count;
 use lisa_engine::Item;
-use lisa_tree::DescFault;
+use lisa_tree::{DescFault, Names};
 use lisa_words::NoMemory;
 use std::alloc::Global;
 use text_counts::TextCounts;

@@ -8,10 +8,10 @@ use Rattle.std.proofs.lemmas.List.{map-append, length-map, length-append}
 use Rattle.lisa_tree.specs.Descriptions.{DescriptionTree, OperationTree, declare_tree, operation_tree}
 use Rattle.lisa_tree.specs.declared.descriptions.Declare.{Declare}
 use Rattle.lisa_tree.specs.declared.descriptions.Operation.{Operation}
-use Rattle.description_names.specs.declared.declared.What.{What}
-use Rattle.description_names.specs.declared.declared.What.TheVariants as whats
-use Rattle.description_names.specs.Operations.{declares_in}
-use Rattle.description_names.specs.Declarations.{Entry, Choice, entry, choice, instances, choices_of, choices_in, choices_from, entries_of, entries_in, entries_from}
+use Rattle.lisa_tree.specs.declared.declared.What.{What}
+use Rattle.lisa_tree.specs.declared.declared.What.TheVariants as whats
+use Rattle.lisa_tree.specs.Operations.{declares_in}
+use Rattle.lisa_tree.specs.Declarations.{Entry, Choice, entry, choice, instances, choices_of, choices_in, choices_from, entries_of, entries_in, entries_from}
 use Rattle.description_tables.specs.Laws.{Chosen, chosen}
 use Rattle.description_tables.proofs.Lists.{one_more, regroup}
 

@@ -2,8 +2,8 @@
 use Rattle.std.proofs.Common.{◌≡◌, ℕ, suc, List, [], ◌∷◌, Option, None, Some, Bool, true, false, cond, refl, ap, sym, ◌∙◌}
 use Rattle.std.specs.Prelude.{position, option_map, slice_get}
 use Rattle.lisa_tree.specs.declared.tokens.Shape.{Shape}
-use Rattle.description_names.specs.Same.{same_name}
-use Rattle.description_names.specs.Resources.{shape_in}
+use Rattle.lisa_tree.specs.Same.{same_name}
+use Rattle.lisa_tree.specs.Resources.{shape_in}
 use Rattle.description_tables.proofs.Positions.{position-cons}
 
 abbrev by_place : Option ℕ → List (Shape × List ℕ) → Option Shape

@@ -5,7 +5,7 @@ use Rattle.std.proofs.lemmas.Bool.{ne_eqb}
 use Rattle.std.specs.List.{list_all}
 use Rattle.std.specs.Option.{option_or}
 use Rattle.indexmap.specs.IndexMap.{IndexMap, get}
-use Rattle.description_names.specs.Same.{same_name}
+use Rattle.lisa_tree.specs.Same.{same_name}
 use Rattle.description_tables.specs.Laws.{find_in, noted}
 
 or_none : (x : Option ℕ) (b c : Bool) (place : ℕ) → b ≡ false → x ≡ option_or x (cond (b && c) (Some place) None)

@@ -2,7 +2,7 @@
 use Rattle.std.proofs.Common.{◌≡◌, ◌<◌, ◌+◌, ℕ, List, [], ◌∷◌, ◌++◌, length, get_or, drop, refl, ap, ◌∙◌, arith, not}
 use Rattle.std.proofs.lemmas.List.Elements.{filter-append}
 use Rattle.lisa_tree.specs.Descriptions.{DescriptionTree}
-use Rattle.description_names.specs.Operations.{numbers_of, is_alias}
+use Rattle.lisa_tree.specs.Operations.{numbers_of, is_alias}
 use Rattle.description_tables.specs.Laws.{no_aliases}
 use Rattle.description_tables.proofs.Lists.{one_more, one_number}
 

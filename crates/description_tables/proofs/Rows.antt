@@ -8,8 +8,8 @@ use Rattle.std.proofs.lemmas.Bool.{ne_eqb}
 use Rattle.std.proofs.lemmas.Grind.{take_at_read}
 use Rattle.graph_paths.specs.Paths.{targets}
 use Rattle.lisa_tree.specs.Descriptions.{DescriptionTree}
-use Rattle.description_names.specs.Operations.{is_alias}
-use Rattle.description_names.specs.Declarations.{listings}
+use Rattle.lisa_tree.specs.Operations.{is_alias}
+use Rattle.lisa_tree.specs.Declarations.{listings}
 use Rattle.description_tables.specs.Laws.{Chosen, above_chosen, ends_in, Joins}
 
 pub row_none : (rows : List (Vec ℕ)) (v : Vec ℕ) (o : ℕ) → v.items ≡ [] → targets rows o ≡ [] → targets (rows ++ v ∷ []) o ≡ []

@@ -8,11 +8,11 @@ use Rattle.lisa_tree.specs.declared.descriptions.Operation.{Operation}
 use Rattle.lisa_tree.specs.declared.descriptions.Description.{Description}
 use Rattle.lisa_tree.specs.Descriptions as trees
 use Rattle.lisa_tree.specs.Descriptions.{DescriptionTree, DeclareTree, OperationTree, description_tree, operation_tree}
-use Rattle.description_names.specs.declared.declared.What.{What}
-use Rattle.description_names.specs.declared.declared.What.TheVariants as whats
-use Rattle.description_names.specs.Same.{same_name}
-use Rattle.description_names.specs.Operations.{number_of, numbers_of, is_alias, declares_in}
-use Rattle.description_names.specs.Declarations.{Choice, entry, instances, choices, entries, choices_of, choices_in, entries_of, entries_in, entries_from, listings, above_in, above}
+use Rattle.lisa_tree.specs.declared.declared.What.{What}
+use Rattle.lisa_tree.specs.declared.declared.What.TheVariants as whats
+use Rattle.lisa_tree.specs.Same.{same_name}
+use Rattle.lisa_tree.specs.Operations.{number_of, numbers_of, is_alias, declares_in}
+use Rattle.lisa_tree.specs.Declarations.{Choice, entry, instances, choices, entries, choices_of, choices_in, entries_of, entries_in, entries_from, listings, above_in, above}
 use Rattle.description_tables.specs.Laws.{chosen, is_owned_below, are_below, chooses_below, above_chosen}
 use Rattle.description_tables.proofs.Positions.{position_below}
 

@@ -4,9 +4,9 @@ use Rattle.std.specs.List.{list_all, dedup}
 use Rattle.std.specs.Option.{option_or}
 use Rattle.indexmap.specs.IndexMap.{IndexMap, get}
 use Rattle.lisa_tree.specs.Descriptions.{DescriptionTree}
-use Rattle.description_names.specs.Same.{same_name}
-use Rattle.description_names.specs.Operations.{numbers_of, is_alias}
-use Rattle.description_names.specs.Declarations.{Choice, Entry, listings}
+use Rattle.lisa_tree.specs.Same.{same_name}
+use Rattle.lisa_tree.specs.Operations.{numbers_of, is_alias}
+use Rattle.lisa_tree.specs.Declarations.{Choice, Entry, listings}
 
 -- what a name has after it is noted that it stands at a place, if it stood nowhere yet
 abbrev pub noted : Option ℕ → List ℕ → List ℕ → ℕ → Option ℕ

@@ -2,8 +2,8 @@
 
 ghost use Rattle.std.specs.Prelude.{◌≡◌, ◌++◌, ◌∷◌, [], IfOk, OnOk, cond, not};
 ghost use Rattle.lisa_tree.specs.Descriptions.{description_tree};
-ghost use Rattle.description_names.specs.Operations.{numbers_of, is_alias};
-ghost use Rattle.description_names.specs.Declarations.{choice};
+ghost use Rattle.lisa_tree.specs.Operations.{numbers_of, is_alias};
+ghost use Rattle.lisa_tree.specs.Declarations.{choice};
 ghost use Rattle.description_tables.specs.Laws.{Chosen, chosen, no_aliases};
 
 use crate::globals::Globals;

@@ -3,7 +3,7 @@
 ghost use Rattle.std.specs.Prelude.{◌≡◌, ◌<◌, ◌&&◌, ℕ, List, Some, None, IfOk, OnOk, length, cond, nat_eq, position, true};
 ghost use Rattle.std.specs.List.{list_all};
 ghost use Rattle.std.specs.Option.{option_or};
-ghost use Rattle.description_names.specs.Same.{same_name};
+ghost use Rattle.lisa_tree.specs.Same.{same_name};
 ghost use Rattle.description_tables.specs.Laws.{declares, find_in, is_owned_below};
 
 use crate::listing::Declared;

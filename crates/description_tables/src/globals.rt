@@ -6,9 +6,9 @@ ghost use Rattle.indexmap.specs.IndexMap.{get};
 ghost use Rattle.lisa_tree.specs.declared.tokens.Shape.{Shape};
 ghost use Rattle.lisa_tree.specs.declared.descriptions.Operation.{Operation};
 ghost use Rattle.lisa_tree.specs.Descriptions.{DescriptionTree, description_tree, resource_tree, operation_tree};
-ghost use Rattle.description_names.specs.Same.{same_name};
-ghost use Rattle.description_names.specs.Resources.{is_named, resource_at, stages_in, stage_at, fields_in, fields as all_fields, field_shape};
-ghost use Rattle.description_names.specs.Operations.{number_of, operation_at, is_alias, own_stage};
+ghost use Rattle.lisa_tree.specs.Same.{same_name};
+ghost use Rattle.lisa_tree.specs.Resources.{is_named, resource_at, stages_in, stage_at, fields_in, fields as all_fields, field_shape};
+ghost use Rattle.lisa_tree.specs.Operations.{number_of, operation_at, is_alias, own_stage};
 
 use crate::places::{enter, place_of};
 use indexmap::IndexMap;

@@ -2,15 +2,14 @@
 
 ghost use Rattle.std.specs.Prelude.{◌≡◌, ◌<◌, ◌++◌, ◌∷◌, [], ℕ, List, IfOk, OnOk, length, map, take, slice_index};
 ghost use Rattle.lisa_tree.specs.Descriptions.{description_tree, declare_tree, section_tree, operation_tree};
-ghost use Rattle.description_names.specs.Operations.{declares_in};
-ghost use Rattle.description_names.specs.Declarations.{Entry, entry, choice, instances, choices_of, choices_in, choices_from, entries_of, entries_in, entries_from};
-ghost use Rattle.description_names.specs.declared.declared.What.TheVariants as whats;
+ghost use Rattle.lisa_tree.specs.Operations.{declares_in};
+ghost use Rattle.lisa_tree.specs.Declarations.{Entry, entry, choice, instances, choices_of, choices_in, choices_from, entries_of, entries_in, entries_from};
+ghost use Rattle.lisa_tree.specs.declared.declared.What.TheVariants as whats;
 ghost use Rattle.description_tables.specs.Laws.{chosen};
 
 use crate::choices::{Choice, choose_among, choose_one};
 use crate::globals::Globals;
-use description_names::{What, declares};
-use lisa_tree::{Declare, Operation};
+use lisa_tree::{Declare, Operation, What, declares};
 use lisa_words::Name;
 use std::alloc::{AllocError, Global};
 use std::marker::Model;

@@ -4,7 +4,7 @@ ghost use Rattle.std.specs.Prelude.{◌≡◌, ◌<◌, ◌∷◌, [], ℕ, IfOk
 ghost use Rattle.std.specs.List.{list_all, dedup};
 ghost use Rattle.graph_paths.specs.Paths.{targets};
 ghost use Rattle.lisa_tree.specs.Descriptions.{description_tree};
-ghost use Rattle.description_names.specs.Declarations.{listings};
+ghost use Rattle.lisa_tree.specs.Declarations.{listings};
 ghost use Rattle.description_tables.specs.Laws.{above_chosen, are_below, chooses_below, ends_in, Joins};
 
 use crate::choices::Choice;

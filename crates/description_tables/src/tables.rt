@@ -3,10 +3,10 @@
 ghost use Rattle.std.specs.Prelude.{◌≡◌, ◌<◌, ℕ, List, [], IfOk, length, map, option_copied, slice_get, slice_index};
 ghost use Rattle.graph_paths.specs.Paths.{targets};
 ghost use Rattle.lisa_tree.specs.Descriptions.{DescriptionTree, description_tree};
-ghost use Rattle.description_names.specs.Resources.{resource_at, stage_at, field_shape};
-ghost use Rattle.description_names.specs.Operations.{number_of, own_stage};
-ghost use Rattle.description_names.specs.Declarations.{Entry, choices as all_choices, entries as all_entries, entries_before, declared_at, what_at, owner_at, entry_name_at, alternatives_at, plain_at, above as all_above};
-ghost use Rattle.description_names.specs.Meanings.{meaning};
+ghost use Rattle.lisa_tree.specs.Resources.{resource_at, stage_at, field_shape};
+ghost use Rattle.lisa_tree.specs.Operations.{number_of, own_stage};
+ghost use Rattle.lisa_tree.specs.Declarations.{Entry, choices as all_choices, entries as all_entries, entries_before, declared_at, what_at, owner_at, entry_name_at, alternatives_at, plain_at, above as all_above};
+ghost use Rattle.lisa_tree.specs.Meanings.{meaning};
 ghost use Rattle.description_tables.specs.Laws.{Chosen, chosen, find_in};
 
 use crate::choices::Choice;
@@ -14,9 +14,8 @@ use crate::finding::{find, index_names};
 use crate::globals::Globals;
 use crate::listing::{Declared, Listing, list};
 use crate::listings::list_above;
-use description_names::{Meaning, Names, What};
 use indexmap::IndexMap;
-use lisa_tree::{Description, Shape};
+use lisa_tree::{Description, Meaning, Names, Shape, What};
 use lisa_words::Name;
 use std::alloc::{AllocError, Global};
 

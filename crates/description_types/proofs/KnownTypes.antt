@@ -5,8 +5,8 @@ use Rattle.lisa_words.specs.declared.words.Kind.{Kind}
 use Rattle.lisa_words.specs.declared.words.Kind.TheVariants as kinds
 use Rattle.lisa_tree.specs.declared.tokens.Shape.{Shape}
 use Rattle.lisa_tree.specs.Descriptions.{DescriptionTree}
-use Rattle.description_names.specs.Declarations.{entries}
-use Rattle.description_names.specs.Paths.{entry_node}
+use Rattle.lisa_tree.specs.Declarations.{entries}
+use Rattle.lisa_tree.specs.Paths.{entry_node}
 use Rattle.least_fixed_points.specs.Settles.{entry}
 use Rattle.meant_declarations.specs.Meant.{Differ}
 use Rattle.description_types.specs.declared.values.TypeOf.{TypeOf}

@@ -3,7 +3,7 @@ use Rattle.std.proofs.Common.{◌≡◌, ◌<◌, ◌↔◌, ℕ, zero, suc, Lis
 use Rattle.std.specs.Option.{is_some}
 use Rattle.std.proofs.lemmas.Option.{slice_get_within}
 use Rattle.lisa_tree.specs.Descriptions.{DescriptionTree}
-use Rattle.description_names.specs.Declarations.{entries}
+use Rattle.lisa_tree.specs.Declarations.{entries}
 use Rattle.graph_paths.specs.Paths.{saw}
 use Rattle.least_fixed_points.specs.Settles.{entry}
 use Rattle.meant_declarations.specs.Meant.{MayMean, itself, higher, SomeMeant, IsFound}

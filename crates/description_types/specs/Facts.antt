@@ -3,10 +3,10 @@ use Rattle.std.specs.Prelude.{ℕ, Bool, ◌≡◌, List, [], ◌∷◌, Option,
 use Rattle.std.specs.Option.{is_none}
 use Rattle.std.specs.List.{list_any}
 use Rattle.lisa_tree.specs.Descriptions.{DescriptionTree}
-use Rattle.description_names.specs.declared.declared.What.{What}
-use Rattle.description_names.specs.declared.declared.What.TheVariants as whats
-use Rattle.description_names.specs.Declarations.{declared_at, what_at, owner_at, entry_name_at, above}
-use Rattle.description_names.specs.Paths.{Node, Operation, Choosing, Declaring, node_at, choice_node, entry_node}
+use Rattle.lisa_tree.specs.declared.declared.What.{What}
+use Rattle.lisa_tree.specs.declared.declared.What.TheVariants as whats
+use Rattle.lisa_tree.specs.Declarations.{declared_at, what_at, owner_at, entry_name_at, above}
+use Rattle.lisa_tree.specs.Paths.{Node, Operation, Choosing, Declaring, node_at, choice_node, entry_node}
 use Rattle.least_fixed_points.specs.Settles.{IsWithin}
 
 -- A fact of each operation, choice and declared name, by what is known of others.

@@ -5,12 +5,12 @@ use Rattle.lisa_tree.specs.Expressions as exprs
 use Rattle.lisa_tree.specs.Expressions.{ExprTree}
 use Rattle.lisa_tree.specs.Descriptions as trees
 use Rattle.lisa_tree.specs.Descriptions.{ResourceTree, DescriptionTree}
-use Rattle.description_names.specs.declared.declared.Meaning.{Meaning}
-use Rattle.description_names.specs.declared.declared.Meaning.TheVariants as meanings
-use Rattle.description_names.specs.Operations.{expression_in, sections_at}
-use Rattle.description_names.specs.Declarations.{plain_at}
-use Rattle.description_names.specs.Meanings.{meaning}
-use Rattle.description_names.specs.Paths.{entry_node}
+use Rattle.lisa_tree.specs.declared.declared.Meaning.{Meaning}
+use Rattle.lisa_tree.specs.declared.declared.Meaning.TheVariants as meanings
+use Rattle.lisa_tree.specs.Operations.{expression_in, sections_at}
+use Rattle.lisa_tree.specs.Declarations.{plain_at}
+use Rattle.lisa_tree.specs.Meanings.{meaning}
+use Rattle.lisa_tree.specs.Paths.{entry_node}
 use Rattle.description_types.specs.declared.values.TypeOf.{TypeOf}
 use Rattle.description_types.specs.declared.values.TypeOf.TheVariants as types
 use Rattle.description_types.specs.declared.values.Assignable.{Assignable}

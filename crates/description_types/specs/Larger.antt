@@ -4,10 +4,10 @@ use Rattle.std.specs.Prelude.{option_map}
 use Rattle.std.specs.Option.{is_none}
 use Rattle.std.proofs.lemmas.Bool.{or_parts}
 use Rattle.lisa_tree.specs.Descriptions.{DescriptionTree}
-use Rattle.description_names.specs.declared.declared.What.{What}
-use Rattle.description_names.specs.declared.declared.What.TheVariants as whats
-use Rattle.description_names.specs.Declarations.{declared_at, what_at, above}
-use Rattle.description_names.specs.Paths.{Node, Operation, Choosing, Declaring, node_at, choice_node, entry_node}
+use Rattle.lisa_tree.specs.declared.declared.What.{What}
+use Rattle.lisa_tree.specs.declared.declared.What.TheVariants as whats
+use Rattle.lisa_tree.specs.Declarations.{declared_at, what_at, above}
+use Rattle.lisa_tree.specs.Paths.{Node, Operation, Choosing, Declaring, node_at, choice_node, entry_node}
 use Rattle.least_fixed_points.specs.Settles.{IsWithin, IsMonotone}
 use Rattle.description_types.specs.Facts.{Fact, together, merged_from, merged, added, known_together, any_open, at_entry, declared_value, reference_value, entry_value, node_value, follows, IsSteady}
 

@@ -1,7 +1,7 @@
 -- What is known of operations, choices and declared names. An open node has no value.
 use Rattle.std.specs.Prelude.{ℕ, ◌≡◌, ◌≢◌, ◌↔◌, ◌||◌, Bool, true, List, Option, Some}
 use Rattle.lisa_tree.specs.Descriptions.{DescriptionTree}
-use Rattle.description_names.specs.Paths.{entry_node}
+use Rattle.lisa_tree.specs.Paths.{entry_node}
 use Rattle.graph_paths.specs.Paths.{saw}
 use Rattle.least_fixed_points.specs.Settles.{entry, Settles}
 use Rattle.meant_declarations.specs.Meant.{MayMean, SomeMeant}

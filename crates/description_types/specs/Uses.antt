@@ -3,10 +3,10 @@ use Rattle.std.specs.Prelude.{ℕ, Bool, true, false, List, Option, Some, ◌&&�
 use Rattle.std.specs.Option.{is_some}
 use Rattle.std.specs.List.{list_any}
 use Rattle.lisa_tree.specs.Descriptions.{DescriptionTree}
-use Rattle.description_names.specs.declared.declared.What.{What}
-use Rattle.description_names.specs.declared.declared.What.TheVariants as whats
-use Rattle.description_names.specs.Operations.{coding_in, sections_at, own_stage, is_root}
-use Rattle.description_names.specs.Declarations.{alternatives_at, plain_at, what_at}
+use Rattle.lisa_tree.specs.declared.declared.What.{What}
+use Rattle.lisa_tree.specs.declared.declared.What.TheVariants as whats
+use Rattle.lisa_tree.specs.Operations.{coding_in, sections_at, own_stage, is_root}
+use Rattle.lisa_tree.specs.Declarations.{alternatives_at, plain_at, what_at}
 use Rattle.coded_names.specs.Codings.{is_coding}
 use Rattle.graph_paths.specs.Paths.{saw}
 use Rattle.description_types.specs.declared.values.Trait.{Trait}

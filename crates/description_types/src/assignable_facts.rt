@@ -15,8 +15,7 @@ use crate::meant::Property;
 use crate::refused::is_refused;
 use crate::types::meant_element;
 use crate::values::Assignable;
-use description_names::{Meaning, Names, expression};
-use lisa_tree::{Expr, Resource, Shape};
+use lisa_tree::{Expr, Meaning, Names, Resource, Shape, expression};
 use std::alloc::AllocError;
 
 /// The rules of what may be assigned.

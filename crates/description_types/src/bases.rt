@@ -3,8 +3,7 @@
 
 use crate::facts::{Facts, Following};
 use crate::lookups::operation_count;
-use description_names::{Meaning, Names, What};
-use lisa_tree::{Expr, Operator};
+use lisa_tree::{Expr, Meaning, Names, Operator, What};
 use lisa_words::Name;
 use std::alloc::{AllocError, Global};
 

@@ -2,14 +2,13 @@
 
 ghost use Rattle.std.specs.Prelude.{◌≡◌, IfOk, option_copied, map, get_or};
 ghost use Rattle.lisa_tree.specs.Descriptions.{section_tree};
-ghost use Rattle.description_names.specs.Operations.{sections_at};
+ghost use Rattle.lisa_tree.specs.Operations.{sections_at};
 ghost use Rattle.description_types.specs.Codings.{kind_or_unsigned, width_type, no_coding, name_coding, AreCodings};
 
 use crate::lookups::sections;
 use crate::values::{CodedName, TypeOf};
 use coded_names::{CodedNames, names_instructions};
-use description_names::{Names, coding};
-use lisa_tree::Shape;
+use lisa_tree::{Names, Shape, coding};
 use lisa_words::{Kind, Name, NoMemory};
 use std::alloc::Global;
 

@@ -2,16 +2,16 @@
 
 ghost use Rattle.std.specs.Prelude.{◌≡◌, ◌≤◌, ◌-◌, ℕ, List, Option, length, option_map};
 ghost use Rattle.lisa_tree.specs.Descriptions.{DescriptionTree};
-ghost use Rattle.description_names.specs.Declarations.{what_at};
-ghost use Rattle.description_names.specs.Paths.{choice_node, node_count};
+ghost use Rattle.lisa_tree.specs.Declarations.{what_at};
+ghost use Rattle.lisa_tree.specs.Paths.{choice_node, node_count};
 ghost use Rattle.least_fixed_points.specs.Settles.{entry};
 ghost use Rattle.description_types.specs.Facts.{Fact, IsSteady, together, merged, merged_from, declared_value, reference_value, entry_value, follows};
 ghost use Rattle.description_types.specs.Larger.{follows_monotone};
 ghost use Rattle.description_types.specs.Ends.{follows_ends};
 
 use crate::lookups::{known_choice, known_entry, operation_count};
-use description_names::{Names, What};
 use least_fixed_points::Rule;
+use lisa_tree::{Names, What};
 use lisa_words::Name;
 use std::alloc::AllocError;
 

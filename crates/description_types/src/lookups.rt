@@ -2,14 +2,13 @@
 
 ghost use Rattle.std.specs.Prelude.{◌≡◌, ◌+◌, length, map, option_map, slice_get, IfOk};
 ghost use Rattle.lisa_tree.specs.Descriptions.{resource_tree, section_tree};
-ghost use Rattle.description_names.specs.Operations.{name_at, sections_at};
-ghost use Rattle.description_names.specs.Paths.{choice_node, entry_node};
+ghost use Rattle.lisa_tree.specs.Operations.{name_at, sections_at};
+ghost use Rattle.lisa_tree.specs.Paths.{choice_node, entry_node};
 ghost use Rattle.graph_paths.specs.Paths.{saw};
 ghost use Rattle.least_fixed_points.specs.Settles.{entry};
 ghost use Rattle.description_types.specs.Facts.{any_open};
 
-use description_names::Names;
-use lisa_tree::{Resource, Section};
+use lisa_tree::{Names, Resource, Section};
 use lisa_words::{Name, NoMemory};
 use std::alloc::Global;
 

@@ -6,7 +6,7 @@ ghost use Rattle.graph_paths.specs.Paths.{saw};
 ghost use Rattle.meant_declarations.specs.Meanings.{AreMeanings};
 ghost use Rattle.description_types.specs.Tables.{AreMeant};
 
-use description_names::Names;
+use lisa_tree::Names;
 use lisa_words::NoMemory;
 use meant_declarations::Meanings;
 use std::alloc::{AllocError, Global};

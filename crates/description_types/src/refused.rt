@@ -2,14 +2,13 @@
 
 ghost use Rattle.std.specs.Prelude.{◌≡◌};
 ghost use Rattle.lisa_tree.specs.Expressions.{expr_tree};
-ghost use Rattle.description_names.specs.Resources.{is_pipeline};
+ghost use Rattle.lisa_tree.specs.Resources.{is_pipeline};
 ghost use Rattle.description_types.specs.Refused.{may_input, are_apart, is_apart, meant_refused, is_no_boundary, is_refused, two_refused, rests_on_refused};
 
 use crate::lookups::resource;
 use crate::meant::Property;
 use crate::values::Traits;
-use description_names::{Meaning, Names};
-use lisa_tree::{BoundaryField, Expr, Operator, Resource};
+use lisa_tree::{BoundaryField, Expr, Meaning, Names, Operator, Resource};
 use lisa_words::Name;
 
 /// Whether an operation with this stage of its own reads the boundary before it.

@@ -17,9 +17,8 @@ use crate::refused::rests_on_refused;
 use crate::shapes::same_shape;
 use crate::types::type_of;
 use crate::values::{CodedName, TypeOf};
-use description_names::{Names, expression};
 use description_places::Scope;
-use lisa_tree::{Expr, Shape};
+use lisa_tree::{Expr, Names, Shape, expression};
 use std::alloc::AllocError;
 
 /// The rules of types.

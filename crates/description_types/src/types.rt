@@ -11,9 +11,8 @@ ghost use Rattle.description_types.specs.Types.{word_shape, element_shape, typed
 use crate::lookups::{known_entry, resource};
 use crate::shapes::{number_shape, paired};
 use crate::values::TypeOf;
-use description_names::{Meaning, Names};
 use description_places::Scope;
-use lisa_tree::{Expr, Operator, Resource, Shape};
+use lisa_tree::{Expr, Meaning, Names, Operator, Resource, Shape};
 use lisa_words::{Kind, Name};
 
 // The type of a truth value.

@@ -3,7 +3,7 @@
 ghost use Rattle.std.specs.Prelude.{◌≡◌, ◌||◌};
 ghost use Rattle.graph_paths.specs.Paths.{saw};
 ghost use Rattle.least_fixed_points.specs.Settles.{entry};
-ghost use Rattle.description_names.specs.Paths.{entry_node};
+ghost use Rattle.lisa_tree.specs.Paths.{entry_node};
 ghost use Rattle.description_types.specs.Uses.{traits_by};
 ghost use Rattle.description_types.specs.Known.{has_no_type, is_assignable};
 ghost use Rattle.description_types.specs.Tables.{apart, unfit};
@@ -13,7 +13,7 @@ use crate::meant::Property;
 use crate::refused::is_apart;
 use crate::uses::UseTables;
 use crate::values::{Assignable, TypeOf};
-use description_names::Names;
+use lisa_tree::Names;
 
 /// The declared names that may be no value by their traits alone.
 #[derive(Drop)]

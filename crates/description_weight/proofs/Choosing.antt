@@ -3,12 +3,12 @@ use Rattle.std.proofs.Common.{◌≡◌, ◌<◌, ℕ, List, [], Option, None, S
 use Rattle.lisa_tree.specs.Descriptions.{DescriptionTree}
 use Rattle.graph_paths.specs.Paths.{is_in}
 use Rattle.graph_paths.proofs.Seen.{in_at}
-use Rattle.description_names.specs.declared.declared.What.{What}
-use Rattle.description_names.specs.declared.declared.What.TheVariants as whats
-use Rattle.description_names.specs.Declarations.{what_at, plain_at}
+use Rattle.lisa_tree.specs.declared.declared.What.{What}
+use Rattle.lisa_tree.specs.declared.declared.What.TheVariants as whats
+use Rattle.lisa_tree.specs.Declarations.{what_at, plain_at}
 use Rattle.description_graph.specs.Circles.{IsFirstCircularOperation}
 use Rattle.stage_checks.proofs.Nodes.{plain_within}
-use Rattle.description_promises.proofs.Falling.{node_ranks}
+use Rattle.lisa_machine.proofs.Falling.{node_ranks}
 use Rattle.text_counts.specs.References as references
 use Rattle.text_counts.specs.References.{AreMeanings}
 use Rattle.description_sizes.specs.Texts as texts

@@ -5,10 +5,10 @@ use Rattle.std.specs.List.{AllByRecursion}
 use Rattle.std.proofs.lemmas.List.{drop_more}
 use Rattle.std.proofs.lemmas.List.Sums.{sum_by-cons}
 use Rattle.lisa_tree.specs.Descriptions.{DescriptionTree}
-use Rattle.description_names.specs.Operations.{is_alias}
-use Rattle.description_names.specs.Resources.{stages}
+use Rattle.lisa_tree.specs.Operations.{is_alias}
+use Rattle.lisa_tree.specs.Resources.{stages}
 use Rattle.description_graph.specs.Circles.{IsFirstCircularOperation}
-use Rattle.description_promises.proofs.Falling.{node_ranks}
+use Rattle.lisa_machine.proofs.Falling.{node_ranks}
 use Rattle.activation_trees.specs.declared.parts.Occurrence.{Occurrence}
 use Rattle.activation_trees.specs.Unfolding.{occurrences}
 use Rattle.text_counts.specs.Tables.{TextTable, AreTextCounts}

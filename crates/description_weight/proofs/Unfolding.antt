@@ -4,7 +4,7 @@ use Rattle.std.specs.Prelude.{sum_by, unwrap_or}
 use Rattle.std.proofs.lemmas.List.Sums.{sum_by-drop_more}
 use Rattle.std.specs.List.{AllByRecursion, range_with_len}
 use Rattle.lisa_tree.specs.Descriptions.{DescriptionTree}
-use Rattle.description_names.specs.Paths.{node_count}
+use Rattle.lisa_tree.specs.Paths.{node_count}
 use Rattle.description_graph.specs.Circles.{IsFirstCircularOperation}
 use Rattle.activation_trees.specs.declared.parts.Occurrence.{Occurrence}
 use Rattle.activation_trees.specs.Unfolding.{occurrences}

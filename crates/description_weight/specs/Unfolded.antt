@@ -1,7 +1,7 @@
 -- How often the whole unfolded text reads and writes elements of arrays: by sums over operations, without writing it.
 use Rattle.std.specs.Prelude.{ℕ, List, sum_by}
 use Rattle.lisa_tree.specs.Descriptions.{DescriptionTree}
-use Rattle.description_names.specs.Declarations.{what_at}
+use Rattle.lisa_tree.specs.Declarations.{what_at}
 use Rattle.activation_trees.specs.Unfolding.{occurrences}
 use Rattle.text_counts.specs.References as references
 use Rattle.description_sizes.specs.Texts as texts

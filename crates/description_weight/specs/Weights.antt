@@ -2,8 +2,8 @@
 use Rattle.std.specs.Prelude.{ℕ, ◌+◌, ◌*◌, List, length, filter, nat_eq, sum_by}
 use Rattle.std.specs.List.{range_with_len}
 use Rattle.lisa_tree.specs.Descriptions.{DescriptionTree}
-use Rattle.description_names.specs.Resources.{stages}
-use Rattle.description_names.specs.Operations.{is_alias}
+use Rattle.lisa_tree.specs.Resources.{stages}
+use Rattle.lisa_tree.specs.Operations.{is_alias}
 use Rattle.instruction_trees.specs.Bits.{one_if}
 use Rattle.instruction_trees.specs.Trees.{Form, is_plain}
 use Rattle.coding_tables.specs.Instructions.{forms_of}

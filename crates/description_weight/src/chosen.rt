@@ -2,11 +2,11 @@
 
 ghost use Rattle.std.specs.Prelude.{◌≡◌};
 ghost use Rattle.graph_paths.specs.Paths.{targets};
-ghost use Rattle.description_names.specs.Declarations.{what_at};
+ghost use Rattle.lisa_tree.specs.Declarations.{what_at};
 ghost use Rattle.text_counts.specs.References.{chosen_by};
 
 use access_counts::Choices;
-use description_names::{Names, What};
+use lisa_tree::{Names, What};
 use text_counts::Meanings;
 
 /// The operations that declared names may choose, by what references may.

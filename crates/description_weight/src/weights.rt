@@ -2,7 +2,7 @@
 
 ghost use Rattle.std.specs.Prelude.{◌≡◌, ◌+◌, ◌-◌, ◌*◌, ◌^◌, IfOk, None, length, min};
 ghost use Rattle.lisa_tree.specs.Descriptions.{description_tree};
-ghost use Rattle.description_names.specs.Resources.{stages};
+ghost use Rattle.lisa_tree.specs.Resources.{stages};
 ghost use Rattle.access_counts.specs.Ledgers.{capped};
 ghost use Rattle.activation_trees.specs.Unfolding.{occurrences};
 ghost use Rattle.description_graph.specs.Circles.{IsFirstCircularOperation};
@@ -13,10 +13,10 @@ use crate::forms::form_nodes;
 use crate::pairs::pairs;
 use crate::texts::{count_stages, sum_of_nodes};
 use activation_trees::Occurrence;
-use description_names::Names;
 use description_tables::Tables;
 use lisa_forms::Forms;
 use lisa_machine::Machine;
+use lisa_tree::Names;
 use lisa_words::NoMemory;
 use std::alloc::Global;
 use text_counts::TextCounts;

@@ -12,6 +12,7 @@ mod sessions;
 mod tasks;
 
 pub use images::{image_of, memories};
-pub use making::do_made;
-pub use scheduling::schedule_text;
+pub use making::{do_made, unmade};
+pub use running::put_state;
+pub use scheduling::{schedule_for, schedule_text};
 pub use tasks::{Task, do_task};

@@ -14,8 +14,8 @@ use lisa_object::ImageFault;
 use lisa_outcomes::{End, Refusal};
 use std::alloc::Global;
 
-// The end of a command whose engine wasn't made.
-fn unmade(fault: MakeFault) -> End
+/// The end of a command whose engine wasn't made.
+pub fn unmade(fault: MakeFault) -> End
     ensures { result ≡ unmade_end fault }
 {
     match fault {

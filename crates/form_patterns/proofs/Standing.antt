@@ -3,8 +3,8 @@ use Rattle.std.proofs.Common.{Bool, take, get_or, ◌≡◌, ◌<◌, ◌≤◌,
 use Rattle.std.specs.Prelude.{slice_index_or}
 use Rattle.std.specs.List.{AllByRecursion}
 use Rattle.lisa_tree.specs.Descriptions.{DescriptionTree}
-use Rattle.description_names.specs.Operations.{is_alias}
-use Rattle.description_names.specs.Paths.{node_count}
+use Rattle.lisa_tree.specs.Operations.{is_alias}
+use Rattle.lisa_tree.specs.Paths.{node_count}
 use Rattle.instruction_trees.specs.Bits.{Frame}
 use Rattle.instruction_trees.specs.Trees.{Form, Fits, AnyValue, In, here, there, form_bits, is_plain, instructions}
 use Rattle.instruction_trees.specs.Forms.{forms}

@@ -1,7 +1,7 @@
 -- The forms of a description's instructions as lists of frames, with their fields in preorder.
 use Rattle.std.specs.Prelude.{ℕ, Bool, List, [], ◌++◌, Option, unwrap_or}
 use Rattle.lisa_tree.specs.Descriptions.{DescriptionTree}
-use Rattle.description_names.specs.Operations.{is_alias}
+use Rattle.lisa_tree.specs.Operations.{is_alias}
 use Rattle.instruction_trees.specs.Bits.{Frame}
 use Rattle.instruction_trees.specs.Trees.{Form, placed}
 use Rattle.instruction_trees.specs.Values.{values}

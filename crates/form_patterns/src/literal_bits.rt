@@ -9,10 +9,9 @@ ghost use Rattle.form_patterns.specs.Instructions.{ArePatterns};
 
 use crate::bits::{add_pattern, add_repeated};
 use coded_names::pattern_width;
-use description_names::{Names, coding};
 use description_types::sections;
 use instruction_forms::Form;
-use lisa_tree::{CodingItem, CodingPart};
+use lisa_tree::{CodingItem, CodingPart, Names, coding};
 use lisa_words::NoMemory;
 use pattern_tables::BitPattern;
 use std::alloc::Global;

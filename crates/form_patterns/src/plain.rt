@@ -1,13 +1,13 @@
 //! Which forms are plain.
 
 ghost use Rattle.std.specs.Prelude.{◌≡◌, IfOk};
-ghost use Rattle.description_names.specs.Operations.{is_alias};
+ghost use Rattle.lisa_tree.specs.Operations.{is_alias};
 ghost use Rattle.instruction_forms.specs.Trees.{form_tree, is_plain_tree};
 ghost use Rattle.instruction_forms.specs.Described.{AreForms};
 ghost use Rattle.form_patterns.specs.Instructions.{instruction_plain};
 
-use description_names::Names;
 use instruction_forms::Form;
+use lisa_tree::Names;
 use lisa_words::NoMemory;
 use std::alloc::Global;
 

@@ -8,13 +8,13 @@ use Rattle.std.proofs.lemmas.List.Sums.{sum_by-cons}
 use Rattle.std.proofs.lemmas.Slice.Eq.{bytes_eq-Decides}
 use Rattle.lisa_tree.specs.declared.descriptions.CodingItem.{CodingItem}
 use Rattle.lisa_tree.specs.declared.descriptions.CodingItem.TheVariants as items
-use Rattle.description_names.specs.Same.{same_name}
+use Rattle.lisa_tree.specs.Same.{same_name}
 use Rattle.coded_names.specs.Codings.{items_width, items_child, pattern_width}
 use Rattle.coding_checks.specs.Written.{item_count}
 use Rattle.name_checks.specs.Doubled.{earlier}
 use Rattle.instruction_forms.specs.Described.{labels}
 use Rattle.form_texts.specs.Syntaxes.{child_names, place_in}
-use Rattle.description_promises.proofs.Decoding.{position_is, position_there}
+use Rattle.lisa_machine.proofs.Decoding.{position_is, position_there}
 
 pub same_is : (n m : List ℕ) → same_name n m ≡ true → n ≡ m
 same_is n m e = (bytes_eq-Decides n m).0 e

@@ -3,18 +3,18 @@ use Rattle.std.proofs.Common.{◌≡◌, ◌≢◌, ◌<◌, ℕ, suc, List, [],
 use Rattle.std.specs.Prelude.{slice_get, slice_index_or}
 use Rattle.std.proofs.lemmas.Slice.Eq.{bytes_eq-Decides}
 use Rattle.lisa_tree.specs.Descriptions.{OperationTree, DescriptionTree}
-use Rattle.description_names.specs.Same.{same_name}
-use Rattle.description_names.specs.Operations.{number_of, numbers_of}
-use Rattle.description_names.specs.Declarations.{Choice, choices, alternatives_at}
+use Rattle.lisa_tree.specs.Same.{same_name}
+use Rattle.lisa_tree.specs.Operations.{number_of, numbers_of}
+use Rattle.lisa_tree.specs.Declarations.{Choice, choices, alternatives_at}
 use Rattle.instruction_trees.specs.Trees.{In, here, there}
 use Rattle.instruction_trees.specs.Forms.{Distinct, none, more}
 use Rattle.coding_tables.specs.Instructions.{forms_of}
 use Rattle.coding_tables.proofs.Heights.{listed_once}
-use Rattle.description_promises.specs.Distinctness.{AreDistinct}
-use Rattle.description_promises.specs.Soundness.{IsSound}
-use Rattle.description_promises.proofs.Choosing.{alternatives_are}
-use Rattle.description_promises.proofs.Decoding.{position_there}
-use Rattle.description_promises.proofs.Distinct.{alternatives_distinct}
+use Rattle.lisa_machine.specs.Distinctness.{AreDistinct}
+use Rattle.lisa_machine.specs.Soundness.{IsSound}
+use Rattle.lisa_machine.proofs.Choosing.{alternatives_are}
+use Rattle.lisa_machine.proofs.Decoding.{position_there}
+use Rattle.lisa_machine.proofs.Distinct.{alternatives_distinct}
 
 module _ (d : DescriptionTree) where
   -- ---- the numbers of names

@@ -9,24 +9,24 @@ use Rattle.lisa_tree.specs.Expressions.{ExprTree}
 use Rattle.lisa_tree.specs.Descriptions as trees
 use Rattle.lisa_tree.specs.Descriptions.{ResourceTree, DescriptionTree}
 use Rattle.description_places.specs.Places.{coding_places}
-use Rattle.description_names.specs.Same.{same_name}
-use Rattle.description_names.specs.Resources.{fields_in, shape_in, field_shape, fields}
-use Rattle.description_names.specs.Operations.{coding_in, sections_at}
-use Rattle.description_names.specs.Paths.{choice_node}
+use Rattle.lisa_tree.specs.Same.{same_name}
+use Rattle.lisa_tree.specs.Resources.{fields_in, shape_in, field_shape, fields}
+use Rattle.lisa_tree.specs.Operations.{coding_in, sections_at}
+use Rattle.lisa_tree.specs.Paths.{choice_node}
 use Rattle.stage_checks.specs.Resets.{is_scalar}
 use Rattle.lisa_machine.specs.Machines.{IsSpelled}
 use Rattle.coding_checks.specs.Widths.{AreWidths, choice_width, child_width}
 use Rattle.coding_checks.specs.Uneven.{IsFirstGroupWidth, child_uneven, root_uneven, register_width, shape_width, place_width, are_apart, uneven_fault, group_width}
 use Rattle.instruction_forms.specs.Widths.{HasWidth}
-use Rattle.description_promises.specs.Codings.{FitsWord}
-use Rattle.description_promises.specs.Resolving.{IsWidth, FitsResource}
-use Rattle.description_promises.specs.Freedom.{IsFree}
-use Rattle.description_promises.specs.Soundness.{IsSound}
-use Rattle.description_promises.proofs.Among.{free_places}
-use Rattle.description_promises.proofs.Decoding.{off_right, or_left, not_off}
-use Rattle.description_promises.proofs.Fitting.{coding_fits}
-use Rattle.description_promises.proofs.Resolved.{resource_fits}
-use Rattle.description_promises.proofs.Standing.{coding_stand}
+use Rattle.lisa_machine.specs.Codings.{FitsWord}
+use Rattle.lisa_machine.specs.Resolving.{IsWidth, FitsResource}
+use Rattle.lisa_machine.specs.Freedom.{IsFree}
+use Rattle.lisa_machine.specs.Soundness.{IsSound}
+use Rattle.lisa_machine.proofs.Among.{free_places}
+use Rattle.lisa_machine.proofs.Decoding.{off_right, or_left, not_off}
+use Rattle.lisa_machine.proofs.Fitting.{coding_fits}
+use Rattle.lisa_machine.proofs.Resolved.{resource_fits}
+use Rattle.lisa_machine.proofs.Standing.{coding_stand}
 use Rattle.spelled_promises.specs.Trees.{IsRootWord}
 use Rattle.spelled_promises.proofs.Found.{sections_formed, coding_formed}
 use Rattle.spelled_promises.proofs.Outer.{well_formed}

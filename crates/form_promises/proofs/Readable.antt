@@ -7,8 +7,8 @@ use Rattle.lisa_tree.specs.declared.descriptions.CodingItem.TheVariants as items
 use Rattle.lisa_tree.specs.Descriptions as trees
 use Rattle.lisa_tree.specs.Descriptions.{CodingTree, DescriptionTree}
 use Rattle.description_places.specs.Places.{item_places, items_places, coding_places}
-use Rattle.description_names.specs.Operations.{coding_in, sections_at}
-use Rattle.description_names.specs.Declarations.{alternatives_at}
+use Rattle.lisa_tree.specs.Operations.{coding_in, sections_at}
+use Rattle.lisa_tree.specs.Declarations.{alternatives_at}
 use Rattle.coded_names.specs.Codings.{is_coding}
 use Rattle.coding_checks.specs.Widths.{choice_named, child_width}
 use Rattle.coding_checks.specs.Uneven.{lacks_coding, is_too_wide, known_widths, differ, is_uneven, choice_uneven, child_uneven, root_uneven, place_width, are_apart, uneven_fault, group_width}
@@ -24,13 +24,13 @@ use Rattle.instruction_texts.specs.Once.{IsWrittenOnce}
 use Rattle.instruction_texts.specs.Texts.{form_symbols, IsReadable}
 use Rattle.instruction_texts.proofs.Tiles.{may_be_compared}
 use Rattle.form_texts.specs.Syntaxes.{elements_at, syntax_table}
-use Rattle.description_promises.specs.Codings.{FitsItem}
-use Rattle.description_promises.specs.Freedom.{AreFree, IsFree}
-use Rattle.description_promises.specs.Soundness.{IsSound}
-use Rattle.description_promises.proofs.Among.{free_places, free_both}
-use Rattle.description_promises.proofs.Decoding.{off_left, off_right, or_left, not_off}
-use Rattle.description_promises.proofs.Fitting.{coding_fits}
-use Rattle.description_promises.proofs.Standing.{coding_stand}
+use Rattle.lisa_machine.specs.Codings.{FitsItem}
+use Rattle.lisa_machine.specs.Freedom.{AreFree, IsFree}
+use Rattle.lisa_machine.specs.Soundness.{IsSound}
+use Rattle.lisa_machine.proofs.Among.{free_places, free_both}
+use Rattle.lisa_machine.proofs.Decoding.{off_left, off_right, or_left, not_off}
+use Rattle.lisa_machine.proofs.Fitting.{coding_fits}
+use Rattle.lisa_machine.proofs.Standing.{coding_stand}
 use Rattle.form_promises.proofs.Rooted.{IsRootOf, the_root, coded_there}
 use Rattle.form_promises.proofs.Wide.{even_child, child_named}
 use Rattle.form_promises.proofs.Spelled.{syntax_is, written_once}

@@ -6,15 +6,15 @@ use Rattle.std.proofs.lemmas.Option.{slice_get_within}
 use Rattle.lisa_tree.specs.Expressions.{ExprTree}
 use Rattle.lisa_tree.specs.Descriptions as trees
 use Rattle.lisa_tree.specs.Descriptions.{CodingTree, OperationTree, DescriptionTree}
-use Rattle.description_names.specs.declared.declared.What.{What}
-use Rattle.description_names.specs.declared.declared.What.TheVariants as whats
-use Rattle.description_names.specs.Operations.{operation_at, coding_in, sections_at, is_root}
+use Rattle.lisa_tree.specs.declared.declared.What.{What}
+use Rattle.lisa_tree.specs.declared.declared.What.TheVariants as whats
+use Rattle.lisa_tree.specs.Operations.{operation_at, coding_in, sections_at, is_root}
 use Rattle.coding_checks.specs.Widths.{choice_of, choice_named}
 use Rattle.coding_tables.specs.Instructions.{root, root_group, root_from, choice_of_root, instruction_choice}
-use Rattle.description_promises.specs.Declaring.{IsDeclared, IsGroup}
-use Rattle.description_promises.specs.Soundness.{IsSound}
-use Rattle.description_promises.proofs.Standing.{coding_stand}
-use Rattle.description_promises.proofs.Fitting.{coding_fits}
+use Rattle.lisa_machine.specs.Declaring.{IsDeclared, IsGroup}
+use Rattle.lisa_machine.specs.Soundness.{IsSound}
+use Rattle.lisa_machine.proofs.Standing.{coding_stand}
+use Rattle.lisa_machine.proofs.Fitting.{coding_fits}
 
 -- ---- names
 

@@ -12,10 +12,10 @@ use Rattle.lisa_tree.specs.declared.descriptions.SyntaxPart.TheVariants as parts
 use Rattle.lisa_tree.specs.Descriptions as trees
 use Rattle.lisa_tree.specs.Descriptions.{CodingTree, SectionTree, DescriptionTree}
 use Rattle.description_places.specs.Places.{part_places, parts_places}
-use Rattle.description_names.specs.declared.declared.What.{What}
-use Rattle.description_names.specs.declared.declared.What.TheVariants as whats
-use Rattle.description_names.specs.Operations.{coding_in, syntax_in, sections_at}
-use Rattle.description_names.specs.Declarations.{declared_at}
+use Rattle.lisa_tree.specs.declared.declared.What.{What}
+use Rattle.lisa_tree.specs.declared.declared.What.TheVariants as whats
+use Rattle.lisa_tree.specs.Operations.{coding_in, syntax_in, sections_at}
+use Rattle.lisa_tree.specs.Declarations.{declared_at}
 use Rattle.description_graph.proofs.Hits.{found}
 use Rattle.coded_names.specs.Codings.{in_coding, is_coding, field_width}
 use Rattle.coding_checks.specs.Written.{coded_count, shown_count, is_written, is_to_write, writing_in, writing_named, not_written}
@@ -26,15 +26,15 @@ use Rattle.instruction_forms.specs.Described.{labels, own_items}
 use Rattle.instruction_texts.specs.Symbols.{Element}
 use Rattle.instruction_texts.specs.Once.{Key, OfField, OfPart, fields_of, children_of, IsWrittenOnce}
 use Rattle.form_texts.specs.Syntaxes.{child_names, elements_in, elements_at, syntax_from, syntax_table}
-use Rattle.description_promises.specs.Codings.{FitsItem, FitsPart}
-use Rattle.description_promises.specs.Declaring.{IsDeclared, IsLabel, IsChild}
-use Rattle.description_promises.specs.Freedom.{AreFree, IsFree, AllStand}
-use Rattle.description_promises.specs.Soundness.{IsSound}
-use Rattle.description_promises.proofs.Among.{free_place, free_places, free_both}
-use Rattle.description_promises.proofs.Decoding.{or_left}
-use Rattle.description_promises.proofs.Entries.{entry_stands}
-use Rattle.description_promises.proofs.Fitting.{coding_fits, syntax_fits}
-use Rattle.description_promises.proofs.Standing.{coding_stand, syntax_stand}
+use Rattle.lisa_machine.specs.Codings.{FitsItem, FitsPart}
+use Rattle.lisa_machine.specs.Declaring.{IsDeclared, IsLabel, IsChild}
+use Rattle.lisa_machine.specs.Freedom.{AreFree, IsFree, AllStand}
+use Rattle.lisa_machine.specs.Soundness.{IsSound}
+use Rattle.lisa_machine.proofs.Among.{free_place, free_places, free_both}
+use Rattle.lisa_machine.proofs.Decoding.{or_left}
+use Rattle.lisa_machine.proofs.Entries.{entry_stands}
+use Rattle.lisa_machine.proofs.Fitting.{coding_fits, syntax_fits}
+use Rattle.lisa_machine.proofs.Standing.{coding_stand, syntax_stand}
 use Rattle.form_promises.proofs.Rooted.{coded_there}
 use Rattle.form_promises.proofs.Counted.{count, label_there, child_there, child_coded}
 use Rattle.form_promises.proofs.Keyed.{IsKeyOf, HasPlace, HavePlaces, keys_of, all_keyed, all_distinct, some_key}

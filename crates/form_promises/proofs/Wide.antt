@@ -10,10 +10,10 @@ use Rattle.lisa_tree.specs.declared.descriptions.CodingItem.TheVariants as items
 use Rattle.lisa_tree.specs.Descriptions as trees
 use Rattle.lisa_tree.specs.Descriptions.{CodingTree, DescriptionTree}
 use Rattle.description_places.specs.Places.{item_places, items_places, coding_places}
-use Rattle.description_names.specs.declared.declared.What.TheVariants as whats
-use Rattle.description_names.specs.Operations.{coding_in, sections_at, is_alias}
-use Rattle.description_names.specs.Declarations.{choices, alternatives_at}
-use Rattle.description_names.specs.Paths.{choice_node}
+use Rattle.lisa_tree.specs.declared.declared.What.TheVariants as whats
+use Rattle.lisa_tree.specs.Operations.{coding_in, sections_at, is_alias}
+use Rattle.lisa_tree.specs.Declarations.{choices, alternatives_at}
+use Rattle.lisa_tree.specs.Paths.{choice_node}
 use Rattle.description_graph.proofs.Nodes.{at_operation, at_choice}
 use Rattle.graph_paths.specs.Paths.{is_in}
 use Rattle.least_fixed_points.specs.Settles.{settled}
@@ -21,17 +21,17 @@ use Rattle.coded_names.specs.Codings.{is_coding, pattern_width}
 use Rattle.coding_checks.specs.Widths.{AreWidths, has_width, shared_width, alternatives_width, choice_width, choice_named, child_width, item_width, items_width, coding_width, node_width, width_step, added, capped}
 use Rattle.coding_checks.specs.Uneven.{lacks_coding, is_too_wide, known_widths, differ, is_uneven, choice_uneven, child_uneven, root_uneven, place_width, are_apart, uneven_fault, group_width}
 use Rattle.coding_tables.proofs.Owning.{owned}
-use Rattle.description_promises.specs.Codings.{FitsItem}
-use Rattle.description_promises.specs.Declaring.{IsChildOf}
-use Rattle.description_promises.specs.Freedom.{AreFree, IsFree}
-use Rattle.description_promises.specs.Soundness.{IsSound}
-use Rattle.description_promises.proofs.Among.{free_places, free_both}
-use Rattle.description_promises.proofs.Chosen.{in_here, in_later}
-use Rattle.description_promises.proofs.Choosing.{group_left, instance_is}
-use Rattle.description_promises.proofs.Decoding.{off_left, off_right, or_left, not_off}
-use Rattle.description_promises.proofs.Falling.{operation_ranks}
-use Rattle.description_promises.proofs.Fitting.{coding_fits}
-use Rattle.description_promises.proofs.Standing.{coding_stand}
+use Rattle.lisa_machine.specs.Codings.{FitsItem}
+use Rattle.lisa_machine.specs.Declaring.{IsChildOf}
+use Rattle.lisa_machine.specs.Freedom.{AreFree, IsFree}
+use Rattle.lisa_machine.specs.Soundness.{IsSound}
+use Rattle.lisa_machine.proofs.Among.{free_places, free_both}
+use Rattle.lisa_machine.proofs.Chosen.{in_here, in_later}
+use Rattle.lisa_machine.proofs.Choosing.{group_left, instance_is}
+use Rattle.lisa_machine.proofs.Decoding.{off_left, off_right, or_left, not_off}
+use Rattle.lisa_machine.proofs.Falling.{operation_ranks}
+use Rattle.lisa_machine.proofs.Fitting.{coding_fits}
+use Rattle.lisa_machine.proofs.Standing.{coding_stand}
 use Rattle.form_promises.proofs.Rooted.{IsRootOf, named, its_group, coded_there}
 
 -- ---- alternatives

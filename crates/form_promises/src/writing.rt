@@ -3,7 +3,7 @@
 ghost use Rattle.std.specs.Prelude.{◌≡◌, ℕ, List, [], None, true, slice_index_or};
 ghost use Rattle.lisa_tree.specs.Descriptions.{DescriptionTree};
 ghost use Rattle.description_places.specs.Places.{first, description_places};
-ghost use Rattle.description_names.specs.Operations.{coding_in, sections_at};
+ghost use Rattle.lisa_tree.specs.Operations.{coding_in, sections_at};
 ghost use Rattle.coded_names.specs.Codings.{is_coding};
 ghost use Rattle.lisa_machine.specs.Verdicts.{IsAccepted};
 ghost use Rattle.coding_checks.specs.Uneven.{IsFirstGroupWidth};

@@ -7,7 +7,7 @@ use Rattle.std.specs.Vec.{vec_len}
 use Rattle.lisa_tree.specs.Descriptions.{DescriptionTree}
 use Rattle.lisa_tree.specs.declared.descriptions.SyntaxItem.{SyntaxItem}
 use Rattle.lisa_tree.specs.declared.descriptions.CodingItem.{CodingItem}
-use Rattle.description_names.specs.Operations.{syntax_in, sections_at}
+use Rattle.lisa_tree.specs.Operations.{syntax_in, sections_at}
 use Rattle.description_graph.proofs.Lists as lists
 use Rattle.instruction_forms.specs.declared.form.Field.{Field}
 use Rattle.instruction_forms.specs.declared.form.Form.{Form, out-Form}

@@ -9,8 +9,8 @@ use Rattle.lisa_tree.specs.declared.descriptions.SyntaxItem.{SyntaxItem}
 use Rattle.lisa_tree.specs.declared.descriptions.SyntaxPart.{SyntaxPart}
 use Rattle.lisa_tree.specs.declared.descriptions.SyntaxPart.TheVariants as parts
 use Rattle.lisa_tree.specs.Descriptions.{DescriptionTree}
-use Rattle.description_names.specs.Same.{same_name}
-use Rattle.description_names.specs.Operations.{syntax_in, sections_at}
+use Rattle.lisa_tree.specs.Same.{same_name}
+use Rattle.lisa_tree.specs.Operations.{syntax_in, sections_at}
 use Rattle.instruction_forms.specs.Described.{items_at, labels}
 use Rattle.instruction_texts.specs.Symbols.{Kind, Decimal, WithSign, Hexadecimal, Content, Text, Number, Part, Element}
 

@@ -7,8 +7,8 @@ ghost use Rattle.form_texts.specs.Written.{symbol_of, inner_of, written_from, wr
 use crate::assembling::{Source, assemble, number_behind};
 use crate::places::{coding_items, syntax_items};
 use crate::symbols::Symbol;
-use description_names::Names;
 use instruction_forms::Form;
+use lisa_tree::Names;
 use lisa_words::NoMemory;
 use std::alloc::Global;
 

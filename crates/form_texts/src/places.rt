@@ -1,14 +1,13 @@
 //! Where the names of a syntax stand in the coding of their operation.
 
 ghost use Rattle.std.specs.Prelude.{◌≡◌};
-ghost use Rattle.description_names.specs.Operations.{syntax_in, sections_at};
+ghost use Rattle.lisa_tree.specs.Operations.{syntax_in, sections_at};
 ghost use Rattle.instruction_forms.specs.Described.{items_at, labels};
 ghost use Rattle.form_texts.specs.Syntaxes.{child_names, place_in};
 ghost use Rattle.form_texts.specs.Written.{shown_items};
 
-use description_names::{Names, coding, syntax};
 use description_types::sections;
-use lisa_tree::{CodingItem, CodingPart, SyntaxItem};
+use lisa_tree::{CodingItem, CodingPart, Names, SyntaxItem, coding, syntax};
 use lisa_words::Name;
 
 /// The items of an operation's coding, none of a root.

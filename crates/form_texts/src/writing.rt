@@ -10,9 +10,9 @@ ghost use Rattle.form_texts.specs.Written.{written};
 use crate::conditions::is_instruction_text;
 use crate::form_symbols::form_symbols;
 use crate::gathering::{order, shapes};
-use description_names::Names;
 use instruction_forms::Form;
 use instruction_texts::Shape;
+use lisa_tree::Names;
 use lisa_words::NoMemory;
 use std::alloc::Global;
 

@@ -5,7 +5,7 @@ use Rattle.std.specs.Prelude.{slice_index}
 use Rattle.std.proofs.lemmas.List.{get_or-map}
 use Rattle.std.proofs.lemmas.Nat.{mod_below, pow_pos}
 use Rattle.lisa_tree.specs.Descriptions.{DescriptionTree}
-use Rattle.description_names.specs.Operations.{is_alias}
+use Rattle.lisa_tree.specs.Operations.{is_alias}
 use Rattle.instruction_trees.specs.Trees.{Form, Done, is_plain}
 use Rattle.instruction_trees.proofs.Relabelled.{plain_relabel}
 use Rattle.instruction_trees.specs.Values.{AreWithin, none, more, filled}

@@ -4,7 +4,7 @@ use Rattle.std.specs.Prelude.{slice_index, option_map}
 use Rattle.std.proofs.lemmas.List.{length-map}
 use Rattle.lisa_tree.specs.declared.faults.DescFault.{DescFault}
 use Rattle.lisa_tree.specs.Descriptions.{DescriptionTree}
-use Rattle.description_names.specs.Operations.{is_alias}
+use Rattle.lisa_tree.specs.Operations.{is_alias}
 use Rattle.instruction_trees.specs.Trees.{Form, IsBelow, form, is_plain, form_bits}
 use Rattle.coding_tables.specs.Codings.{coding_table}
 use Rattle.instruction_trees.specs.Bits.{Frame}
@@ -14,11 +14,11 @@ use Rattle.pattern_tables.specs.Overlaps.{AnswersUncovered, IsCovered}
 use Rattle.form_patterns.specs.Instructions.{instruction_frames, instruction_plain}
 use Rattle.lisa_machine.specs.Verdicts.{IsAccepted}
 use Rattle.instruction_forms.specs.Widths.{HasWidth}
-use Rattle.description_promises.proofs.Sound.{sound}
+use Rattle.lisa_machine.proofs.Sound.{sound}
 use Rattle.coding_tables.proofs.Heights.{are_listed}
 use Rattle.pattern_tables.proofs.Decoding.{in_place}
 use Rattle.instruction_trees.proofs.Relabelled.{fits_relabel}
-use Rattle.lisa_coding.specs.Verdicts.{not_an_alias, IsUncoveredVerdict}
+use Rattle.lisa_forms.specs.Coverage.{not_an_alias, IsUncoveredVerdict}
 use Rattle.generated_programs.specs.Draws.{marked_from, plain_forms}
 use Rattle.generated_programs.proofs.Growing.{some_instruction}
 

@@ -3,7 +3,7 @@ use Rattle.std.proofs.Common.{◌≡◌, ◌∙◌, ℕ, Option, None, Some, ref
 use Rattle.std.specs.Prelude.{◌↔◌}
 use Rattle.std.proofs.lemmas.Option.{same_Some}
 use Rattle.lisa_tree.specs.Descriptions.{DescriptionTree}
-use Rattle.description_names.specs.Paths.{choice_node}
+use Rattle.lisa_tree.specs.Paths.{choice_node}
 use Rattle.least_fixed_points.specs.Settles.{Settles, settled, IsMonotone, IsWithin}
 use Rattle.coding_checks.specs.Widths.{width_step}
 use Rattle.coding_checks.specs.Steady.{widths_monotone}

@@ -3,9 +3,9 @@
 ghost use Rattle.std.specs.Prelude.{◌≡◌, ◌⊎◌, ◌++◌, ◌∷◌, [], codes, option_copied, IfOk, IfErr, None, Some, Err};
 ghost use Rattle.lisa_tree.specs.Descriptions.{description_tree};
 ghost use Rattle.lisa_forms.specs.Parts.{AreFormsOf};
-ghost use Rattle.lisa_coding.specs.Verdicts.{IsUncoveredVerdict};
+ghost use Rattle.lisa_forms.specs.Coverage.{IsUncoveredVerdict};
 ghost use Rattle.lisa_syntax.specs.Parts.{IsSyntaxOf};
-ghost use Rattle.generated_programs.specs.declared.generating.GenFault.TheVariants as faults;
+ghost use Rattle.lisa_object.specs.declared.faults.GenFault.TheVariants as faults;
 ghost use Rattle.generated_programs.specs.Memories.{IsProgramMemory};
 ghost use Rattle.generated_programs.specs.Programs.{program_text, IsProgram};
 
@@ -13,27 +13,11 @@ use crate::choices::Choices;
 use crate::memories::first_memory;
 use lisa_forms::Forms;
 use lisa_machine::Machine;
+use lisa_object::GenFault;
 use lisa_syntax::Syntax;
 use lisa_words::{Name, NoMemory};
 use rand_pcg::Lcg128Xsl64;
 use std::alloc::{AllocError, Global};
-
-/// Why there is no program.
-#[derive(Debug, PartialEq, Eq, Drop)]
-pub enum GenFault {
-    /// 1: no memory is as wide as an instruction, or there is no instruction.
-    NoProgram,
-    /// Memory was wanted and not given.
-    NoMemory,
-}
-
-impl From<NoMemory> for GenFault {
-    ghost from_gives = { λ _ fault. fault ≡ faults.NoMemory };
-
-    fn from(_error: NoMemory) -> GenFault {
-        GenFault::NoMemory
-    }
-}
 
 // The name of the memory of programs: the first that is as wide as an instruction.
 fn program_memory<'a>(machine: &'a Machine, forms: &Forms) -> Option<&'a Name>

@@ -2,11 +2,11 @@
 
 ghost use Rattle.std.specs.Prelude.{◌≡◌, ℕ, List, true, None, Some};
 ghost use Rattle.lisa_tree.specs.Descriptions.{DescriptionTree};
-ghost use Rattle.description_names.specs.Operations.{is_alias};
+ghost use Rattle.lisa_tree.specs.Operations.{is_alias};
 ghost use Rattle.lisa_machine.specs.Verdicts.{IsAccepted};
 ghost use Rattle.instruction_trees.specs.Trees.{is_plain};
 ghost use Rattle.form_patterns.specs.Filled.{IsInstruction};
-ghost use Rattle.lisa_coding.specs.Verdicts.{IsUncoveredVerdict};
+ghost use Rattle.lisa_forms.specs.Coverage.{IsUncoveredVerdict};
 ghost use Rattle.rand_pcg.specs.Lcg.{Lcg};
 ghost use Rattle.rand_pcg.specs.Pcg.{pcg64};
 ghost use Rattle.generated_programs.specs.Memories.{IsProgramMemory};

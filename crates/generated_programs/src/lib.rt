@@ -7,5 +7,6 @@ mod generating;
 mod laws;
 mod memories;
 
-pub use generating::{GenFault, generate};
+pub use generating::generate;
 pub use laws::{programs_are_one, what_is_drawn_is_plain};
+pub use lisa_object::GenFault;

@@ -3,8 +3,8 @@ use Rattle.std.proofs.Common.{◌≡◌, ◌<◌, ◌≤◌, ◌+◌, ◌*◌, �
 use Rattle.std.specs.Prelude.{unwrap_or}
 use Rattle.std.proofs.lemmas.List.{map-append}
 use Rattle.lisa_tree.specs.Descriptions.{DescriptionTree}
-use Rattle.description_names.specs.Declarations.{choices, alternatives_at}
-use Rattle.description_names.specs.Paths.{node_count, choice_node}
+use Rattle.lisa_tree.specs.Declarations.{choices, alternatives_at}
+use Rattle.lisa_tree.specs.Paths.{node_count, choice_node}
 use Rattle.description_graph.proofs.Nodes.{alternatives_below}
 use Rattle.instruction_trees.specs.Trees.{Form, Done, In, instructions}
 use Rattle.instruction_trees.specs.Forms.{forms}

@@ -6,7 +6,7 @@ use Rattle.lisa_tree.specs.declared.descriptions.Pattern.{Pattern}
 use Rattle.lisa_tree.specs.declared.descriptions.CodingItem.{CodingItem}
 use Rattle.lisa_tree.specs.declared.descriptions.CodingItem.TheVariants as items
 use Rattle.lisa_tree.specs.Descriptions.{DescriptionTree}
-use Rattle.description_names.specs.Paths.{node_at, node_count}
+use Rattle.lisa_tree.specs.Paths.{node_at, node_count}
 use Rattle.coded_names.specs.Codings.{pattern_width}
 use Rattle.coding_checks.specs.Widths.{items_width, capped}
 use Rattle.instruction_trees.specs.Trees.{Item, Fixed, Free, Form, Pass, Value, Choose, Tree, In, here, there, coding, size, placed, Table}

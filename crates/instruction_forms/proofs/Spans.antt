@@ -6,7 +6,7 @@ use Rattle.lisa_tree.specs.declared.descriptions.Pattern.{Pattern}
 use Rattle.lisa_tree.specs.declared.descriptions.CodingItem.{CodingItem}
 use Rattle.lisa_tree.specs.Descriptions as trees
 use Rattle.lisa_tree.specs.Descriptions.{CodingTree, DescriptionTree}
-use Rattle.description_names.specs.Operations.{coding_in, sections_at}
+use Rattle.lisa_tree.specs.Operations.{coding_in, sections_at}
 use Rattle.description_graph.proofs.Nodes.{at_operation}
 use Rattle.least_fixed_points.specs.Settles.{Settles, settled}
 use Rattle.coded_names.specs.Codings.{pattern_width, times_or}

@@ -7,8 +7,8 @@ use Rattle.lisa_tree.specs.declared.descriptions.Pattern.{Pattern}
 use Rattle.lisa_tree.specs.declared.descriptions.CodingItem.{CodingItem}
 use Rattle.lisa_tree.specs.declared.descriptions.CodingItem.TheVariants as items
 use Rattle.lisa_tree.specs.Descriptions.{DescriptionTree}
-use Rattle.description_names.specs.Declarations.{choices, alternatives_at}
-use Rattle.description_names.specs.Paths.{choice_node}
+use Rattle.lisa_tree.specs.Declarations.{choices, alternatives_at}
+use Rattle.lisa_tree.specs.Paths.{choice_node}
 use Rattle.coding_checks.specs.Widths.{choice_named, capped}
 use Rattle.coding_tables.specs.Codings.{pattern_digits, choice_alternatives, child_alternatives, items_of}
 use Rattle.coding_tables.specs.Instructions.{below_count, total, AreFormCounts}

@@ -7,9 +7,9 @@ use Rattle.lisa_tree.specs.declared.descriptions.CodingItem.{CodingItem}
 use Rattle.lisa_tree.specs.declared.descriptions.CodingItem.TheVariants as items
 use Rattle.lisa_tree.specs.Descriptions as trees
 use Rattle.lisa_tree.specs.Descriptions.{CodingTree, DescriptionTree}
-use Rattle.description_names.specs.Operations.{coding_in, sections_at}
-use Rattle.description_names.specs.Declarations.{choices, alternatives_at}
-use Rattle.description_names.specs.Paths.{node_at, node_count, choice_node}
+use Rattle.lisa_tree.specs.Operations.{coding_in, sections_at}
+use Rattle.lisa_tree.specs.Declarations.{choices, alternatives_at}
+use Rattle.lisa_tree.specs.Paths.{node_at, node_count, choice_node}
 use Rattle.description_graph.specs.Circles.{IsFirstCircularOperation}
 use Rattle.description_graph.proofs.Nodes.{at_choice}
 use Rattle.coding_checks.specs.Widths.{choice_named, choice_width, item_width, items_width, alternatives_width, node_width, capped, AreWidths}

@@ -1,8 +1,8 @@
 -- The width of instructions, and plain forms.
 use Rattle.std.proofs.Common.{◌≡◌, ◌≤◌, ◌+◌, ◌&&◌, ℕ, List, [], ◌∷◌, Option, Some, Bool, true, false, not, if◌then◌else◌, refl, ap, ap₂, ◌∙◌, arith, subst}
 use Rattle.lisa_tree.specs.Descriptions.{DescriptionTree}
-use Rattle.description_names.specs.Declarations.{alternatives_at}
-use Rattle.description_names.specs.Paths.{Node, Choosing, choice_node}
+use Rattle.lisa_tree.specs.Declarations.{alternatives_at}
+use Rattle.lisa_tree.specs.Paths.{Node, Choosing, choice_node}
 use Rattle.description_graph.proofs.Nodes.{at_choice}
 use Rattle.instruction_trees.specs.Trees.{Item, Fixed, Free, Field, Child, Table, Tree, Done, Pass, Value, Choose, Form, Fits, AnyValue, coding, size, placed, is_plain, instructions}
 use Rattle.coding_tables.specs.Codings.{choice_alternatives, coding_table}

@@ -6,7 +6,7 @@ use Rattle.lisa_tree.specs.declared.descriptions.CodingItem.{CodingItem}
 use Rattle.lisa_tree.specs.declared.descriptions.CodingItem.TheVariants as items
 use Rattle.lisa_tree.specs.Descriptions as trees
 use Rattle.lisa_tree.specs.Descriptions.{CodingTree, DescriptionTree}
-use Rattle.description_names.specs.Operations.{coding_in, syntax_in, sections_at}
+use Rattle.lisa_tree.specs.Operations.{coding_in, syntax_in, sections_at}
 use Rattle.coded_names.specs.Codings.{number_kind}
 use Rattle.instruction_trees.specs.Trees.{Tree, Done, Pass, Value, Choose, coding, placed}
 use Rattle.instruction_trees.specs.Trees as plain

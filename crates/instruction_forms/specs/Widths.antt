@@ -1,7 +1,7 @@
 -- How wide an instruction is.
 use Rattle.std.specs.Prelude.{ℕ, ◌≡◌, Option, None, Some}
 use Rattle.lisa_tree.specs.Descriptions.{DescriptionTree}
-use Rattle.description_names.specs.Paths.{choice_node}
+use Rattle.lisa_tree.specs.Paths.{choice_node}
 use Rattle.least_fixed_points.specs.Settles.{Settles}
 use Rattle.coding_checks.specs.Widths.{width_step}
 use Rattle.coding_tables.specs.Instructions.{instruction_choice}

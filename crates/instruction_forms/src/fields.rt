@@ -3,7 +3,7 @@
 ghost use Rattle.std.specs.Prelude.{◌≡◌, ◌<◌, ◌+◌, ◌++◌, length, map, IfOk, OnOk};
 ghost use Rattle.least_fixed_points.specs.Settles.{entry};
 ghost use Rattle.lisa_tree.specs.Descriptions.{section_tree};
-ghost use Rattle.description_names.specs.Operations.{sections_at, syntax_in};
+ghost use Rattle.lisa_tree.specs.Operations.{sections_at, syntax_in};
 ghost use Rattle.coded_names.specs.Codings.{number_kind};
 ghost use Rattle.coding_checks.specs.Widths.{AreWidths};
 ghost use Rattle.instruction_forms.specs.Described.{is_signed_kind, field, items_at};
@@ -13,9 +13,8 @@ use crate::form::Field;
 use crate::picking::{Pick, end, item_span, own_items};
 use crate::sources::Sources;
 use coded_names::{CodedNames, pattern_width};
-use description_names::Names;
 use description_types::sections;
-use lisa_tree::CodingItem;
+use lisa_tree::{CodingItem, Names};
 use lisa_words::{Kind, Name, NoMemory};
 use std::alloc::Global;
 

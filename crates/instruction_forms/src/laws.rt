@@ -2,7 +2,7 @@
 
 ghost use Rattle.std.specs.Prelude.{◌≡◌, ◌≤◌, ℕ, Some, length};
 ghost use Rattle.lisa_tree.specs.Descriptions.{DescriptionTree};
-ghost use Rattle.description_names.specs.Operations.{is_alias};
+ghost use Rattle.lisa_tree.specs.Operations.{is_alias};
 ghost use Rattle.instruction_trees.specs.Trees.{Form, Fits, AnyValue, form_bits, is_plain};
 ghost use Rattle.coding_tables.specs.Codings.{coding_table};
 ghost use Rattle.coding_tables.specs.Instructions.{instruction_choice, instruction_items};

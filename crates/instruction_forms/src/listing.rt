@@ -2,8 +2,8 @@
 
 ghost use Rattle.std.specs.Prelude.{◌≡◌, ◌<◌, ◌≤◌, ℕ, None, Some, IfOk, length};
 ghost use Rattle.least_fixed_points.specs.Settles.{entry};
-ghost use Rattle.description_names.specs.Declarations.{choices, alternatives_at};
-ghost use Rattle.description_names.specs.Paths.{choice_node};
+ghost use Rattle.lisa_tree.specs.Declarations.{choices, alternatives_at};
+ghost use Rattle.lisa_tree.specs.Paths.{choice_node};
 ghost use Rattle.description_graph.specs.Circles.{IsFirstCircularOperation};
 ghost use Rattle.coding_checks.specs.Widths.{AreWidths};
 ghost use Rattle.coding_tables.specs.Instructions.{below_count, total, form_count};
@@ -19,8 +19,8 @@ use crate::picking::{Pick, pick_among, picks};
 use crate::sources::Sources;
 use coding_checks::Widths;
 use coding_tables::{FormCounts, instruction_choice};
-use description_names::Names;
 use description_types::operation_count;
+use lisa_tree::Names;
 use lisa_words::NoMemory;
 use std::alloc::Global;
 

@@ -1,13 +1,13 @@
 //! The names of forms.
 
 ghost use Rattle.std.specs.Prelude.{◌≡◌, ◌++◌, IfOk, OnOk};
-ghost use Rattle.description_names.specs.Operations.{name_at};
+ghost use Rattle.lisa_tree.specs.Operations.{name_at};
 ghost use Rattle.instruction_forms.specs.Trees.{form_tree};
 ghost use Rattle.instruction_forms.specs.Naming.{form_text};
 
 use crate::form::Form;
-use description_names::Names;
 use description_types::operation_name;
+use lisa_tree::Names;
 use lisa_words::{Name, NoMemory};
 use std::alloc::Global;
 

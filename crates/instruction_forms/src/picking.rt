@@ -12,9 +12,8 @@ ghost use Rattle.instruction_forms.specs.Picks.{pick, told, item_span, span, chi
 use crate::sources::Sources;
 use coded_names::pattern_width;
 use coding_tables::{FormCounts, choice_named};
-use description_names::{Names, coding};
 use description_types::sections;
-use lisa_tree::{CodingItem, CodingPart};
+use lisa_tree::{CodingItem, CodingPart, Names, coding};
 use lisa_words::{Name, NoMemory};
 use std::alloc::Global;
 

@@ -7,7 +7,7 @@ ghost use Rattle.coding_tables.specs.Instructions.{AreFormCounts};
 
 use coding_checks::Widths;
 use coding_tables::FormCounts;
-use description_names::Names;
+use lisa_tree::Names;
 
 /// The names of a description in which no operation reaches itself, with the widths of its codings, and how many forms each has.
 #[derive(Drop)]

@@ -2,11 +2,10 @@
 ghost use Rattle.std.specs.Prelude.{◌≡◌, ◌<◌, ℕ, IfOk};
 ghost use Rattle.lisa_tree.specs.Descriptions.{description_tree};
 ghost use Rattle.lisa_forms.specs.Parts.{AreFormsOf};
-ghost use Rattle.lisa_coding.specs.Parts.{IsCodingOf, HasField};
+ghost use Rattle.lisa_forms.specs.Codings.{IsCodingOf, HasField};
 ghost use Rattle.lisa_syntax.specs.Parts.{IsSyntaxOf};
 
-use lisa_coding::Coding;
-use lisa_forms::Forms;
+use lisa_forms::{Coding, Forms};
 use lisa_machine::{Machine, check};
 use lisa_reader::read_description;
 use lisa_syntax::Syntax;

@@ -1,7 +1,7 @@
 // Instructions with their words and texts, as a manual lists them.
 ghost use Rattle.std.specs.Prelude.{◌≡◌};
 ghost use Rattle.lisa_tree.specs.Descriptions.{description_tree};
-ghost use Rattle.lisa_coding.specs.Parts.{IsCodingOf};
+ghost use Rattle.lisa_forms.specs.Codings.{IsCodingOf};
 ghost use Rattle.lisa_syntax.specs.Parts.{IsSyntaxOf};
 
 use instruction_samples::{

@@ -2,7 +2,7 @@
 ghost use Rattle.std.specs.Prelude.{◌≡◌, ◌<◌};
 
 use instruction_samples::{COUNTER, FREE, Instructions, MOVES, NESTED, PROCESSOR, SIGNED, WIDE};
-use lisa_coding::{Coding, Steps};
+use lisa_forms::{Coding, Steps};
 use std::alloc::Global;
 use std::marker::Brand;
 use std::sync::ledger::{Blank, Ledger};

@@ -3,19 +3,19 @@ use Rattle.std.proofs.Common.{◌≡◌, ◌≢◌, ◌≤◌, ◌+◌, ℕ, zer
 use Rattle.std.specs.Prelude.{slice_get}
 use Rattle.std.specs.List.{AllByRecursion, list_all}
 use Rattle.std.proofs.lemmas.List.{map-append, length-map}
-use Rattle.text_scan.specs.Bytes.{is_word}
+use Rattle.lisa_words.specs.Bytes.{is_word}
 use Rattle.lisa_tree.specs.declared.tokens.Shape.{Shape}
 use Rattle.lisa_tree.specs.Descriptions as trees
 use Rattle.lisa_tree.specs.Descriptions.{ResourceTree, OperationTree, DescriptionTree}
 use Rattle.lisa_engine.specs.declared.parts.Item.{Item}
 use Rattle.lisa_engine.specs.declared.parts.ArrayItem.{ArrayItem}
 use Rattle.lisa_engine.specs.Shape.{HaveDistinctNames}
-use Rattle.description_names.specs.Resources.{stages, stages_in, fields}
-use Rattle.description_names.specs.Operations.{name_at, operation_at}
+use Rattle.lisa_tree.specs.Resources.{stages, stages_in, fields}
+use Rattle.lisa_tree.specs.Operations.{name_at, operation_at}
 use Rattle.machine_parts.specs.Parts.{arrays_of, pins_of, registers_of, register_in}
 use Rattle.spelled_promises.specs.Words.{IsName}
 use Rattle.spelled_promises.specs.Trees.{IsWellFormed, IsWellFormedResource, IsWellFormedOperation}
-use Rattle.description_promises.specs.Distinctness.{AreDistinct, field_names}
+use Rattle.lisa_machine.specs.Distinctness.{AreDistinct, field_names}
 use Rattle.use_promises.specs.Showing.{FitsShown, shown_names}
 use Rattle.activation_trees.specs.declared.parts.Occurrence.{Occurrence}
 use Rattle.activation_trees.specs.Unfolding.{occurrences}

@@ -9,11 +9,11 @@ use Rattle.lisa_tree.specs.Descriptions.{ResourceTree, DescriptionTree}
 use Rattle.lisa_engine.specs.declared.parts.Item.{Item}
 use Rattle.lisa_engine.specs.declared.parts.ArrayItem.{ArrayItem}
 use Rattle.lisa_engine.specs.Shape.{IsWidth, HaveWidths}
-use Rattle.description_names.specs.Resources.{stages, fields, fields_in}
+use Rattle.lisa_tree.specs.Resources.{stages, fields, fields_in}
 use Rattle.machine_parts.specs.Parts.{arrays_of, pins_of, registers_of}
-use Rattle.description_promises.specs.Soundness.{IsSound}
-use Rattle.description_promises.specs.Resolving.{FitsResource}
-use Rattle.description_promises.proofs.Resolved.{resource_fits}
+use Rattle.lisa_machine.specs.Soundness.{IsSound}
+use Rattle.lisa_machine.specs.Resolving.{FitsResource}
+use Rattle.lisa_machine.proofs.Resolved.{resource_fits}
 use Rattle.use_promises.specs.Showing.{FitsArray, FitsItem, FitsShown}
 use Rattle.activation_trees.specs.declared.parts.Occurrence.{Occurrence}
 use Rattle.activation_trees.specs.Unfolding.{occurrences}

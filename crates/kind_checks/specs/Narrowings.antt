@@ -8,7 +8,7 @@ use Rattle.lisa_tree.specs.Descriptions.{DescriptionTree}
 use Rattle.description_places.specs.Scopes.{Scope}
 use Rattle.description_places.specs.Places as places
 use Rattle.description_places.specs.Places.{Condition, first, description_places}
-use Rattle.description_names.specs.Operations.{name_at}
+use Rattle.lisa_tree.specs.Operations.{name_at}
 use Rattle.description_types.specs.Shapes.{beside}
 use Rattle.description_places.specs.Literals.{literal}
 use Rattle.description_types.specs.Types.{type_of}

@@ -7,12 +7,12 @@ use Rattle.lisa_tree.specs.Descriptions.{ResourceTree, DescriptionTree}
 use Rattle.description_places.specs.declared.scopes.Local.{Local}
 use Rattle.description_places.specs.declared.sites.Region.{Region}
 use Rattle.description_places.specs.declared.sites.Region.TheVariants as regions
-use Rattle.description_names.specs.declared.declared.What.{What}
-use Rattle.description_names.specs.declared.declared.What.TheVariants as whats
-use Rattle.description_names.specs.declared.declared.Meaning.{Meaning}
-use Rattle.description_names.specs.declared.declared.Meaning.TheVariants as meanings
-use Rattle.description_names.specs.Declarations.{what_at, plain_at}
-use Rattle.description_names.specs.Meanings.{meaning}
+use Rattle.lisa_tree.specs.declared.declared.What.{What}
+use Rattle.lisa_tree.specs.declared.declared.What.TheVariants as whats
+use Rattle.lisa_tree.specs.declared.declared.Meaning.{Meaning}
+use Rattle.lisa_tree.specs.declared.declared.Meaning.TheVariants as meanings
+use Rattle.lisa_tree.specs.Declarations.{what_at, plain_at}
+use Rattle.lisa_tree.specs.Meanings.{meaning}
 use Rattle.description_types.specs.declared.values.Traits.{Traits}
 use Rattle.description_types.specs.Refused.{is_apart}
 use Rattle.description_types.specs.Tables.{Known}

@@ -15,11 +15,11 @@ use Rattle.description_places.specs.declared.sites.Region.TheVariants as regions
 use Rattle.description_places.specs.Scopes.{Scope, local_named}
 use Rattle.description_places.specs.Places as places
 use Rattle.description_places.specs.Places.{Place, Condition, first, description_places}
-use Rattle.description_names.specs.Same.{same_name}
-use Rattle.description_names.specs.Resources.{stages, stage_at, is_pipeline}
-use Rattle.description_names.specs.Operations.{name_at, own_stage, is_root, declares_in, coding_in, behavior_in, expression_in, activation_in}
-use Rattle.description_names.specs.Declarations.{declared_at}
-use Rattle.description_names.specs.Meanings.{meaning}
+use Rattle.lisa_tree.specs.Same.{same_name}
+use Rattle.lisa_tree.specs.Resources.{stages, stage_at, is_pipeline}
+use Rattle.lisa_tree.specs.Operations.{name_at, own_stage, is_root, declares_in, coding_in, behavior_in, expression_in, activation_in}
+use Rattle.lisa_tree.specs.Declarations.{declared_at}
+use Rattle.lisa_tree.specs.Meanings.{meaning}
 use Rattle.description_types.specs.Refused.{may_input, are_apart}
 use Rattle.description_types.specs.Tables.{Known, AreKinds}
 use Rattle.kind_checks.specs.Uses.{is_misread, is_misindexed, is_miswritten, is_miscounted, is_miscalled, is_misstarted, is_wrong_operand, is_wrong_root_group, is_wrong_field, is_wrong_number, is_wrong_shown, is_misdeclared, may_output, tells_decoded, is_free, is_wrong_register}

@@ -1,12 +1,13 @@
 //! What an alias operation may not be.
 
 ghost use Rattle.std.specs.Prelude.{◌≡◌, ◌||◌, codes, map, option_map};
-ghost use Rattle.description_names.specs.Same.{same_name};
+ghost use Rattle.lisa_tree.specs.Same.{same_name};
 ghost use Rattle.lisa_tree.specs.Descriptions.{coding_tree, declare_tree, operation_tree};
 ghost use Rattle.kind_checks.specs.WrongKinds.{has_references, lacks_coding, is_wrong_alias};
 
-use description_names::{activation, behavior, coding, declares, expression};
-use lisa_tree::{CodingPart, Declare, Operation};
+use lisa_tree::{
+    CodingPart, Declare, Operation, activation, behavior, coding, declares, expression,
+};
 use lisa_words::Name;
 
 // Whether a declaration is of references.

@@ -3,8 +3,8 @@
 ghost use Rattle.std.specs.Prelude.{◌≡◌};
 ghost use Rattle.kind_checks.specs.Uses.{is_uncallable, is_no_operand, sorts_differ, by_sort};
 
-use description_names::What;
 use description_types::{Traits, is_apart};
+use lisa_tree::What;
 
 /// Whether a name isn't called.
 pub(crate) fn is_uncallable(traits: Traits) -> bool

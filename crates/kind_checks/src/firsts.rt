@@ -8,10 +8,9 @@ ghost use Rattle.kind_checks.specs.WrongKinds.{wrong_kind, IsFirstWrongKind};
 
 use crate::narrowings::Narrowing;
 use crate::wrong_kinds::WrongKind;
-use description_names::Names;
 use description_places::first_fault;
 use description_types::Kinds;
-use lisa_tree::DescFault;
+use lisa_tree::{DescFault, Names};
 use lisa_words::NoMemory;
 use std::alloc::Global;
 

@@ -2,14 +2,13 @@
 
 ghost use Rattle.std.specs.Prelude.{◌≡◌, IfOk, None};
 ghost use Rattle.lisa_tree.specs.Expressions.{expr_tree};
-ghost use Rattle.description_names.specs.Operations.{name_at};
+ghost use Rattle.lisa_tree.specs.Operations.{name_at};
 ghost use Rattle.description_types.specs.Tables.{known_by};
 ghost use Rattle.kind_checks.specs.Narrowings.{narrows, assigned_type, narrowing};
 
-use description_names::Names;
 use description_places::{Condition, Region, Scope, Site};
 use description_types::{Kinds, beside, literal, operation_name};
-use lisa_tree::{DescFault, Expr, Shape};
+use lisa_tree::{DescFault, Expr, Names, Shape};
 use lisa_words::NoMemory;
 use std::alloc::Global;
 

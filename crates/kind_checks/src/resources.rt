@@ -2,11 +2,10 @@
 
 ghost use Rattle.std.specs.Prelude.{◌≡◌, option_map, length, map};
 ghost use Rattle.lisa_tree.specs.Descriptions.{resource_tree};
-ghost use Rattle.description_names.specs.Resources.{stages, stages_in};
+ghost use Rattle.lisa_tree.specs.Resources.{stages, stages_in};
 ghost use Rattle.kind_checks.specs.Uses.{is_no_word, is_no_register, is_no_array};
 
-use description_names::Names;
-use lisa_tree::Resource;
+use lisa_tree::{Names, Resource};
 
 /// Whether a resource is an array or the pipeline.
 pub(crate) fn is_no_word(resource: Option<&Resource>) -> bool

@@ -1,16 +1,16 @@
 //! Which uses of a name go against what it stands for.
 
 ghost use Rattle.std.specs.Prelude.{◌≡◌, ◌||◌, Some};
-ghost use Rattle.description_names.specs.declared.declared.What.TheVariants as whats;
-ghost use Rattle.description_names.specs.Declarations.{plain_at};
+ghost use Rattle.lisa_tree.specs.declared.declared.What.TheVariants as whats;
+ghost use Rattle.lisa_tree.specs.Declarations.{plain_at};
 ghost use Rattle.description_types.specs.Tables.{known_by};
 ghost use Rattle.kind_checks.specs.Uses.{meant_misread, is_misread, meant_misindexed, is_misindexed, meant_miswritten, is_miswritten, meant_miscounted, is_miscounted, meant_miscalled, is_miscalled, is_wrong_register, is_misstarted, is_wrong_operand, is_wrong_root_group, is_wrong_field, is_wrong_number, is_wrong_shown, is_empty, what_misdeclared, is_misdeclared};
 
 use crate::entries::{by_sort, is_no_operand, is_uncallable, sorts_differ};
 use crate::resources::{is_no_array, is_no_register, is_no_word};
-use description_names::{Meaning, Names, What};
 use description_places::Local;
 use description_types::{Kinds, is_apart, resource};
+use lisa_tree::{Meaning, Names, What};
 use lisa_words::Name;
 
 /// What is known of the names of a description and of its nodes.

@@ -9,7 +9,7 @@ use Rattle.lisa_tree.specs.Activations.{ActTree, ActTrees, act_depth, acts_depth
 use Rattle.lisa_tree.specs.Grammar.{Toks, mark}
 use Rattle.lisa_tree.specs.DescriptionGrammar as grammar
 use Rattle.lisa_tree.specs.DescriptionGrammar.{word, SpellsAct, SpellsActs}
-use Rattle.text_scan.specs.Steps.{◌>>=◌}
+use Rattle.lisa_words.specs.Steps.{◌>>=◌}
 use Rattle.lisa_behav_reader.specs.Past.{past_of}
 use Rattle.lisa_behav_reader.specs.Places.{closes_block}
 use Rattle.lisa_behav_reader.proofs.StmtSound.{not_else}

@@ -11,10 +11,10 @@ use Rattle.lisa_tree.specs.Activations.{ActTree, ActTrees}
 use Rattle.lisa_tree.specs.Grammar.{Toks, mark}
 use Rattle.lisa_tree.specs.DescriptionGrammar as grammar
 use Rattle.lisa_tree.specs.DescriptionGrammar.{SpellsAct}
-use Rattle.text_scan.specs.FixEach.{guarded_each}
-use Rattle.text_scan.specs.Steps.{◌>>=◌}
-use Rattle.text_scan.proofs.FixedEach.{fix_each_is}
-use Rattle.text_scan.proofs.StepLaws.{bind_same}
+use Rattle.lisa_words.specs.FixEach.{guarded_each}
+use Rattle.lisa_words.specs.Steps.{◌>>=◌}
+use Rattle.lisa_words.proofs.FixedEach.{fix_each_is}
+use Rattle.lisa_words.proofs.StepLaws.{bind_same}
 use Rattle.lisa_behav_reader.specs.Past.{past_of}
 use Rattle.lisa_behav_reader.specs.Places.{closes_block}
 use Rattle.lisa_behav_reader.specs.StmtReading.{test_of}

@@ -10,9 +10,9 @@ use Rattle.lisa_tree.specs.Activations.{ActTree, ActTrees, act_depth, acts_depth
 use Rattle.lisa_tree.specs.Grammar.{Toks, mark, SpellsExpr}
 use Rattle.lisa_tree.specs.DescriptionGrammar as grammar
 use Rattle.lisa_tree.specs.DescriptionGrammar.{word, SpellsAct, SpellsActs}
-use Rattle.text_scan.specs.FixEach.{guarded_each, within_each, fix_each}
-use Rattle.text_scan.specs.Steps.{◌>>=◌}
-use Rattle.text_scan.proofs.StepLaws.{bind_some, some_is}
+use Rattle.lisa_words.specs.FixEach.{guarded_each, within_each, fix_each}
+use Rattle.lisa_words.specs.Steps.{◌>>=◌}
+use Rattle.lisa_words.proofs.StepLaws.{bind_some, some_is}
 use Rattle.lisa_behav_reader.specs.Past.{past_of}
 use Rattle.lisa_behav_reader.specs.Places.{closes_block}
 use Rattle.lisa_behav_reader.specs.StmtReading.{test_of}

@@ -7,7 +7,7 @@ use Rattle.lisa_tree.specs.declared.descriptions.Act.{Act}
 use Rattle.lisa_tree.specs.Activations.{ActTree, ActTrees, End, Then, act_tree, act_trees}
 use Rattle.lisa_tree.specs.Grammar.{Toks}
 use Rattle.lisa_tree.specs.Tokens.{toks}
-use Rattle.text_scan.specs.Steps.{◌>>=◌}
+use Rattle.lisa_words.specs.Steps.{◌>>=◌}
 
 abbrev pub seen_act : Act × Bor (List Token) → ActTree × Toks
 seen_act x = (act_tree x.0, toks x.1.now)

@@ -7,8 +7,8 @@ use Rattle.lisa_tree.specs.Expressions.{ExprTree}
 use Rattle.lisa_tree.specs.Activations as activations
 use Rattle.lisa_tree.specs.Activations.{ActTree, ActTrees}
 use Rattle.lisa_tree.specs.Grammar.{Toks}
-use Rattle.text_scan.specs.FixEach.{fix_each}
-use Rattle.text_scan.specs.Steps.{◌>>=◌}
+use Rattle.lisa_words.specs.FixEach.{fix_each}
+use Rattle.lisa_words.specs.Steps.{◌>>=◌}
 use Rattle.lisa_behav_reader.specs.Past.{past_of}
 use Rattle.lisa_behav_reader.specs.Places.{closes_block}
 use Rattle.lisa_behav_reader.specs.StmtReading.{test_of}

@@ -2,7 +2,7 @@
 ghost use Rattle.std.specs.Prelude.{◌≡◌, All, IfOk};
 ghost use Rattle.lisa_tree.specs.Descriptions.{description_tree};
 ghost use Rattle.lisa_forms.specs.Parts.{AreFormsOf};
-ghost use Rattle.lisa_coding.specs.Parts.{IsCodingOf};
+ghost use Rattle.lisa_forms.specs.Codings.{IsCodingOf};
 ghost use Rattle.lisa_syntax.specs.Parts.{IsSyntaxOf};
 ghost use Rattle.lisa_assembler.specs.Memories.{memory_items};
 ghost use Rattle.lisa_assembler.specs.Places.{HasWords};
@@ -10,9 +10,8 @@ ghost use Rattle.lisa_assembler.specs.Tooling.{AreToolsOf};
 
 use crate::fields::{FieldBits, all_fields};
 use crate::memories::Memories;
-use lisa_coding::Coding;
 use lisa_engine::ArrayItem;
-use lisa_forms::Forms;
+use lisa_forms::{Coding, Forms};
 use lisa_machine::Machine;
 use lisa_syntax::Syntax;
 use lisa_words::NoMemory;

@@ -8,17 +8,17 @@ use Rattle.lisa_tree.specs.declared.tokens.Sign.{Sign}
 use Rattle.lisa_tree.specs.declared.tokens.Sign.TheVariants as signs
 use Rattle.lisa_tree.specs.declared.tokens.TokenPart.{TokenPart}
 use Rattle.lisa_tree.specs.declared.tokens.TokenPart.TheVariants as parts
-use Rattle.operators.specs.declared.binary.Operator.{Operator}
-use Rattle.operators.specs.declared.binary.Operator.TheVariants as operators
+use Rattle.lisa_words.specs.declared.binary.Operator.{Operator}
+use Rattle.lisa_words.specs.declared.binary.Operator.TheVariants as operators
 use Rattle.lisa_tree.specs.Operators.{sign_of}
-use Rattle.operators.specs.Operators.{level_of}
+use Rattle.lisa_words.specs.Operators.{level_of}
 use Rattle.lisa_tree.specs.Expressions as expressions
 use Rattle.lisa_tree.specs.Expressions.{ExprTree, expr_depth}
 use Rattle.lisa_tree.specs.Grammar as grammar
 use Rattle.lisa_tree.specs.Grammar.{Toks, mark, is_binary, binary_value, SpellsExpr}
 use Rattle.operator_levels.specs.Stacks.{Stack}
 use Rattle.operator_levels.proofs.StackLaws.{level_range, IsLooser, looser_up, pushed_stays, pushed_pops, finished_pops}
-use Rattle.text_scan.specs.Steps.{◌>>=◌}
+use Rattle.lisa_words.specs.Steps.{◌>>=◌}
 use Rattle.lisa_behav_reader.specs.Past.{past_of}
 use Rattle.lisa_behav_reader.specs.Reading.{Answer, whole, operands, unary, operator_of, operator_at, branches_of, choice_of, whole_of, push, finish, go_on, behind_of, operands_of, named_of, name_of, input_of, boundary_of, inside_of, pattern_of, primary_of, unary_of, reads}
 use Rattle.lisa_behav_reader.proofs.ExprSound.{operator_front}

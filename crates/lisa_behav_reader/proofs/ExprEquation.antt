@@ -5,16 +5,16 @@ use Rattle.std.proofs.lemmas.List.{length-append, length-drop}
 use Rattle.lisa_tree.specs.declared.tokens.Keyword.TheVariants as keywords
 use Rattle.lisa_tree.specs.declared.tokens.Sign.TheVariants as signs
 use Rattle.lisa_tree.specs.declared.tokens.TokenPart.TheVariants as parts
-use Rattle.operators.specs.declared.binary.Operator.{Operator}
+use Rattle.lisa_words.specs.declared.binary.Operator.{Operator}
 use Rattle.lisa_tree.specs.Operators.{sign_of}
 use Rattle.lisa_tree.specs.Expressions as expressions
 use Rattle.lisa_tree.specs.Expressions.{ExprTree, expr_depth}
 use Rattle.lisa_tree.specs.Grammar.{Toks, mark}
 use Rattle.operator_levels.specs.Stacks.{Stack}
-use Rattle.text_scan.specs.Fix.{guarded, fix}
-use Rattle.text_scan.specs.Steps.{◌>>=◌}
-use Rattle.text_scan.proofs.Fixed.{fix_is}
-use Rattle.text_scan.proofs.StepLaws.{bind_same}
+use Rattle.lisa_words.specs.Fix.{guarded, fix}
+use Rattle.lisa_words.specs.Steps.{◌>>=◌}
+use Rattle.lisa_words.proofs.Fixed.{fix_is}
+use Rattle.lisa_words.proofs.StepLaws.{bind_same}
 use Rattle.lisa_behav_reader.specs.Past.{past_of}
 use Rattle.lisa_behav_reader.specs.Reading.{Want, Whole, Operands, Unary, Task, Answer, Reader, whole, operands, unary, operator_at, branches_of, choice_of, whole_of, push, finish, go_on, behind_of, operands_of, named_of, inside_of, primary_of, unary_of, step, size, reads}
 use Rattle.lisa_behav_reader.proofs.PastLaws.{past_shorter}

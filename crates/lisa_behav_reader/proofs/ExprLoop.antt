@@ -1,10 +1,10 @@
 -- What the loop over operands keeps.
 use Rattle.std.proofs.Common.{◌≡◌, ℕ, List, [], ◌∷◌, drop, Option, Some, None, refl, sym, ap, ◌∙◌}
-use Rattle.operators.specs.declared.binary.Operator.{Operator}
+use Rattle.lisa_words.specs.declared.binary.Operator.{Operator}
 use Rattle.lisa_tree.specs.Expressions.{ExprTree}
 use Rattle.lisa_tree.specs.Grammar.{Toks}
 use Rattle.operator_levels.specs.Stacks.{Stack}
-use Rattle.text_scan.specs.Steps.{◌>>=◌}
+use Rattle.lisa_words.specs.Steps.{◌>>=◌}
 use Rattle.lisa_behav_reader.specs.declared.misses.Missed.{Missed}
 use Rattle.lisa_behav_reader.specs.declared.misses.Missed.TheVariants as misses
 use Rattle.lisa_behav_reader.specs.Gives.{Fails}

@@ -5,7 +5,7 @@ use Rattle.lisa_tree.specs.declared.tokens.Sign.{Sign}
 use Rattle.lisa_tree.specs.declared.tokens.Sign.TheVariants as signs
 use Rattle.lisa_tree.specs.declared.tokens.TokenPart.TheVariants as parts
 use Rattle.lisa_tree.specs.Grammar.{Toks, mark}
-use Rattle.text_scan.proofs.StepLaws.{some_is}
+use Rattle.lisa_words.proofs.StepLaws.{some_is}
 use Rattle.lisa_behav_reader.specs.Past.{number_of, past_of}
 
 abbrev all : List Sign

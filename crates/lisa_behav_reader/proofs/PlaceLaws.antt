@@ -10,7 +10,7 @@ use Rattle.lisa_tree.specs.declared.faults.DescFault.TheVariants as faults
 use Rattle.lisa_tree.specs.Expressions.{ExprTree, expr_depth}
 use Rattle.lisa_tree.specs.Statements.{StmtTrees, stmts_depth}
 use Rattle.lisa_tree.specs.Grammar.{Toks, SpellsExpr, SpellsStmts}
-use Rattle.text_scan.proofs.StepLaws.{some_is}
+use Rattle.lisa_words.proofs.StepLaws.{some_is}
 use Rattle.lisa_behav_reader.specs.declared.misses.Missed.{Missed}
 use Rattle.lisa_behav_reader.specs.declared.misses.Missed.TheVariants as misses
 use Rattle.lisa_behav_reader.specs.Gives.{Fails}

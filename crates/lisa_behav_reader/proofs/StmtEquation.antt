@@ -10,10 +10,10 @@ use Rattle.lisa_tree.specs.Statements as statements
 use Rattle.lisa_tree.specs.Statements.{HeadTree, StmtTree, StmtTrees}
 use Rattle.lisa_tree.specs.Grammar.{Toks, mark, SpellsStmt}
 use Rattle.lisa_tree.specs.Grammar as grammar
-use Rattle.text_scan.specs.FixEach.{guarded_each, fix_each}
-use Rattle.text_scan.specs.Steps.{◌>>=◌}
-use Rattle.text_scan.proofs.FixedEach.{fix_each_is}
-use Rattle.text_scan.proofs.StepLaws.{bind_same}
+use Rattle.lisa_words.specs.FixEach.{guarded_each, fix_each}
+use Rattle.lisa_words.specs.Steps.{◌>>=◌}
+use Rattle.lisa_words.proofs.FixedEach.{fix_each_is}
+use Rattle.lisa_words.proofs.StepLaws.{bind_same}
 use Rattle.lisa_behav_reader.specs.Past.{past_of}
 use Rattle.lisa_behav_reader.specs.StmtReading.{Want, One, Many, Kind, Out, Task, one, many, Reader, Answer, ends, test_of, head_of, block_of, else_of, if_of, while_of, for_of, one_of, next_of, many_of, want_of, step, fails, size, stmts}
 use Rattle.lisa_behav_reader.proofs.PastLaws.{past_shorter}

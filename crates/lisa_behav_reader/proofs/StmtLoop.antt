@@ -9,7 +9,7 @@ use Rattle.lisa_tree.specs.Statements.{StmtTree, StmtTrees, End, Then, stmt_tree
 use Rattle.lisa_tree.specs.declared.tokens.Sign.TheVariants as signs
 use Rattle.lisa_tree.specs.Grammar.{Toks}
 use Rattle.lisa_behav_reader.specs.Past.{past_of}
-use Rattle.text_scan.specs.Steps.{◌>>=◌}
+use Rattle.lisa_words.specs.Steps.{◌>>=◌}
 use Rattle.lisa_behav_reader.specs.declared.misses.Missed.{Missed}
 use Rattle.lisa_behav_reader.specs.declared.misses.Missed.TheVariants as misses
 use Rattle.lisa_behav_reader.specs.Gives.{Fails}

@@ -15,9 +15,9 @@ use Rattle.lisa_tree.specs.Statements as statements
 use Rattle.lisa_tree.specs.Statements.{HeadTree, StmtTree, StmtTrees, head_depth, stmt_depth, stmts_depth}
 use Rattle.lisa_tree.specs.Grammar as grammar
 use Rattle.lisa_tree.specs.Grammar.{Toks, mark, SpellsExpr, SpellsPlace, SpellsHead, SpellsStmt, SpellsStmts, shape_tokens, call_end}
-use Rattle.text_scan.specs.FixEach.{guarded_each, within_each, fix_each}
-use Rattle.text_scan.specs.Steps.{◌>>=◌}
-use Rattle.text_scan.proofs.StepLaws.{bind_some, some_is}
+use Rattle.lisa_words.specs.FixEach.{guarded_each, within_each, fix_each}
+use Rattle.lisa_words.specs.Steps.{◌>>=◌}
+use Rattle.lisa_words.proofs.StepLaws.{bind_some, some_is}
 use Rattle.lisa_behav_reader.specs.Past.{past_of}
 use Rattle.lisa_behav_reader.specs.Reading.{whole, reads, name_of}
 use Rattle.lisa_behav_reader.specs.StmtReading.{Want, One, Many, Kind, Out, Task, one, many, Reader, Answer, expr, ends, assign_of, element_of, call_end_of, pipe_call, stage_call, stage_of, control_of, method_of, child_of, named_of, output_of, initial_of, value_of, local_of, test_of, set_of, head, head_from, head_of, block_of, else_of, if_of, while_of, for_of, one_of, next_of, many_of, step, size, fails, stmts}

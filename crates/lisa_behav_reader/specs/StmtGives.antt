@@ -10,7 +10,7 @@ use Rattle.lisa_tree.specs.Expressions.{ExprTree, expr_tree}
 use Rattle.lisa_tree.specs.Statements.{HeadTree, StmtTree, StmtTrees, End, Then, head_tree, stmt_tree, stmt_trees}
 use Rattle.lisa_tree.specs.Grammar.{Toks}
 use Rattle.lisa_tree.specs.Tokens.{toks}
-use Rattle.text_scan.specs.Steps.{◌>>=◌}
+use Rattle.lisa_words.specs.Steps.{◌>>=◌}
 
 abbrev pub seen_expr : Expr × Bor (List Token) → ExprTree × Toks
 seen_expr x = (expr_tree x.0, toks x.1.now)

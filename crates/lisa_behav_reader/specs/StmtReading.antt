@@ -10,8 +10,8 @@ use Rattle.lisa_tree.specs.Expressions.{ExprTree}
 use Rattle.lisa_tree.specs.Statements as statements
 use Rattle.lisa_tree.specs.Statements.{HeadTree, StmtTree, StmtTrees}
 use Rattle.lisa_tree.specs.Grammar.{Toks}
-use Rattle.text_scan.specs.FixEach.{fix_each}
-use Rattle.text_scan.specs.Steps.{◌>>=◌}
+use Rattle.lisa_words.specs.FixEach.{fix_each}
+use Rattle.lisa_words.specs.Steps.{◌>>=◌}
 use Rattle.lisa_behav_reader.specs.Past.{past_of}
 use Rattle.lisa_behav_reader.specs.Reading as expr_reading
 use Rattle.lisa_behav_reader.specs.Reading.{reads, whole, name_of}

@@ -1,5 +1,5 @@
 -- The files of a request are few, and those behind the first are short where all are.
-use Rattle.std.proofs.Common.{◌≡◌, ◌<◌, ◌+◌, ◌^◌, ℕ, zero, suc, List, [], ◌∷◌, ◌++◌, length, map, drop, Option, Some, None, refl, arith}
+use Rattle.std.proofs.Common.{◌≡◌, ◌<◌, ◌^◌, ℕ, zero, suc, List, [], ◌∷◌, ◌++◌, length, map, drop, Option, Some, None, refl, arith}
 use Rattle.std.specs.Prelude.{All}
 use Rattle.std.specs.List.{AllByRecursion}
 use Rattle.std.specs.Global.{Vec}
@@ -10,7 +10,7 @@ use Rattle.lisa_outcomes.specs.RunFiles.{any_file, image_limit, schedule_limit}
 use Rattle.checked_descriptions.specs.Descriptions.{description_limit}
 use Rattle.module_commands.specs.Clocks.{module_limit}
 use Rattle.assembler_commands.specs.Links.{object_limit}
-use Rattle.lisa_cli.specs.Requests.{Request, Format, Check, Assemble, Link, Disassemble, Simulate, Clock, IsAllowed, files_of}
+use Rattle.lisa_cli.specs.Requests.{Request, Format, Check, Verilog, Assemble, Link, Disassemble, Generate, Soak, Simulate, Clock, IsAllowed, files_of}
 
 run_few : (first : NamedFile) (a b : Option (List ℕ)) (k l : ℕ) → length (first ∷ (any_file a k ++ any_file b l)) < 2 ^ 32
 run_few first None None k l = omega arith
@@ -21,9 +21,12 @@ run_few first (Some x) (Some y) k l = omega arith
 pub few_files : (r : Request) → IsAllowed r → length (files_of r) < 2 ^ 32
 few_files (Format description) h = omega arith
 few_files (Check description) h = omega arith
+few_files (Verilog description) h = omega arith
 few_files (Assemble description source) h = omega arith
 few_files (Link description objects) h = let same = length-map objects (λ (object : List ℕ). named object object_limit) in omega (arith, same, h.1.few)
 few_files (Disassemble description image) h = omega arith
+few_files (Generate description number count) h = omega arith
+few_files (Soak description verilog number count edges) h = omega arith
 few_files (Simulate task names) h = run_few (named names.main description_limit) names.image names.schedule image_limit schedule_limit
 few_files (Clock task names) h = run_few (named names.main module_limit) names.image names.schedule image_limit schedule_limit
 

@@ -1,4 +1,3 @@
-mod OtherWords
 mod FieldTexts
 mod Ran
 mod Flushed

@@ -14,7 +14,7 @@ use Rattle.lisa_outcomes.proofs.Told.{not_ok}
 use Rattle.description_commands.proofs.Stopped.{run_kept}
 use Rattle.module_commands.proofs.Stopped.{clock_kept}
 use Rattle.lisa_outcomes.specs.RunFiles.{run_bytes}
-use Rattle.lisa_cli.specs.Requests.{Request, Format, Check, Assemble, Link, Disassemble, Simulate, Clock, Asks, reads_input}
+use Rattle.lisa_cli.specs.Requests.{Request, Format, Check, Verilog, Assemble, Link, Disassemble, Generate, Soak, Simulate, Clock, Asks, reads_input}
 use Rattle.lisa_cli.specs.Gives.{Gives}
 use Rattle.lisa_cli.specs.Statuses.{status_of}
 use Rattle.lisa_cli.specs.Sent.{IsSentOn}
@@ -34,9 +34,12 @@ blamed_blames r before after request (input_failed failed cut) = inr failed
 cut_kept : (request : Request) (bytes : List (List ℕ)) (left rest before after sent : Option (List ℕ)) → Keeps after sent → IsCutOver request bytes left rest before after → IsCutOver request bytes left rest before sent
 cut_kept (Format description) bytes left rest before after sent keeps cut = cut
 cut_kept (Check description) bytes left rest before after sent keeps cut = cut
+cut_kept (Verilog description) bytes left rest before after sent keeps cut = cut
 cut_kept (Assemble description source) bytes left rest before after sent keeps cut = cut
 cut_kept (Link description objects) bytes left rest before after sent keeps cut = cut
 cut_kept (Disassemble description image) bytes left rest before after sent keeps cut = cut
+cut_kept (Generate description number count) bytes left rest before after sent keeps cut = cut
+cut_kept (Soak description verilog number count edges) bytes left rest before after sent keeps cut = cut
 cut_kept (Simulate task names) bytes left rest before after sent keeps cut = run_kept (run_bytes names bytes) left rest before after sent keeps cut
 cut_kept (Clock task names) bytes left rest before after sent keeps cut = clock_kept (run_bytes names bytes) left rest before after sent keeps cut
 

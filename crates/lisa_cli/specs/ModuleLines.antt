@@ -1,14 +1,20 @@
--- The lines of the faults of a module, an image and a schedule.
+-- The lines of the faults of a netlist, a module, an image and a schedule.
 use Rattle.std.specs.Prelude.{[], ◌∷◌, codes}
 use Rattle.lisa_engine.specs.declared.schedule.ScheduleFault.{ScheduleFault}
 use Rattle.lisa_engine.specs.declared.schedule.ScheduleFault.TheVariants as schedules
 use Rattle.lisa_object.specs.declared.faults.ImageFault.{ImageFault}
 use Rattle.lisa_object.specs.declared.faults.ImageFault.TheVariants as images
+use Rattle.step_program.specs.declared.faults.LowerFault.{LowerFault}
+use Rattle.step_program.specs.declared.faults.LowerFault.TheVariants as netlists
 use Rattle.verilog_text.specs.declared.faults.VerilogFault.{VerilogFault}
 use Rattle.verilog_text.specs.declared.faults.VerilogFault.TheVariants as verilogs
 use Rattle.lisa_cli.specs.Lines.{Line, line, name, number, digest}
 
 -- want of memory is no refusal, and has no line of its own
+abbrev pub netlist_line : LowerFault → Line
+netlist_line (netlists.TooMany what count limit) = line (codes "netlist 1 TooMany") (name (codes "what") what ∷ number (codes "count") count ∷ number (codes "limit") limit ∷ [])
+netlist_line netlists.NoMemory = line [] []
+
 abbrev pub verilog_line : VerilogFault → Line
 verilog_line (verilogs.BadByte at) = line (codes "verilog 1 BadByte") (number (codes "at") at ∷ [])
 verilog_line (verilogs.TooDeep at) = line (codes "verilog 2 TooDeep") (number (codes "at") at ∷ [])

@@ -1,5 +1,5 @@
 -- What the words of a command line ask for.
-use Rattle.std.specs.Prelude.{ℕ, ◌≡◌, ◌≢◌, ◌≤◌, ◌||◌, Bool, false, List, [], ◌∷◌, Option, Some, None, codes, decimal, length, map}
+use Rattle.std.specs.Prelude.{ℕ, ◌≡◌, ◌≢◌, ◌<◌, ◌≤◌, ◌^◌, ◌||◌, Bool, false, List, [], ◌∷◌, Option, Some, None, codes, decimal, length, map}
 use Rattle.std.specs.List.{AllByRecursion}
 use Rattle.std.specs.Str.{bytes_eq}
 use Rattle.lisa_outcomes.specs.NamedFiles.{NamedFile, named}
@@ -17,12 +17,17 @@ pub data Request : Type 0 where
   -- description
   Format : List ℕ → Request
   Check : List ℕ → Request
+  Verilog : List ℕ → Request
   -- description and source
   Assemble : List ℕ → List ℕ → Request
   -- description and objects
   Link : List ℕ → List (List ℕ) → Request
   -- description and image
   Disassemble : List ℕ → List ℕ → Request
+  -- description, the number that a program is drawn from, and how many instructions it has
+  Generate : List ℕ → (number count : ℕ) → Request
+  -- description and module, the same of a program, and how many edges are made with it
+  Soak : List ℕ → List ℕ → (number count edges : ℕ) → Request
   -- what is to be done with the simulator of a description, and its files
   Simulate : Task → RunNames → Request
   -- what is to be done with the clock of a module, and its files
@@ -58,9 +63,12 @@ run_words names counts = names.main ∷ file_word names.image ∷ file_word name
 abbrev pub request_words : Request → List (List ℕ)
 request_words (Format description) = codes "fmt" ∷ description ∷ []
 request_words (Check description) = codes "check" ∷ description ∷ []
+request_words (Verilog description) = codes "verilog" ∷ description ∷ []
 request_words (Assemble description source) = codes "asm" ∷ description ∷ source ∷ []
 request_words (Link description objects) = codes "link" ∷ description ∷ objects
 request_words (Disassemble description image) = codes "dis" ∷ description ∷ image ∷ []
+request_words (Generate description number count) = codes "gen" ∷ description ∷ decimal number ∷ decimal count ∷ []
+request_words (Soak description verilog number count edges) = codes "soak" ∷ description ∷ verilog ∷ decimal number ∷ decimal count ∷ decimal edges ∷ []
 request_words (Simulate task names) = simulator_word task ∷ run_words names (count_words task)
 request_words (Clock task names) = clock_word task ∷ run_words names (count_words task)
 
@@ -78,9 +86,22 @@ pub record AreNames (names : RunNames) : Type 0 where
   pub image : IsAnyName names.image
   pub schedule : IsAnyName names.schedule
 
+-- the most edges where one state alone is told
+abbrev pub edge_limit : ℕ
+edge_limit = 1000000
+
+-- the most instructions of a program that is drawn
+abbrev pub instruction_limit : ℕ
+instruction_limit = 65536
+
+-- the numbers of a program that is drawn are within their limits
+pub record IsDraw (number count : ℕ) : Type 0 where
+  pub fits : number < 2 ^ 64
+  pub few : count ≤ instruction_limit
+
 -- the number of edges is within its limit
 abbrev pub IsCounted : Task → Type 0
-IsCounted (tasks.State edges) = edges ≤ 1000000
+IsCounted (tasks.State edges) = edges ≤ edge_limit
 IsCounted (tasks.Trace edges) = edges ≤ 10000
 IsCounted tasks.Answers = Unit {0}
 
@@ -90,13 +111,16 @@ pub record AreObjectNames (objects : List (List ℕ)) : Type 0 where
   pub some : 1 ≤ length objects
   pub few : length objects ≤ 32
 
--- each file has a name, and the numbers of objects and of edges are within their limits
+-- each file has a name, and the numbers are within their limits
 abbrev pub IsAllowed : Request → Type 0
 IsAllowed (Format description) = IsFileName description
 IsAllowed (Check description) = IsFileName description
+IsAllowed (Verilog description) = IsFileName description
 IsAllowed (Assemble description source) = IsFileName description × IsFileName source
 IsAllowed (Link description objects) = IsFileName description × AreObjectNames objects
 IsAllowed (Disassemble description image) = IsFileName description × IsFileName image
+IsAllowed (Generate description number count) = IsFileName description × IsDraw number count
+IsAllowed (Soak description verilog number count edges) = IsFileName description × IsFileName verilog × IsDraw number count × edges ≤ edge_limit
 IsAllowed (Simulate task names) = AreNames names × IsCounted task
 IsAllowed (Clock task names) = AreNames names × IsCounted task
 
@@ -104,9 +128,12 @@ IsAllowed (Clock task names) = AreNames names × IsCounted task
 abbrev pub files_of : Request → List NamedFile
 files_of (Format description) = named description description_limit ∷ []
 files_of (Check description) = named description description_limit ∷ []
+files_of (Verilog description) = named description description_limit ∷ []
 files_of (Assemble description source) = named description description_limit ∷ named source source_limit ∷ []
 files_of (Link description objects) = named description description_limit ∷ map (λ object. named object object_limit) objects
 files_of (Disassemble description image) = named description description_limit ∷ named image image_limit ∷ []
+files_of (Generate description number count) = named description description_limit ∷ []
+files_of (Soak description verilog number count edges) = named description description_limit ∷ named verilog module_limit ∷ []
 files_of (Simulate task names) = run_files names description_limit
 files_of (Clock task names) = run_files names module_limit
 
@@ -114,9 +141,12 @@ files_of (Clock task names) = run_files names module_limit
 abbrev pub reads_input : Request → Bool
 reads_input (Format description) = false
 reads_input (Check description) = false
+reads_input (Verilog description) = false
 reads_input (Assemble description source) = false
 reads_input (Link description objects) = false
 reads_input (Disassemble description image) = false
+reads_input (Generate description number count) = false
+reads_input (Soak description verilog number count edges) = false
 reads_input (Simulate task names) = takes_input task
 reads_input (Clock task names) = takes_input task
 

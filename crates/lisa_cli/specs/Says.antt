@@ -6,13 +6,15 @@ use Rattle.lisa_outcomes.specs.declared.status.Status.{Status}
 use Rattle.lisa_outcomes.specs.declared.status.Status.TheVariants as statuses
 use Rattle.lisa_cli.specs.Lines.{Line, line_text}
 use Rattle.lisa_cli.specs.DescriptionLines.{description_line}
-use Rattle.lisa_cli.specs.OwnLines.{file_line, input_line}
-use Rattle.lisa_cli.specs.ModuleLines.{verilog_line, image_line, schedule_line}
+use Rattle.lisa_cli.specs.OwnLines.{file_line, input_line, program_line}
+use Rattle.lisa_cli.specs.ModuleLines.{netlist_line, verilog_line, image_line, schedule_line}
 use Rattle.lisa_cli.specs.SourceLines.{source_line, object_line, link_line}
 
 abbrev pub refusal_line : Refusal → Line
 refusal_line (refusals.File fault) = file_line fault
 refusal_line (refusals.Input fault) = input_line fault
+refusal_line (refusals.Program fault) = program_line fault
+refusal_line (refusals.Netlist fault) = netlist_line fault
 refusal_line (refusals.Description fault) = description_line fault
 refusal_line (refusals.Verilog fault) = verilog_line fault
 refusal_line (refusals.Image fault) = image_line fault

@@ -8,7 +8,7 @@ use Rattle.lisa_outcomes.specs.NamedFiles.{AreFiles, SomeFailed}
 use Rattle.lisa_outcomes.specs.RunFiles.{run_bytes}
 use Rattle.description_commands.specs.Runs.{IsCutRun}
 use Rattle.module_commands.specs.Clocks.{IsCutClock}
-use Rattle.lisa_cli.specs.Requests.{Request, Format, Check, Assemble, Link, Disassemble, Simulate, Clock, reads_input, files_of}
+use Rattle.lisa_cli.specs.Requests.{Request, Format, Check, Verilog, Assemble, Link, Disassemble, Generate, Soak, Simulate, Clock, reads_input, files_of}
 
 -- what the files hold and what the input has left before and after, and how often each had failed before and after
 pub record Readings : Type 0 where
@@ -90,9 +90,12 @@ Blames r request = SomeFailed (files_of request) r.file_faults r.file_faults_aft
 abbrev pub IsCutOver : Request → (bytes : List (List ℕ)) → (left rest before after : Option (List ℕ)) → Type 0
 IsCutOver (Format description) bytes left rest before after = ⊥
 IsCutOver (Check description) bytes left rest before after = ⊥
+IsCutOver (Verilog description) bytes left rest before after = ⊥
 IsCutOver (Assemble description source) bytes left rest before after = ⊥
 IsCutOver (Link description objects) bytes left rest before after = ⊥
 IsCutOver (Disassemble description image) bytes left rest before after = ⊥
+IsCutOver (Generate description number count) bytes left rest before after = ⊥
+IsCutOver (Soak description verilog number count edges) bytes left rest before after = ⊥
 IsCutOver (Simulate task names) bytes left rest before after = IsCutRun (run_bytes names bytes) left rest before after
 IsCutOver (Clock task names) bytes left rest before after = IsCutClock (run_bytes names bytes) left rest before after
 

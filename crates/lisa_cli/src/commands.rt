@@ -17,11 +17,13 @@ ghost use Rattle.lisa_cli.specs.Worlds.{readings, IsGiven, IsHeard, HasFailed, I
 use crate::requests::Command;
 use assembler_commands::{assemble_source, link_objects, list_image};
 use description_commands::{check_description, do_with_description, format_description};
+use generator_commands::{soak, write_program};
 use lisa_io::{Files, Flush, Source};
 use lisa_outcomes::{End, NamedFile, RunNames, file_at, load_files, run_bytes};
 use lisa_words::NoMemory;
 use module_commands::do_with_module;
 use std::alloc::Global;
+use verilog_command::write_verilog;
 
 const DESCRIPTION_LIMIT: u32 = 1_048_576;
 
@@ -138,6 +140,7 @@ fn files_of<'a>(alloc: Global, command: &Command<'a>) -> Result<Vec<NamedFile<'a
     match command {
         Command::Format { description } => description_files(alloc, description),
         Command::Check { description } => description_files(alloc, description),
+        Command::Verilog { description } => description_files(alloc, description),
         Command::Assemble {
             description,
             source,
@@ -149,6 +152,12 @@ fn files_of<'a>(alloc: Global, command: &Command<'a>) -> Result<Vec<NamedFile<'a
         Command::Disassemble { description, image } => {
             two_files(alloc, description, image, IMAGE_LIMIT)
         }
+        Command::Generate { description, .. } => description_files(alloc, description),
+        Command::Soak {
+            description,
+            verilog,
+            ..
+        } => two_files(alloc, description, verilog, MODULE_LIMIT),
         Command::Simulate { names, .. } => run_files(alloc, *names, DESCRIPTION_LIMIT),
         Command::Clock { names, .. } => run_files(alloc, *names, MODULE_LIMIT),
     }
@@ -184,9 +193,27 @@ fn perform_with<I: Source, O: Flush>(
     match command {
         Command::Format { .. } => format_description(alloc, file_at(all, 0), out),
         Command::Check { .. } => check_description(alloc, file_at(all, 0), out),
+        Command::Verilog { .. } => write_verilog(alloc, file_at(all, 0), out),
         Command::Assemble { .. } => assemble_source(alloc, file_at(all, 0), file_at(all, 1), out),
         Command::Link { .. } => link_objects(alloc, file_at(all, 0), behind(all), out),
         Command::Disassemble { .. } => list_image(alloc, file_at(all, 0), file_at(all, 1), out),
+        Command::Generate { number, count, .. } => {
+            write_program(alloc, file_at(all, 0), *number, *count, out)
+        }
+        Command::Soak {
+            number,
+            count,
+            edges,
+            ..
+        } => soak(
+            alloc,
+            file_at(all, 0),
+            file_at(all, 1),
+            *number,
+            *count,
+            *edges,
+            out,
+        ),
         Command::Simulate { names, task } => {
             do_with_description(alloc, &run_bytes(*names, all), *task, input, out)
         }

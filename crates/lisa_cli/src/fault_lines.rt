@@ -1,151 +1,153 @@
-//! The lines of a description's faults, and of the program's own.
-ghost use Rattle.std.specs.Prelude.{◌≡◌};
-ghost use Rattle.lisa_cli.specs.LineViews.{line_of};
+//! The lines of the faults of a description, of the files, of the input and of a program that is drawn.
+ghost use Rattle.std.specs.Prelude.{◌≡◌, ◌∷◌, [], codes, take, drop};
+ghost use Rattle.lisa_cli.specs.Lines.{name, number};
+ghost use Rattle.lisa_cli.specs.LineViews.{line_of, fields_of};
 ghost use Rattle.lisa_cli.specs.DescriptionLines.{description_line};
-ghost use Rattle.lisa_cli.specs.OwnLines.{file_line, input_line};
+ghost use Rattle.lisa_cli.specs.OwnLines.{file_line, input_line, program_line};
 
 use crate::lines::{
-    Line, line0, line1, line2, line3, name_field, number_field, text_field, word_field,
+    Field, Line, line0, name_field, named_line, number_field, text_field, word_field,
 };
+use lisa_object::GenFault;
 use lisa_outcomes::{FileFault, InputFault};
 use lisa_tree::DescFault;
+use lisa_words::Name;
+
+// A field with a byte's place.
+fn place(at: u32) -> Option<Field<'static>>
+    ensures { fields_of result ≡ number (codes "at") at ∷ [] }
+{
+    Some(number_field(b"at", at as u64))
+}
+
+// A field with a name.
+fn named<'a>(label: &'a [u8], value: &'a Name) -> Option<Field<'a>>
+    ensures { fields_of result ≡ name label.now value.now ∷ [] }
+{
+    Some(name_field(label, value.as_bytes()))
+}
+
+// A field with a decimal number.
+fn counted(label: &[u8], value: u64) -> Option<Field<'_>>
+    ensures { fields_of result ≡ number label.now value ∷ [] }
+{
+    Some(number_field(label, value))
+}
+
+// The area, number and name of a description's fault.
+fn head_of(fault: &DescFault) -> &'static [u8]
+    ensures { result.now ≡ (description_line fault.now).head }
+{
+    match fault {
+        DescFault::BadByte { .. } => b"description 1 BadByte",
+        DescFault::NumberTooWide { .. } => b"description 2 NumberTooWide",
+        DescFault::NameTooLong { .. } => b"description 3 NameTooLong",
+        DescFault::TooDeep { .. } => b"description 4 TooDeep",
+        DescFault::NotADescription { .. } => b"description 5 NotADescription",
+        DescFault::Duplicate { .. } => b"description 6 Duplicate",
+        DescFault::Unknown { .. } => b"description 7 Unknown",
+        DescFault::WrongKind { .. } => b"description 8 WrongKind",
+        DescFault::BadWidth { .. } => b"description 9 BadWidth",
+        DescFault::BadDepth { .. } => b"description 10 BadDepth",
+        DescFault::Narrowing { .. } => b"description 11 Narrowing",
+        DescFault::LoopWithoutBound { .. } => b"description 12 LoopWithoutBound",
+        DescFault::LoopTooLong { .. } => b"description 13 LoopTooLong",
+        DescFault::Circular { .. } => b"description 14 Circular",
+        DescFault::Backward { .. } => b"description 15 Backward",
+        DescFault::Control { .. } => b"description 16 Control",
+        DescFault::BadMain {} => b"description 17 BadMain",
+        DescFault::BadReset {} => b"description 18 BadReset",
+        DescFault::GroupWidth { .. } => b"description 19 GroupWidth",
+        DescFault::NotWritten { .. } => b"description 20 NotWritten",
+        DescFault::RootTwice { .. } => b"description 21 RootTwice",
+        DescFault::TooMany { .. } => b"description 22 TooMany",
+        DescFault::BadText { .. } => b"description 23 BadText",
+        DescFault::Overlap { .. } => b"description 24 Overlap",
+        DescFault::Ambiguous { .. } => b"description 25 Ambiguous",
+        DescFault::NotAnAlias { .. } => b"description 26 NotAnAlias",
+        DescFault::NoMemory => b"",
+    }
+}
+
+// The first field of a description's fault, where it has one.
+fn first_field(fault: &DescFault) -> Option<Field<'_>>
+    ensures { fields_of result ≡ take 1 (description_line fault.now).fields }
+{
+    match fault {
+        DescFault::BadByte { at } => place(*at),
+        DescFault::NumberTooWide { at } => place(*at),
+        DescFault::NameTooLong { at } => place(*at),
+        DescFault::TooDeep { at } => place(*at),
+        DescFault::NotADescription { at } => place(*at),
+        DescFault::Duplicate { name } => named(b"name", name),
+        DescFault::Unknown { operation, .. } => named(b"operation", operation),
+        DescFault::WrongKind { operation, .. } => named(b"operation", operation),
+        DescFault::BadWidth { name, .. } => named(b"name", name),
+        DescFault::BadDepth { name, .. } => named(b"name", name),
+        DescFault::Narrowing { operation, .. } => named(b"operation", operation),
+        DescFault::LoopWithoutBound { operation } => named(b"operation", operation),
+        DescFault::LoopTooLong { operation, .. } => named(b"operation", operation),
+        DescFault::Circular { operation } => named(b"operation", operation),
+        DescFault::Backward { activator, .. } => named(b"activator", activator),
+        DescFault::Control { operation, .. } => named(b"operation", operation),
+        DescFault::GroupWidth { operation, .. } => named(b"operation", operation),
+        DescFault::NotWritten { operation, .. } => named(b"operation", operation),
+        DescFault::RootTwice { operation } => named(b"operation", operation),
+        DescFault::TooMany { what, .. } => named(b"what", what),
+        DescFault::BadText { form } => named(b"form", form),
+        DescFault::Overlap { first, .. } => named(b"first", first),
+        DescFault::Ambiguous { first, .. } => named(b"first", first),
+        DescFault::NotAnAlias { form } => named(b"form", form),
+        _ => None,
+    }
+}
+
+// The second field of a description's fault, where it has one.
+fn second_field(fault: &DescFault) -> Option<Field<'_>>
+    ensures { fields_of result ≡ take 1 (drop 1 (description_line fault.now).fields) }
+{
+    match fault {
+        DescFault::Unknown { name, .. } => named(b"name", name),
+        DescFault::WrongKind { name, .. } => named(b"name", name),
+        DescFault::BadWidth { width, .. } => counted(b"width", *width as u64),
+        DescFault::BadDepth { depth, .. } => counted(b"depth", *depth),
+        DescFault::Narrowing { from, .. } => counted(b"from", *from as u64),
+        DescFault::LoopTooLong { turns, .. } => counted(b"turns", *turns),
+        DescFault::Backward { activated, .. } => named(b"activated", activated),
+        DescFault::Control { stage, .. } => named(b"stage", stage),
+        DescFault::GroupWidth { name, .. } => named(b"name", name),
+        DescFault::NotWritten { name, .. } => named(b"name", name),
+        DescFault::TooMany { count, .. } => counted(b"count", *count),
+        DescFault::Overlap { second, .. } => named(b"second", second),
+        DescFault::Ambiguous { second, .. } => named(b"second", second),
+        _ => None,
+    }
+}
+
+// The third field of a description's fault, where it has one.
+fn third_field(fault: &DescFault) -> Option<Field<'_>>
+    ensures { fields_of result ≡ take 1 (drop 2 (description_line fault.now).fields) }
+{
+    match fault {
+        DescFault::Narrowing { to, .. } => counted(b"to", *to as u64),
+        DescFault::TooMany { limit, .. } => counted(b"limit", *limit),
+        DescFault::Overlap { word, .. } => Some(word_field(b"word", *word)),
+        DescFault::Ambiguous { text, .. } => Some(text_field(b"text", text.as_bytes())),
+        _ => None,
+    }
+}
 
 /// The line of a description's fault.
 pub fn description_line(fault: &DescFault) -> Line<'_>
     ensures { line_of result ≡ description_line fault.now }
 {
-    match fault {
-        DescFault::BadByte { at } => line1(
-            b"description 1 BadByte",
-            number_field(b"at", *at as u64),
-        ),
-        DescFault::NumberTooWide { at } => line1(
-            b"description 2 NumberTooWide",
-            number_field(b"at", *at as u64),
-        ),
-        DescFault::NameTooLong { at } => line1(
-            b"description 3 NameTooLong",
-            number_field(b"at", *at as u64),
-        ),
-        DescFault::TooDeep { at } => line1(
-            b"description 4 TooDeep",
-            number_field(b"at", *at as u64),
-        ),
-        DescFault::NotADescription { at } => line1(
-            b"description 5 NotADescription",
-            number_field(b"at", *at as u64),
-        ),
-        DescFault::Duplicate { name } => line1(
-            b"description 6 Duplicate",
-            name_field(b"name", name.as_bytes()),
-        ),
-        DescFault::Unknown { operation, name } => line2(
-            b"description 7 Unknown",
-            name_field(b"operation", operation.as_bytes()),
-            name_field(b"name", name.as_bytes()),
-        ),
-        DescFault::WrongKind { operation, name } => line2(
-            b"description 8 WrongKind",
-            name_field(b"operation", operation.as_bytes()),
-            name_field(b"name", name.as_bytes()),
-        ),
-        DescFault::BadWidth { name, width } => line2(
-            b"description 9 BadWidth",
-            name_field(b"name", name.as_bytes()),
-            number_field(b"width", *width as u64),
-        ),
-        DescFault::BadDepth { name, depth } => line2(
-            b"description 10 BadDepth",
-            name_field(b"name", name.as_bytes()),
-            number_field(b"depth", *depth),
-        ),
-        DescFault::Narrowing {
-            operation,
-            from,
-            to,
-        } => line3(
-            b"description 11 Narrowing",
-            name_field(b"operation", operation.as_bytes()),
-            number_field(b"from", *from as u64),
-            number_field(b"to", *to as u64),
-        ),
-        DescFault::LoopWithoutBound { operation } => line1(
-            b"description 12 LoopWithoutBound",
-            name_field(b"operation", operation.as_bytes()),
-        ),
-        DescFault::LoopTooLong { operation, turns } => line2(
-            b"description 13 LoopTooLong",
-            name_field(b"operation", operation.as_bytes()),
-            number_field(b"turns", *turns),
-        ),
-        DescFault::Circular { operation } => line1(
-            b"description 14 Circular",
-            name_field(b"operation", operation.as_bytes()),
-        ),
-        DescFault::Backward {
-            activator,
-            activated,
-        } => line2(
-            b"description 15 Backward",
-            name_field(b"activator", activator.as_bytes()),
-            name_field(b"activated", activated.as_bytes()),
-        ),
-        DescFault::Control { operation, stage } => line2(
-            b"description 16 Control",
-            name_field(b"operation", operation.as_bytes()),
-            name_field(b"stage", stage.as_bytes()),
-        ),
-        DescFault::BadMain {} => line0(b"description 17 BadMain"),
-        DescFault::BadReset {} => line0(b"description 18 BadReset"),
-        DescFault::GroupWidth { operation, name } => line2(
-            b"description 19 GroupWidth",
-            name_field(b"operation", operation.as_bytes()),
-            name_field(b"name", name.as_bytes()),
-        ),
-        DescFault::NotWritten { operation, name } => line2(
-            b"description 20 NotWritten",
-            name_field(b"operation", operation.as_bytes()),
-            name_field(b"name", name.as_bytes()),
-        ),
-        DescFault::RootTwice { operation } => line1(
-            b"description 21 RootTwice",
-            name_field(b"operation", operation.as_bytes()),
-        ),
-        DescFault::TooMany { what, count, limit } => line3(
-            b"description 22 TooMany",
-            name_field(b"what", what.as_bytes()),
-            number_field(b"count", *count),
-            number_field(b"limit", *limit),
-        ),
-        DescFault::BadText { form } => line1(
-            b"description 23 BadText",
-            name_field(b"form", form.as_bytes()),
-        ),
-        DescFault::Overlap {
-            first,
-            second,
-            word,
-        } => line3(
-            b"description 24 Overlap",
-            name_field(b"first", first.as_bytes()),
-            name_field(b"second", second.as_bytes()),
-            word_field(b"word", *word),
-        ),
-        DescFault::Ambiguous {
-            first,
-            second,
-            text,
-        } => line3(
-            b"description 25 Ambiguous",
-            name_field(b"first", first.as_bytes()),
-            name_field(b"second", second.as_bytes()),
-            text_field(b"text", text.as_bytes()),
-        ),
-        DescFault::NotAnAlias { form } => line1(
-            b"description 26 NotAnAlias",
-            name_field(b"form", form.as_bytes()),
-        ),
-        DescFault::NoMemory => line0(b""),
+    Line {
+        head: head_of(fault),
+        first: first_field(fault),
+        second: second_field(fault),
+        third: third_field(fault),
+        fourth: None,
+        fifth: None,
     }
 }
 
@@ -154,9 +156,7 @@ pub fn file_line(fault: &FileFault) -> Line<'_>
     ensures { line_of result ≡ file_line fault.now }
 {
     match fault {
-        FileFault::TooLong { name } => {
-            line1(b"file 1 TooLong", name_field(b"name", name.as_bytes()))
-        }
+        FileFault::TooLong { name } => named_line(b"file 1 TooLong", name),
         FileFault::NoMemory => line0(b""),
     }
 }
@@ -168,5 +168,15 @@ pub fn input_line(fault: &InputFault) -> Line<'_>
     match fault {
         InputFault::TooLong {} => line0(b"input 1 TooLong"),
         InputFault::NoMemory => line0(b""),
+    }
+}
+
+/// The line of a fault of a program that is to be drawn.
+pub fn program_line(fault: &GenFault) -> Line<'_>
+    ensures { line_of result ≡ program_line fault.now }
+{
+    match fault {
+        GenFault::NoProgram => line0(b"program 1 NoProgram"),
+        GenFault::NoMemory => line0(b""),
     }
 }

@@ -9,7 +9,7 @@ ghost use Rattle.std.specs.Fmt.{digits as hex_digits, digit_glyph, signed_decima
 ghost use Rattle.lisa_object.specs.Texts.{byte_digits, digest_digits};
 
 use lisa_io::{Failed, Sink, put_all};
-use lisa_words::{decimal, hex};
+use lisa_words::{Name, decimal, hex};
 
 /// How a field of a fault is written.
 #[derive(Clone, Copy)]
@@ -175,6 +175,27 @@ pub fn line5<'a>(
         fourth: Some(fourth),
         fifth: Some(fifth),
     }
+}
+
+/// A line of a byte's place.
+pub fn at_byte(head: &[u8], at: u32) -> Line<'_>
+    ensures { line_of result ≡ line head.now (number (codes "at") at ∷ []) }
+{
+    line1(head, number_field(b"at", at as u64))
+}
+
+/// A line of a place among lines.
+pub fn at_line(head: &[u8], at: u32) -> Line<'_>
+    ensures { line_of result ≡ line head.now (number (codes "line") at ∷ []) }
+{
+    line1(head, number_field(b"line", at as u64))
+}
+
+/// A line of a name.
+pub fn named_line<'a>(head: &'a [u8], value: &'a Name) -> Line<'a>
+    ensures { line_of result ≡ line head.now (name (codes "name") value.now ∷ []) }
+{
+    line1(head, name_field(b"name", value.as_bytes()))
 }
 
 // The value of a field.

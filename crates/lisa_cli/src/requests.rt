@@ -6,7 +6,7 @@ ghost use Rattle.lisa_outcomes.specs.RunFiles.{RunNames as TheNames};
 ghost use Rattle.lisa_outcomes.specs.RunViews.{names_of};
 ghost use Rattle.engine_commands.specs.declared.tasks.Task.{Task as TheTask};
 ghost use Rattle.engine_commands.specs.declared.tasks.Task.TheVariants.{Answers};
-ghost use Rattle.lisa_cli.specs.Requests.{Request, Assemble, Link, Disassemble, Simulate, Clock, Asks, AreObjectNames, IsFileName, IsAnyName, AreNames, IsCounted, file_word, simulator_word, is_simulator_word, clock_word, count_words, run_words};
+ghost use Rattle.lisa_cli.specs.Requests.{Request, Simulate, Clock, Asks, IsDraw, AreObjectNames, IsFileName, IsAnyName, AreNames, IsCounted, file_word, simulator_word, is_simulator_word, clock_word, count_words, run_words};
 ghost use Rattle.lisa_cli.specs.Asked.{request_of};
 
 use engine_commands::Task;
@@ -24,6 +24,10 @@ pub enum Command<'a> {
     Check {
         description: &'a str,
     },
+    /// `verilog DESC`
+    Verilog {
+        description: &'a str,
+    },
     /// `asm DESC SOURCE`
     Assemble {
         description: &'a str,
@@ -38,6 +42,20 @@ pub enum Command<'a> {
     Disassemble {
         description: &'a str,
         image: &'a str,
+    },
+    /// `gen DESC NUMBER COUNT`
+    Generate {
+        description: &'a str,
+        number: u64,
+        count: u32,
+    },
+    /// `soak DESC VFILE NUMBER COUNT N`
+    Soak {
+        description: &'a str,
+        verilog: &'a str,
+        number: u64,
+        count: u32,
+        edges: u32,
     },
     /// `run DESC IMAGE SCHED N`, `trace DESC IMAGE SCHED N` or `debug DESC IMAGE SCHED`
     Simulate {
@@ -72,8 +90,8 @@ fn is_absent(word: &str) -> bool
     word == "-"
 }
 
-// A number of edges in decimal digits without leading zeros, up to a limit.
-fn edge_count(word: &str, limit: u32) -> Option<u32>
+// A number in decimal digits without leading zeros, up to a limit.
+fn count_up_to(word: &str, limit: u32) -> Option<u32>
     ensures found { IfSome result (λ n. (word.now ≡ decimal n) × (n ≤ limit)) }
     ensures only { (n : _) → word.now ≡ decimal n → n ≤ limit → result ≡ Some n }
 {
@@ -106,6 +124,18 @@ fn check_command(operands: &[String]) -> Option<Command<'_>>
     };
     let description = file_name(description.as_str())?;
     Some(Command::Check { description })
+}
+
+// The operands of `verilog`.
+fn verilog_command(operands: &[String]) -> Option<Command<'_>>
+    ensures found { IfSome result (λ c. Asks (codes "verilog" ∷ map string_bytes operands.now) (request_of c)) }
+    ensures only { (r : Request) → Asks (codes "verilog" ∷ map string_bytes operands.now) r → option_map request_of result ≡ Some r }
+{
+    let [description] = operands else {
+        return None;
+    };
+    let description = file_name(description.as_str())?;
+    Some(Command::Verilog { description })
 }
 
 // The names of two files.
@@ -217,7 +247,7 @@ fn counted(rest: &[String], limit: u32) -> Option<u32>
     let [edges] = rest else {
         return None;
     };
-    edge_count(edges.as_str(), limit)
+    count_up_to(edges.as_str(), limit)
 }
 
 // The task without a number.
@@ -269,6 +299,74 @@ fn simulator_task(command: &str, rest: &[String]) -> Option<Task>
     }
 }
 
+// The numbers of a program that is drawn: the one that it is drawn from, and how many instructions it has.
+fn draw(number: &str, count: &str) -> Option<(u64, u32)>
+    ensures found { IfSome result (λ n. (number.now ≡ decimal n.0) × (count.now ≡ decimal n.1) × IsDraw n.0 n.1) }
+    ensures only { (m n : ℕ) → number.now ≡ decimal m → count.now ≡ decimal n → IsDraw m n → result ≡ Some (m, n) }
+{
+    let number = canonical_decimal(number.as_bytes())?;
+    let count = count_up_to(count, 65_536)?;
+    Some((number, count))
+}
+
+// The operands of `gen`.
+fn generate_command(operands: &[String]) -> Option<Command<'_>>
+    ensures found { IfSome result (λ c. Asks (codes "gen" ∷ map string_bytes operands.now) (request_of c)) }
+    ensures only { (r : Request) → Asks (codes "gen" ∷ map string_bytes operands.now) r → option_map request_of result ≡ Some r }
+{
+    let [description, number, count] = operands else {
+        return None;
+    };
+    let description = file_name(description.as_str())?;
+    let (number, count) = draw(number.as_str(), count.as_str())?;
+    Some(Command::Generate {
+        description,
+        number,
+        count,
+    })
+}
+
+// The words behind `soak`, one by one.
+fn soak_of<'a>(
+    description: &'a str,
+    verilog: &'a str,
+    number: &str,
+    count: &str,
+    edges: &str,
+) -> Option<Command<'a>>
+    ensures found { IfSome result (λ c. Asks (codes "soak" ∷ description.now ∷ verilog.now ∷ number.now ∷ count.now ∷ edges.now ∷ []) (request_of c)) }
+    ensures only { (r : Request) → Asks (codes "soak" ∷ description.now ∷ verilog.now ∷ number.now ∷ count.now ∷ edges.now ∷ []) r → option_map request_of result ≡ Some r }
+{
+    let description = file_name(description)?;
+    let verilog = file_name(verilog)?;
+    let (number, count) = draw(number, count)?;
+    let edges = count_up_to(edges, 1_000_000)?;
+    Some(Command::Soak {
+        description,
+        verilog,
+        number,
+        count,
+        edges,
+    })
+}
+
+// The operands of `soak`.
+fn soak_command(operands: &[String]) -> Option<Command<'_>>
+    ensures found { IfSome result (λ c. Asks (codes "soak" ∷ map string_bytes operands.now) (request_of c)) }
+    ensures only { (r : Request) → Asks (codes "soak" ∷ map string_bytes operands.now) r → option_map request_of result ≡ Some r }
+{
+    let [description, verilog, number, count, edges] = operands else {
+        return None;
+    };
+    soak_of(
+        description.as_str(),
+        verilog.as_str(),
+        number.as_str(),
+        count.as_str(),
+        edges.as_str(),
+    )
+}
+
 // The operands of a command over the simulator of a description.
 fn simulator_command<'a>(command: &str, operands: &'a [String]) -> Option<Command<'a>>
     ensures found { IfSome result (λ c. Asks (command.now ∷ map string_bytes operands.now) (request_of c)) }
@@ -306,9 +404,12 @@ fn clock_command<'a>(command: &str, operands: &'a [String]) -> Option<Command<'a
 fn task_command<'a>(command: &str, operands: &'a [String]) -> Option<Command<'a>>
     requires fmt { command.now ≢ codes "fmt" }
     requires check { command.now ≢ codes "check" }
+    requires verilog { command.now ≢ codes "verilog" }
     requires asm { command.now ≢ codes "asm" }
     requires link { command.now ≢ codes "link" }
     requires dis { command.now ≢ codes "dis" }
+    requires generate { command.now ≢ codes "gen" }
+    requires soak { command.now ≢ codes "soak" }
     ensures found { IfSome result (λ c. Asks (command.now ∷ map string_bytes operands.now) (request_of c)) }
     ensures only { (r : Request) → Asks (command.now ∷ map string_bytes operands.now) r → option_map request_of result ≡ Some r }
 {
@@ -330,9 +431,12 @@ pub fn request(words: &[String]) -> Option<Command<'_>>
     match command.as_str() {
         "fmt" => format_command(operands),
         "check" => check_command(operands),
+        "verilog" => verilog_command(operands),
         "asm" => assemble_command(operands),
         "link" => link_command(operands),
         "dis" => disassemble_command(operands),
+        "gen" => generate_command(operands),
+        "soak" => soak_command(operands),
         other => task_command(other, operands),
     }
 }

@@ -1,45 +1,42 @@
 //! The lines of the faults of a source, an object and of linking.
-ghost use Rattle.std.specs.Prelude.{◌≡◌};
+ghost use Rattle.std.specs.Prelude.{◌≡◌, ◌∷◌, [], codes};
+ghost use Rattle.lisa_cli.specs.Lines.{line, name, number};
 ghost use Rattle.lisa_cli.specs.LineViews.{line_of};
 ghost use Rattle.lisa_cli.specs.SourceLines.{source_line, object_line, link_line};
 
 use crate::lines::{
-    Line, digest_field, integer_field, line0, line1, line2, line3, line5, name_field, number_field,
+    Line, at_line, digest_field, integer_field, line0, line2, line3, line5, name_field, named_line,
+    number_field,
 };
 use asm_source::SourceFault;
 use lisa_object::{LinkFault, ObjectFault};
+use lisa_words::Name;
+
+// The line of a fault of a name at a line of a source.
+fn at_line_named<'a>(head: &'a [u8], place: u32, value: &'a Name) -> Line<'a>
+    ensures { line_of result ≡ line head.now (number (codes "line") place ∷ name (codes "name") value.now ∷ []) }
+{
+    line2(
+        head,
+        number_field(b"line", place as u64),
+        name_field(b"name", value.as_bytes()),
+    )
+}
 
 /// The line of a source's fault.
 pub fn source_line(fault: &SourceFault) -> Line<'_>
     ensures { line_of result ≡ source_line fault.now }
 {
     match fault {
-        SourceFault::BadLine { line } => {
-            line1(b"source 1 BadLine", number_field(b"line", *line as u64))
+        SourceFault::BadLine { line } => at_line(b"source 1 BadLine", *line),
+        SourceFault::UnknownDirective { line } => at_line(b"source 2 UnknownDirective", *line),
+        SourceFault::BadExpression { line } => at_line(b"source 3 BadExpression", *line),
+        SourceFault::NoSection { line } => at_line(b"source 4 NoSection", *line),
+        SourceFault::UnknownMemory { line, name } => {
+            at_line_named(b"source 5 UnknownMemory", *line, name)
         }
-        SourceFault::UnknownDirective { line } => line1(
-            b"source 2 UnknownDirective",
-            number_field(b"line", *line as u64),
-        ),
-        SourceFault::BadExpression { line } => line1(
-            b"source 3 BadExpression",
-            number_field(b"line", *line as u64),
-        ),
-        SourceFault::NoSection { line } => {
-            line1(b"source 4 NoSection", number_field(b"line", *line as u64))
-        }
-        SourceFault::UnknownMemory { line, name } => line2(
-            b"source 5 UnknownMemory",
-            number_field(b"line", *line as u64),
-            name_field(b"name", name.as_bytes()),
-        ),
-        SourceFault::NotProgram { line } => {
-            line1(b"source 6 NotProgram", number_field(b"line", *line as u64))
-        }
-        SourceFault::NoInstruction { line } => line1(
-            b"source 7 NoInstruction",
-            number_field(b"line", *line as u64),
-        ),
+        SourceFault::NotProgram { line } => at_line(b"source 6 NotProgram", *line),
+        SourceFault::NoInstruction { line } => at_line(b"source 7 NoInstruction", *line),
         SourceFault::TwoInstructions {
             line,
             first,
@@ -50,11 +47,9 @@ pub fn source_line(fault: &SourceFault) -> Line<'_>
             name_field(b"first", first.as_bytes()),
             name_field(b"second", second.as_bytes()),
         ),
-        SourceFault::DuplicateLabel { line, name } => line2(
-            b"source 9 DuplicateLabel",
-            number_field(b"line", *line as u64),
-            name_field(b"name", name.as_bytes()),
-        ),
+        SourceFault::DuplicateLabel { line, name } => {
+            at_line_named(b"source 9 DuplicateLabel", *line, name)
+        }
         SourceFault::FieldRange { line, value, width } => line3(
             b"source 10 FieldRange",
             number_field(b"line", *line as u64),
@@ -94,14 +89,8 @@ pub fn link_line(fault: &LinkFault) -> Line<'_>
     ensures { line_of result ≡ link_line fault.now }
 {
     match fault {
-        LinkFault::NoSuchMemory { name } => line1(
-            b"link 1 NoSuchMemory",
-            name_field(b"name", name.as_bytes()),
-        ),
-        LinkFault::DuplicateGlobal { name } => line1(
-            b"link 2 DuplicateGlobal",
-            name_field(b"name", name.as_bytes()),
-        ),
+        LinkFault::NoSuchMemory { name } => named_line(b"link 1 NoSuchMemory", name),
+        LinkFault::DuplicateGlobal { name } => named_line(b"link 2 DuplicateGlobal", name),
         LinkFault::DoesNotFit {
             memory,
             cells,

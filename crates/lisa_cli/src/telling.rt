@@ -6,9 +6,9 @@ ghost use Rattle.lisa_cli.specs.Says.{refusal_line, status_text, has_line};
 ghost use Rattle.lisa_cli.specs.Told.{IsTold};
 ghost use Rattle.lisa_outcomes.specs.declared.status.Status.TheVariants as statuses;
 
-use crate::fault_lines::{description_line, file_line, input_line};
+use crate::fault_lines::{description_line, file_line, input_line, program_line};
 use crate::lines::{Line, put_line};
-use crate::module_lines::{image_line, schedule_line, verilog_line};
+use crate::module_lines::{image_line, netlist_line, schedule_line, verilog_line};
 use crate::source_lines::{link_line, object_line, source_line};
 use lisa_io::{Failed, Sink, put_all};
 use lisa_outcomes::{Refusal, Status};
@@ -23,6 +23,8 @@ fn refusal_line(refusal: &Refusal) -> Line<'_>
     match refusal {
         Refusal::File(fault) => file_line(fault),
         Refusal::Input(fault) => input_line(fault),
+        Refusal::Program(fault) => program_line(fault),
+        Refusal::Netlist(fault) => netlist_line(fault),
         Refusal::Description(fault) => description_line(fault),
         Refusal::Verilog(fault) => verilog_line(fault),
         Refusal::Image(fault) => image_line(fault),

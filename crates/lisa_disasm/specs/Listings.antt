@@ -10,7 +10,7 @@ use Rattle.coding_tables.specs.Instructions.{instruction_items}
 use Rattle.instruction_forms.specs.Widths.{HasWidth}
 use Rattle.instruction_texts.specs.Written.{text_bytes}
 use Rattle.lisa_object.specs.Texts.{text_of, hex}
-use Rattle.lisa_coding.specs.Parts.{HasTree}
+use Rattle.lisa_forms.specs.Codings.{HasTree}
 use Rattle.lisa_syntax.specs.Trees.{instruction_text}
 
 -- a cell's value alone

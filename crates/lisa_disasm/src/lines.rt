@@ -7,11 +7,11 @@ ghost use Rattle.coding_tables.specs.Instructions.{forms_of, form_count};
 ghost use Rattle.pattern_tables.specs.Instructions.{form_at};
 ghost use Rattle.form_patterns.specs.Instructions.{field_places};
 ghost use Rattle.form_patterns.specs.Filled.{AreValuesOf, IsInstruction};
-ghost use Rattle.lisa_coding.specs.Parts.{IsCodingOf, IsOneTreeOf};
+ghost use Rattle.lisa_forms.specs.Codings.{IsCodingOf, IsOneTreeOf};
 ghost use Rattle.lisa_syntax.specs.Parts.{IsSyntaxOf};
 ghost use Rattle.lisa_disasm.specs.Listings.{value_line, instruction_line, IsInstructionLine, IsCellLine};
 
-use lisa_coding::Coding;
+use lisa_forms::Coding;
 use lisa_syntax::Syntax;
 use lisa_words::{NoMemory, hex};
 use std::alloc::{AllocError, Global};

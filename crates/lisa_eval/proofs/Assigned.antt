@@ -9,10 +9,10 @@ use Rattle.lisa_tree.specs.declared.tokens.Shape.{Shape}
 use Rattle.lisa_tree.specs.Expressions as exprs
 use Rattle.lisa_tree.specs.Descriptions as trees
 use Rattle.lisa_tree.specs.Descriptions.{ResourceTree, DescriptionTree}
-use Rattle.description_names.specs.declared.declared.Meaning.{Meaning}
-use Rattle.description_names.specs.declared.declared.Meaning.TheVariants as meanings
-use Rattle.description_names.specs.Same.{same_name}
-use Rattle.description_names.specs.Meanings.{meaning}
+use Rattle.lisa_tree.specs.declared.declared.Meaning.{Meaning}
+use Rattle.lisa_tree.specs.declared.declared.Meaning.TheVariants as meanings
+use Rattle.lisa_tree.specs.Same.{same_name}
+use Rattle.lisa_tree.specs.Meanings.{meaning}
 use Rattle.description_places.specs.Scopes.{Scope}
 use Rattle.description_sizes.specs.Texts.{levels}
 use Rattle.typed_values.specs.Words.{TypedWord, truth}

@@ -2,7 +2,7 @@
 use Rattle.std.proofs.Common.{◌≡◌, ℕ, suc, Bool, true, false, cond, List, [], ◌∷◌, Option, None, Some, length, map, take, MatchOption, refl, sym, ap, subst}
 use Rattle.std.specs.Prelude.{option_map}
 use Rattle.std.specs.Map.{lookup}
-use Rattle.description_names.specs.Same.{same_name}
+use Rattle.lisa_tree.specs.Same.{same_name}
 use Rattle.description_places.specs.Scopes.{Scope}
 use Rattle.typed_values.specs.Words.{TypedWord}
 use Rattle.typed_values.specs.Effects.{Locals}

@@ -2,18 +2,18 @@
 use Rattle.std.proofs.Common.{◌≡◌, ◌%◌, ◌-◌, ◌∙◌, ℕ, Bool, not, List, [], Option, None, Some, IfSome, get_or, refl, sym, ap, subst}
 use Rattle.std.specs.Prelude.{slice_get, option_map}
 use Rattle.std.specs.Map.{lookup}
-use Rattle.operators.specs.declared.binary.Operator.{Operator}
+use Rattle.lisa_words.specs.declared.binary.Operator.{Operator}
 use Rattle.lisa_tree.specs.declared.tokens.Shape.{Shape}
 use Rattle.lisa_tree.specs.Expressions as exprs
 use Rattle.lisa_tree.specs.Expressions.{ExprTree}
 use Rattle.lisa_tree.specs.Descriptions as trees
 use Rattle.lisa_tree.specs.Descriptions.{ResourceTree, DescriptionTree}
-use Rattle.description_names.specs.declared.declared.Meaning.{Meaning}
-use Rattle.description_names.specs.declared.declared.Meaning.TheVariants as meanings
-use Rattle.description_names.specs.Same.{same_name}
-use Rattle.description_names.specs.Resources.{stage_at}
-use Rattle.description_names.specs.Operations.{own_stage}
-use Rattle.description_names.specs.Meanings.{meaning}
+use Rattle.lisa_tree.specs.declared.declared.Meaning.{Meaning}
+use Rattle.lisa_tree.specs.declared.declared.Meaning.TheVariants as meanings
+use Rattle.lisa_tree.specs.Same.{same_name}
+use Rattle.lisa_tree.specs.Resources.{stage_at}
+use Rattle.lisa_tree.specs.Operations.{own_stage}
+use Rattle.lisa_tree.specs.Meanings.{meaning}
 use Rattle.description_places.specs.Literals as plain
 use Rattle.description_places.specs.Scopes.{Scope}
 use Rattle.lisa_machine.specs.Verdicts.{IsAccepted}
@@ -21,7 +21,7 @@ use Rattle.typed_values.specs.Words.{TypedWord, as_shape, truth, is_zero}
 use Rattle.typed_values.specs.Operators.{operand, chosen}
 use Rattle.typed_values.specs.Expressions.{made_of, complement}
 use Rattle.typed_values.specs.Effects.{whole_of}
-use Rattle.reset_values.specs.Effects.{local_or}
+use Rattle.typed_values.specs.ResetEffects.{local_or}
 use Rattle.description_sizes.specs.Texts.{levels}
 use Rattle.lisa_meaning.specs.Scenes.{Scene, at_path, running}
 use Rattle.lisa_meaning.specs.Moments.{Moment, bare, field_at}

@@ -9,13 +9,13 @@ use Rattle.lisa_words.specs.Words.{word_cut, word_widen}
 use Rattle.lisa_tree.specs.declared.tokens.Shape.{Shape}
 use Rattle.lisa_tree.specs.Descriptions as trees
 use Rattle.lisa_tree.specs.Descriptions.{ResourceTree, DescriptionTree}
-use Rattle.description_names.specs.declared.declared.Meaning.{Meaning}
-use Rattle.description_names.specs.declared.declared.Meaning.TheVariants as meanings
-use Rattle.description_names.specs.Resources.{fields_in}
+use Rattle.lisa_tree.specs.declared.declared.Meaning.{Meaning}
+use Rattle.lisa_tree.specs.declared.declared.Meaning.TheVariants as meanings
+use Rattle.lisa_tree.specs.Resources.{fields_in}
 use Rattle.lisa_machine.specs.Verdicts.{IsAccepted}
-use Rattle.description_promises.specs.Resolving.{IsWidth, IsDepth, FitsResource}
-use Rattle.description_promises.proofs.Sound.{sound}
-use Rattle.description_promises.proofs.Resolved.{resource_fits}
+use Rattle.lisa_machine.specs.Resolving.{IsWidth, IsDepth, FitsResource}
+use Rattle.lisa_machine.proofs.Sound.{sound}
+use Rattle.lisa_machine.proofs.Resolved.{resource_fits}
 use Rattle.typed_values.specs.Words.{typed, fitted, word_width}
 use Rattle.lisa_meaning.specs.Values.{Array, array_of, meant_array, shape_at, shaped}
 use Rattle.behavior_plans.specs.Values.{shaped_word}

@@ -12,7 +12,7 @@ use Rattle.coding_tables.proofs.Heights.{are_listed}
 use Rattle.pattern_tables.proofs.Decoding.{in_place, place_in}
 use Rattle.form_patterns.specs.Filled.{IsInstruction}
 use Rattle.form_patterns.proofs.Filling.{its_values}
-use Rattle.description_promises.specs.Soundness.{IsSound}
+use Rattle.lisa_machine.specs.Soundness.{IsSound}
 use Rattle.form_promises.proofs.Listed.{forms_distinct}
 
 -- what is listed once stands at one place

@@ -9,11 +9,11 @@ use Rattle.std.proofs.lemmas.List.{length-append}
 use Rattle.std.proofs.lemmas.Option.{slice_get-map, slice_get_within, slice_get-get_or, get_or_from_slice_get, same_Some}
 use Rattle.lisa_tree.specs.declared.descriptions.CodingItem.{CodingItem}
 use Rattle.lisa_tree.specs.Descriptions.{DescriptionTree}
-use Rattle.description_names.specs.Same.{same_name}
+use Rattle.lisa_tree.specs.Same.{same_name}
 use Rattle.stage_checks.specs.Graphs.{names_in}
 use Rattle.stage_checks.proofs.Rows.{regroup}
 use Rattle.instruction_forms.specs.Described.{items_at}
-use Rattle.description_promises.proofs.Entries.{get_left, get_right}
+use Rattle.lisa_machine.proofs.Entries.{get_left, get_right}
 use Rattle.activation_trees.specs.declared.parts.Occurrence.{Occurrence}
 use Rattle.activation_trees.specs.Activators.{HasActivator, IsChild}
 use Rattle.activation_trees.specs.Starting.{activating_names}

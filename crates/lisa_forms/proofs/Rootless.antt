@@ -2,10 +2,10 @@
 use Rattle.std.proofs.Common.{◌≡◌, ℕ, false, Option, None, Some, refl, inl, inr}
 use Rattle.std.proofs.lemmas.Bool.{cases_Bool}
 use Rattle.lisa_tree.specs.Descriptions.{DescriptionTree}
-use Rattle.description_names.specs.Operations.{is_root}
+use Rattle.lisa_tree.specs.Operations.{is_root}
 use Rattle.lisa_machine.specs.Verdicts.{IsAccepted}
 use Rattle.instruction_forms.specs.Widths.{HasWidth}
-use Rattle.description_promises.proofs.Sound.{sound}
+use Rattle.lisa_machine.proofs.Sound.{sound}
 use Rattle.form_promises.proofs.Rooted.{root_chosen, without_root}
 
 module _ (d : DescriptionTree) where

@@ -4,7 +4,7 @@ use Rattle.std.specs.Option.{option_to_list}
 use Rattle.lisa_tree.specs.declared.descriptions.CodingItem.{CodingItem}
 use Rattle.lisa_tree.specs.declared.descriptions.CodingItem.TheVariants as items
 use Rattle.lisa_tree.specs.Descriptions.{DescriptionTree}
-use Rattle.description_names.specs.Same.{same_name}
+use Rattle.lisa_tree.specs.Same.{same_name}
 use Rattle.coding_tables.specs.Instructions.{forms_of}
 use Rattle.pattern_tables.specs.Instructions.{form_at}
 use Rattle.instruction_forms.specs.Trees.{FormTree, FormTrees, Node, End, Then}

@@ -3,3 +3,6 @@ pub mod Parts
 pub mod Choosing
 pub mod Ways
 pub mod Standings
+pub mod Rows
+pub mod Coverage
+pub mod Codings

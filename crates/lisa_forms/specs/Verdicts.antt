@@ -3,7 +3,7 @@ use Rattle.std.specs.Prelude.{◌≡◌, ℕ, List, Option, None, Some, option_m
 use Rattle.lisa_tree.specs.declared.faults.DescFault.{DescFault}
 use Rattle.lisa_tree.specs.declared.faults.DescFault.TheVariants as faults
 use Rattle.lisa_tree.specs.Descriptions.{DescriptionTree}
-use Rattle.description_names.specs.Operations.{name_at}
+use Rattle.lisa_tree.specs.Operations.{name_at}
 use Rattle.coding_checks.specs.Uneven.{IsFirstGroupWidth}
 use Rattle.coding_checks.specs.Written.{not_written}
 use Rattle.coding_tables.specs.Instructions.{forms_of, form_count}

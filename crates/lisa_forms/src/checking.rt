@@ -3,7 +3,7 @@
 ghost use Rattle.std.specs.Prelude.{◌≡◌, ◌⊎◌, ◌<◌, ℕ, None, Some, length, min, option_map, IfOk, IfErr, MatchResult};
 ghost use Rattle.least_fixed_points.specs.Settles.{entry};
 ghost use Rattle.lisa_tree.specs.declared.faults.DescFault.TheVariants as faults;
-ghost use Rattle.description_names.specs.Operations.{name_at};
+ghost use Rattle.lisa_tree.specs.Operations.{name_at};
 ghost use Rattle.coding_checks.specs.Uneven.{IsFirstGroupWidth};
 ghost use Rattle.coding_checks.specs.Widths.{AreWidths, capped};
 ghost use Rattle.coding_tables.specs.Instructions.{form_count};
@@ -22,14 +22,13 @@ use crate::ways::ways;
 use activation_trees::first_root_twice;
 use coding_checks::{Widths, first_group_width, first_not_written};
 use coding_tables::{count_forms, instruction_choice};
-use description_names::Names;
 use description_sizes::{Unfolded, unfold};
 use description_types::operation_name;
 use form_patterns::plain_forms;
 use form_promises::instructions_have_a_width;
 use form_texts::first_bad_text;
 use instruction_forms::{Form, form_name, forms};
-use lisa_tree::DescFault;
+use lisa_tree::{DescFault, Names};
 use lisa_words::NoMemory;
 use std::alloc::Global;
 

@@ -1,8 +1,13 @@
-//! The forms, occurrences and items of an accepted description, and whether it has any: its codings, sizes and texts.
+//! The forms, occurrences and items of an accepted description, and whether it has any: its codings, sizes and texts. And the words of
+//! its instructions: from values and back, and whether forms overlap or aliases are covered.
 #![tactic(auto)]
 
 mod checking;
 mod choosing;
+mod coding;
+mod coverage;
+mod decoding;
+mod fields;
 mod forms;
 mod laws;
 mod making;
@@ -10,9 +15,13 @@ mod standing;
 mod way;
 mod ways;
 mod width;
+mod words;
 
 pub use activation_trees::Occurrence;
+pub use coding::Coding;
+pub use decoding::{overlaps_are_of_trees, words_are_decoded};
 pub use forms::Forms;
 pub use instruction_forms::{Field, Form};
 pub use laws::{instructions_are_of_one_form, what_is_chosen_is_past_the_root};
 pub use making::form_name;
+pub use pattern_tables::{PatternTable, Steps};

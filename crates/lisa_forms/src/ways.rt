@@ -4,7 +4,7 @@
 ghost use Rattle.std.specs.Prelude.{◌≡◌, ◌<◌, ◌++◌, ℕ, Some, IfOk, OnOk, length, map, position};
 ghost use Rattle.std.specs.Option.{option_to_list};
 ghost use Rattle.stage_checks.specs.Graphs.{names_in};
-ghost use Rattle.description_names.specs.Same.{same_name};
+ghost use Rattle.lisa_tree.specs.Same.{same_name};
 ghost use Rattle.instruction_forms.specs.Described.{items_at};
 ghost use Rattle.activation_trees.specs.Unfolding.{occurrences};
 ghost use Rattle.lisa_forms.specs.Choosing.{child_name, child_names};
@@ -12,9 +12,8 @@ ghost use Rattle.lisa_forms.specs.Ways.{by_place, is_name, ways_past, ways_under
 
 use crate::way::Way;
 use activation_trees::{Occurrence, activating_names, activators_come_first, places};
-use description_names::{Names, coding};
 use description_types::sections;
-use lisa_tree::{CodingItem, CodingPart};
+use lisa_tree::{CodingItem, CodingPart, Names, coding};
 use lisa_words::Name;
 use std::alloc::{AllocError, Global};
 

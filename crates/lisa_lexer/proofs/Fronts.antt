@@ -4,8 +4,8 @@ use Rattle.std.specs.Prelude.{◌==◌, ◌&&◌, ◌||◌}
 use Rattle.std.specs.List.{prefix_len}
 use Rattle.std.proofs.lemmas.Bool.{both_ways, cases_Bool, eqb-true}
 use Rattle.std.proofs.lemmas.Bool.Decides.{nat_tests}
-use Rattle.text_scan.specs.Bytes.{is_blank, is_digit, is_letter, front_is}
-use Rattle.text_scan.specs.Gaps.{starts_comment}
+use Rattle.lisa_words.specs.Bytes.{is_blank, is_digit, is_letter, front_is}
+use Rattle.lisa_words.specs.Gaps.{starts_comment}
 use Rattle.lisa_lexer.specs.Lexing.{is_quote}
 
 -- no byte is of two of these kinds

@@ -14,12 +14,12 @@ use Rattle.lisa_tree.specs.declared.tokens.Sign.{Sign}
 use Rattle.lisa_tree.specs.declared.tokens.TokenPart.{TokenPart}
 use Rattle.lisa_tree.specs.declared.tokens.TokenPart.TheVariants as parts
 use Rattle.lisa_tree.specs.Tokens.{is_pattern_digit, is_in_string, Begins, is_glued, Fits, Stuck, bad, broken, in_string, no_quote, glued, wide_number, wide_pattern, long}
-use Rattle.text_scan.specs.declared.gaps.Gap.{Gap}
-use Rattle.text_scan.specs.declared.gaps.Gap.TheVariants as gaps
-use Rattle.text_scan.specs.Bytes.{is_blank, is_digit, is_hexadecimal, is_letter, is_word, front_is}
-use Rattle.text_scan.specs.Gaps.{IsGap, blanks, line, block, BrokenGap, in_line, in_block, no_end, starts_comment, GapIs, gap_at}
-use Rattle.text_scan.proofs.Runs.{same_head, taken_pass, run_ends, run_is}
-use Rattle.text_scan.proofs.GapLaws.{gap_is, gap_whole, gap_broken, gap_absent}
+use Rattle.lisa_words.specs.declared.gaps.Gap.{Gap}
+use Rattle.lisa_words.specs.declared.gaps.Gap.TheVariants as gaps
+use Rattle.lisa_words.specs.Bytes.{is_blank, is_digit, is_hexadecimal, is_letter, is_word, front_is}
+use Rattle.lisa_words.specs.Gaps.{IsGap, blanks, line, block, BrokenGap, in_line, in_block, no_end, starts_comment, GapIs, gap_at}
+use Rattle.lisa_words.proofs.Runs.{same_head, taken_pass, run_ends, run_is}
+use Rattle.lisa_words.proofs.GapLaws.{gap_is, gap_whole, gap_broken, gap_absent}
 use Rattle.lisa_lexer.specs.declared.items.Item.TheVariants.{Skip, Take}
 use Rattle.lisa_lexer.specs.Lexing.{Front, word_at, decimal_at, hexadecimal_at, pattern_at, number_at, starts_zero, string_end, string_at, one_at, two_at, sign_at, past_gap, is_quote, item_at}
 use Rattle.lisa_lexer.specs.Reserved.{word_part}

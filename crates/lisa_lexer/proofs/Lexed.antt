@@ -7,10 +7,10 @@ use Rattle.lisa_tree.specs.declared.tokens.Token.{Token}
 use Rattle.lisa_tree.specs.declared.tokens.TokenPart.{TokenPart}
 use Rattle.lisa_tree.specs.declared.tokens.TokenPart.TheVariants as parts
 use Rattle.lisa_tree.specs.Tokens.{IsToken, named, reserved, type_word, decimal, hexadecimal, pattern, string, sign, Begins, is_glued, Fits, placed, Lexes, end, gap, token, Stuck, bad, broken, in_string, no_quote, glued, wide_number, wide_pattern, long, Breaks, behind_gap, behind_token, stuck}
-use Rattle.text_scan.specs.Bytes.{is_digit, is_letter, front_is}
-use Rattle.text_scan.specs.Gaps.{IsGap, blanks, line, block, BrokenGap, in_line, in_block, no_end, starts_comment}
-use Rattle.text_scan.specs.Fix.{guarded}
-use Rattle.text_scan.proofs.Fixed.{fix_is}
+use Rattle.lisa_words.specs.Bytes.{is_digit, is_letter, front_is}
+use Rattle.lisa_words.specs.Gaps.{IsGap, blanks, line, block, BrokenGap, in_line, in_block, no_end, starts_comment}
+use Rattle.lisa_words.specs.Fix.{guarded}
+use Rattle.lisa_words.proofs.Fixed.{fix_is}
 use Rattle.lisa_lexer.specs.declared.items.Item.{Item}
 use Rattle.lisa_lexer.specs.declared.items.Item.TheVariants.{Skip, Take}
 use Rattle.lisa_lexer.specs.Answers.{HasOutcome, lexes, breaks}

@@ -11,8 +11,8 @@ use Rattle.lisa_tree.specs.declared.tokens.Sign.{Sign}
 use Rattle.lisa_tree.specs.declared.tokens.TokenPart.{TokenPart}
 use Rattle.lisa_tree.specs.declared.tokens.TokenPart.TheVariants as parts
 use Rattle.lisa_tree.specs.Tokens.{is_pattern_digit, is_in_string, IsToken, decimal, hexadecimal, pattern, string, sign, Begins}
-use Rattle.text_scan.specs.Bytes.{is_digit, is_hexadecimal, is_letter, is_word, front_is}
-use Rattle.text_scan.proofs.Runs.{same_head, same_tail, taken_pass, run_longest, run_is}
+use Rattle.lisa_words.specs.Bytes.{is_digit, is_hexadecimal, is_letter, is_word, front_is}
+use Rattle.lisa_words.proofs.Runs.{same_head, same_tail, taken_pass, run_longest, run_is}
 use Rattle.lisa_lexer.specs.Lexing.{is_quote, starts_zero}
 use Rattle.lisa_lexer.specs.Reserved.{word_part}
 use Rattle.lisa_lexer.specs.Signs.{one_byte, two_bytes, sign_of}

@@ -8,8 +8,8 @@ use Rattle.std.proofs.lemmas.Bool.Decides.{nat_tests}
 use Rattle.std.proofs.lemmas.List.Folds.{length-prefix_len}
 use Rattle.lisa_words.specs.Numerals.{IsNumeralBelow}
 use Rattle.lisa_tree.specs.declared.faults.DescFault.TheVariants as faults
-use Rattle.text_scan.specs.Bytes.{is_digit, is_hexadecimal}
-use Rattle.text_scan.proofs.Runs.{taken_pass}
+use Rattle.lisa_words.specs.Bytes.{is_digit, is_hexadecimal}
+use Rattle.lisa_words.proofs.Runs.{taken_pass}
 use Rattle.lisa_lexer.specs.Lexing.{decimal_at, hexadecimal_at}
 
 decimal_digit : (b : ℕ) → is_digit b ≡ true → digit_value b < 10

@@ -15,7 +15,7 @@ use Rattle.lisa_tree.specs.declared.tokens.Shape.{Shape}
 use Rattle.lisa_tree.specs.declared.tokens.TokenPart.TheVariants as parts
 use Rattle.lisa_tree.specs.Spellings.{keyword_text, kind_text, shape_text}
 use Rattle.lisa_tree.specs.Tokens.{IsTypeWidth, IsTypeWord, IsToken, named, reserved, type_word, is_glued, Fits}
-use Rattle.text_scan.specs.Bytes.{is_digit, is_letter, is_word, front_is}
+use Rattle.lisa_words.specs.Bytes.{is_digit, is_letter, is_word, front_is}
 use Rattle.lisa_lexer.specs.Reserved.{words_a_to_d, words_e_to_o, words_p_to_s, small_words, begins_between, keyword_of, width_of, shape_with, starts_uint, starts_int, shape_of, part_by, word_part}
 
 abbrev some : {A : Type 0} → A → Option A

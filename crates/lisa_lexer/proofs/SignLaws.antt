@@ -5,7 +5,7 @@ use Rattle.std.proofs.lemmas.Bool.{and_parts, eqb-true}
 use Rattle.lisa_tree.specs.declared.tokens.Sign.{Sign}
 use Rattle.lisa_tree.specs.declared.tokens.Sign.TheVariants as signs
 use Rattle.lisa_tree.specs.Spellings.{sign_text}
-use Rattle.text_scan.specs.Bytes.{is_blank, is_digit, is_letter, front_is}
+use Rattle.lisa_words.specs.Bytes.{is_blank, is_digit, is_letter, front_is}
 use Rattle.lisa_lexer.specs.Lexing.{is_quote}
 use Rattle.lisa_lexer.specs.Signs.{one_byte, two_bytes, sign_of}
 

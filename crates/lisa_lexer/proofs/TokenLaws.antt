@@ -9,7 +9,7 @@ use Rattle.lisa_tree.specs.declared.tokens.TokenPart.{TokenPart}
 use Rattle.lisa_tree.specs.declared.tokens.TokenPart.TheVariants as parts
 use Rattle.lisa_tree.specs.Spellings.{keyword_text, shape_text, sign_text}
 use Rattle.lisa_tree.specs.Tokens.{is_pattern_digit, is_in_string, IsToken, named, reserved, type_word, decimal, hexadecimal, pattern, string, sign}
-use Rattle.text_scan.specs.Bytes.{is_blank, is_digit, is_hexadecimal, is_letter, is_word, front_is}
+use Rattle.lisa_words.specs.Bytes.{is_blank, is_digit, is_hexadecimal, is_letter, is_word, front_is}
 use Rattle.lisa_lexer.specs.Lexing.{is_quote}
 use Rattle.lisa_lexer.specs.Reserved.{word_part}
 use Rattle.lisa_lexer.proofs.Fronts.{not_letter_digit, not_letter_quote, not_digit_quote, not_letter_blank, not_digit_blank, front_apart, front_false}

@@ -11,9 +11,9 @@ use Rattle.lisa_tree.specs.declared.tokens.TokenPart.{TokenPart}
 use Rattle.lisa_tree.specs.declared.tokens.TokenPart.TheVariants as parts
 use Rattle.lisa_tree.specs.Spellings.{keyword_text, shape_text, sign_text}
 use Rattle.lisa_tree.specs.Tokens.{is_pattern_digit, is_in_string, IsToken, named, reserved, type_word, decimal, hexadecimal, pattern, string, sign, Begins, is_glued, Fits, placed, end, gap, token}
-use Rattle.text_scan.specs.Bytes.{is_blank, is_digit, is_hexadecimal, is_letter, is_word, front_is}
-use Rattle.text_scan.specs.Gaps.{blanks, starts_comment}
-use Rattle.text_scan.proofs.Runs.{run_is}
+use Rattle.lisa_words.specs.Bytes.{is_blank, is_digit, is_hexadecimal, is_letter, is_word, front_is}
+use Rattle.lisa_words.specs.Gaps.{blanks, starts_comment}
+use Rattle.lisa_words.proofs.Runs.{run_is}
 use Rattle.lisa_lexer.specs.Lexing.{starts_zero, is_quote}
 use Rattle.lisa_lexer.specs.Signs.{two_bytes, sign_of}
 use Rattle.lisa_lexer.specs.Written.{is_free, is_apart, Piece, text_of, ArePieces, parts_of, Reads}

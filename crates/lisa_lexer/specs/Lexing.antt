@@ -2,11 +2,11 @@
 use Rattle.std.specs.Prelude.{ℕ, ◌+◌, ◌^◌, Bool, false, List, [], ◌∷◌, length, take, drop, Option, Some, None, Result, Ok, Err, nat_lt, ◌==◌, ◌&&◌, if◌then◌else◌}
 use Rattle.std.specs.List.{prefix_len}
 use Rattle.std.specs.Str.Parse.{digits_value}
-use Rattle.text_scan.specs.declared.gaps.Gap.{Gap}
-use Rattle.text_scan.specs.declared.gaps.Gap.TheVariants as gaps
-use Rattle.text_scan.specs.Bytes.{is_digit, is_hexadecimal, is_letter, is_word, front_is}
-use Rattle.text_scan.specs.Gaps.{gap_at}
-use Rattle.text_scan.specs.Fix.{fix}
+use Rattle.lisa_words.specs.declared.gaps.Gap.{Gap}
+use Rattle.lisa_words.specs.declared.gaps.Gap.TheVariants as gaps
+use Rattle.lisa_words.specs.Bytes.{is_digit, is_hexadecimal, is_letter, is_word, front_is}
+use Rattle.lisa_words.specs.Gaps.{gap_at}
+use Rattle.lisa_words.specs.Fix.{fix}
 use Rattle.lisa_tree.specs.declared.faults.DescFault.{DescFault}
 use Rattle.lisa_tree.specs.declared.faults.DescFault.TheVariants as faults
 use Rattle.lisa_tree.specs.declared.tokens.Base.TheVariants as bases

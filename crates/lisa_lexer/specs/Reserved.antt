@@ -8,7 +8,7 @@ use Rattle.lisa_tree.specs.declared.tokens.Keyword.TheVariants as keywords
 use Rattle.lisa_tree.specs.declared.tokens.Shape.{Shape}
 use Rattle.lisa_tree.specs.declared.tokens.TokenPart.{TokenPart}
 use Rattle.lisa_tree.specs.declared.tokens.TokenPart.TheVariants as parts
-use Rattle.text_scan.specs.Bytes.{is_digit, front_is}
+use Rattle.lisa_words.specs.Bytes.{is_digit, front_is}
 
 abbrev pub words_a_to_d : List ℕ → Option Keyword
 words_a_to_d w =

@@ -1,8 +1,8 @@
 -- Tokens that are written one behind the other, with blanks before some of them.
 use Rattle.std.specs.Prelude.{◌≡◌, ℕ, ◌&&◌, Bool, true, List, [], ◌∷◌, ◌++◌, is_none, not, map}
 use Rattle.std.specs.List.{list_all}
-use Rattle.text_scan.specs.Bytes.{is_blank, is_word, front_is}
-use Rattle.text_scan.specs.Gaps.{starts_comment}
+use Rattle.lisa_words.specs.Bytes.{is_blank, is_word, front_is}
+use Rattle.lisa_words.specs.Gaps.{starts_comment}
 use Rattle.lisa_tree.specs.declared.tokens.Token.{Token}
 use Rattle.lisa_tree.specs.declared.tokens.TokenPart.{TokenPart}
 use Rattle.lisa_tree.specs.declared.tokens.TokenPart.TheVariants as parts

@@ -2,8 +2,8 @@
 
 ghost use Rattle.std.specs.Prelude.{◌≡◌, ◌+◌, ◌^◌, ◌<◌, ◌≤◌, length, IfOk};
 ghost use Rattle.std.specs.List.{prefix_len};
-ghost use Rattle.text_scan.specs.Bytes.{front_is, is_digit, is_hexadecimal, is_word};
-ghost use Rattle.text_scan.specs.Gaps.{gap_at};
+ghost use Rattle.lisa_words.specs.Bytes.{front_is, is_digit, is_hexadecimal, is_word};
+ghost use Rattle.lisa_words.specs.Gaps.{gap_at};
 ghost use Rattle.lisa_tree.specs.Tokens.{is_in_string, is_pattern_digit};
 ghost use Rattle.lisa_lexer.specs.Lexing.{unless_glued, past_gap, word_at, decimal_at, hexadecimal_at, pattern_at, number_at, string_at, sign_at, item_at};
 ghost use Rattle.lisa_lexer.specs.Answers.{Gives};
@@ -11,9 +11,11 @@ ghost use Rattle.lisa_lexer.specs.Answers.{Gives};
 use crate::signs::{one_byte, two_bytes};
 use crate::words::word_part;
 use lisa_tree::{Base, DescFault, TokenPart};
-use lisa_words::{Name, decimal_value, hex_value};
+use lisa_words::{
+    Gap, Name, decimal_value, hex_value, is_digit, is_hexadecimal, is_letter, is_printable,
+    is_word, leading_gap,
+};
 use std::alloc::Global;
-use text_scan::{Gap, is_digit, is_hexadecimal, is_letter, is_printable, is_word, leading_gap};
 
 /// How many bytes a name has at most.
 const NAME_LIMIT: usize = 64;

@@ -5,9 +5,8 @@ ghost use Rattle.lisa_lexer.specs.Reserved.{words_a_to_d, words_e_to_o, words_p_
 ghost use Rattle.lisa_tree.specs.declared.faults.DescFault.TheVariants as faults;
 
 use lisa_tree::{DescFault, Keyword, Shape, TokenPart};
-use lisa_words::{Kind, Name};
+use lisa_words::{Kind, Name, is_digit};
 use std::alloc::Global;
-use text_scan::is_digit;
 
 fn words_a_to_d(word: &[u8]) -> Option<Keyword>
     ensures { result ≡ words_a_to_d word.now }

@@ -16,7 +16,7 @@ use Rattle.std.specs.Option.{is_some}
 use Rattle.description_places.specs.declared.sites.Region.{Region}
 use Rattle.description_places.specs.Scopes.{Scope}
 use Rattle.description_places.specs.Places.{Place}
-use Rattle.description_names.specs.Operations.{number_of}
+use Rattle.lisa_tree.specs.Operations.{number_of}
 use Rattle.stage_checks.specs.Controls.{main_name}
 use Rattle.stage_checks.specs.Closing.{closes_well}
 use Rattle.stage_checks.specs.Running.{RunsIn, IsLatest, AreLatest, AreFree}

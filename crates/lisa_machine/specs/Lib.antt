@@ -1,2 +1,12 @@
 pub mod Verdicts
 pub mod Machines
+pub mod Freedom
+pub mod Soundness
+pub mod Ranks
+pub mod Declaring
+pub mod Codings
+pub mod Running
+pub mod Distinctness
+pub mod Resolving
+pub mod Values
+pub mod Assigning

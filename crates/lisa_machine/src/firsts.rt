@@ -6,10 +6,9 @@ ghost use Rattle.description_types.specs.Tables.{known_by, AreKinds};
 ghost use Rattle.lisa_machine.specs.Verdicts.{IsCircleVerdict, IsBadMainVerdict, from_resets, from_mains, from_controls, from_backwards, from_circles, from_long_loops, from_loops, from_narrowings, from_depths, from_widths, from_kinds, from_unknowns, from_duplicates};
 
 use description_graph::first_circular_operation;
-use description_names::Names;
 use description_types::{Kinds, operation_name};
 use kind_checks::{first_narrowing, first_wrong_kind};
-use lisa_tree::DescFault;
+use lisa_tree::{DescFault, Names};
 use lisa_words::NoMemory;
 use name_checks::{first_duplicate, first_unknown};
 use shape_checks::{first_bad_depth, first_bad_width, first_long_loop, first_unbounded_loop};

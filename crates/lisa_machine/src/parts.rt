@@ -4,8 +4,8 @@ ghost use Rattle.std.specs.Prelude.{◌≡◌, IfOk};
 ghost use Rattle.machine_parts.specs.Parts.{first_values};
 ghost use Rattle.lisa_machine.specs.Machines.{IsResetShort, AreParts};
 
-use description_names::Names;
 use lisa_engine::{ArrayItem, Item};
+use lisa_tree::Names;
 use lisa_words::NoMemory;
 use machine_parts::{arrays, count_reset, first_values, memories, pins};
 use std::alloc::Global;

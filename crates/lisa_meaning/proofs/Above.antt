@@ -6,19 +6,19 @@ use Rattle.std.proofs.lemmas.Bool.{or_cases, eqb-true, eq-eqb}
 use Rattle.std.proofs.lemmas.List.Folds.{list_any-append}
 use Rattle.std.proofs.lemmas.Option.{same_Some}
 use Rattle.lisa_tree.specs.Descriptions.{DescriptionTree}
-use Rattle.description_names.specs.declared.declared.What.{What}
-use Rattle.description_names.specs.declared.declared.What.TheVariants as whats
-use Rattle.description_names.specs.Operations.{numbers_of, is_alias}
-use Rattle.description_names.specs.Declarations.{Entry, Choice, choice, entries, choices, declared_at, owner_at, entry_name_at, alternatives_at, plain_at, listings, above_in, above}
-use Rattle.description_names.specs.Paths.{Operation, Choosing, leads}
+use Rattle.lisa_tree.specs.declared.declared.What.{What}
+use Rattle.lisa_tree.specs.declared.declared.What.TheVariants as whats
+use Rattle.lisa_tree.specs.Operations.{numbers_of, is_alias}
+use Rattle.lisa_tree.specs.Declarations.{Entry, Choice, choice, entries, choices, declared_at, owner_at, entry_name_at, alternatives_at, plain_at, listings, above_in, above}
+use Rattle.lisa_tree.specs.Paths.{Operation, Choosing, leads}
 use Rattle.graph_paths.specs.Paths.{is_in}
 use Rattle.description_graph.proofs.Hits.{found}
 use Rattle.stage_checks.specs.Running.{choice_of, choice_at}
-use Rattle.description_promises.specs.Ranks.{Ranks}
-use Rattle.description_promises.specs.Declaring.{Chooses}
-use Rattle.description_promises.proofs.Chosen.{plain_listed}
-use Rattle.description_promises.proofs.Entries.{entry_chooses}
-use Rattle.description_promises.proofs.Named.{what_is}
+use Rattle.lisa_machine.specs.Ranks.{Ranks}
+use Rattle.lisa_machine.specs.Declaring.{Chooses}
+use Rattle.lisa_machine.proofs.Chosen.{plain_listed}
+use Rattle.lisa_machine.proofs.Entries.{entry_chooses}
+use Rattle.lisa_machine.proofs.Named.{what_is}
 use Rattle.use_promises.specs.Meant.{ChoosesFrom}
 use Rattle.activation_trees.specs.Starting.{plain_of, plain_named}
 

@@ -8,14 +8,14 @@ use Rattle.lisa_tree.specs.Descriptions.{DescriptionTree}
 use Rattle.description_places.specs.declared.sites.Region.TheVariants as regions
 use Rattle.description_places.specs.Scopes.{Scope}
 use Rattle.description_places.specs.Places.{at}
-use Rattle.description_names.specs.Resources.{stage_at}
-use Rattle.description_names.specs.Operations.{number_of, own_stage, sections_at, behavior_in}
+use Rattle.lisa_tree.specs.Resources.{stage_at}
+use Rattle.lisa_tree.specs.Operations.{number_of, own_stage, sections_at, behavior_in}
 use Rattle.graph_paths.specs.Paths.{is_in}
 use Rattle.stage_checks.specs.Controls.{main_name}
-use Rattle.description_promises.specs.Running.{FitsControl}
-use Rattle.description_promises.specs.Soundness.{IsSound}
-use Rattle.description_promises.proofs.Forward.{stall_fits, flush_fits}
-use Rattle.description_promises.proofs.Standing.{behavior_stand}
+use Rattle.lisa_machine.specs.Running.{FitsControl}
+use Rattle.lisa_machine.specs.Soundness.{IsSound}
+use Rattle.lisa_machine.proofs.Forward.{stall_fits, flush_fits}
+use Rattle.lisa_machine.proofs.Standing.{behavior_stand}
 use Rattle.description_sizes.specs.Texts.{levels}
 use Rattle.meant_declarations.specs.Meant as meant
 use Rattle.use_promises.specs.Using.{RunsInPlace, IsCallable}

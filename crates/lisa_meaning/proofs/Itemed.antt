@@ -10,8 +10,8 @@ use Rattle.std.proofs.lemmas.Option.{slice_get_within, same_Some}
 use Rattle.lisa_tree.specs.Descriptions.{DescriptionTree}
 use Rattle.lisa_engine.specs.declared.parts.ArrayItem.{ArrayItem}
 use Rattle.lisa_engine.specs.Memory.{Memory}
-use Rattle.description_names.specs.Resources.{stages, fields}
-use Rattle.description_names.specs.Operations.{is_root}
+use Rattle.lisa_tree.specs.Resources.{stages, fields}
+use Rattle.lisa_tree.specs.Operations.{is_root}
 use Rattle.machine_parts.specs.Parts.{arrays_of, registers_of}
 use Rattle.machine_parts.specs.Laws.{HaveWidths}
 use Rattle.activation_trees.specs.declared.parts.Occurrence.{Occurrence}
@@ -19,7 +19,7 @@ use Rattle.activation_trees.specs.Unfolding.{occurrences}
 use Rattle.activation_trees.specs.Items.{stage_or_first, root_stage, is_between, has_bit}
 use Rattle.instruction_trees.specs.Trees.{Form, form_bits, instructions}
 use Rattle.instruction_trees.specs.Forms.{forms}
-use Rattle.description_names.specs.Paths.{node_count}
+use Rattle.lisa_tree.specs.Paths.{node_count}
 use Rattle.coding_tables.specs.Codings.{choice_alternatives, coding_table}
 use Rattle.coding_tables.specs.Instructions.{instruction_choice, instruction_items, forms_of}
 use Rattle.pattern_tables.specs.Tables.{IsDecoded}

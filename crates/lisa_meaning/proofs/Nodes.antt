@@ -5,8 +5,8 @@ use Rattle.std.proofs.lemmas.List.{length-append, length-map, map-append}
 use Rattle.lisa_tree.specs.Activations as items
 use Rattle.lisa_tree.specs.Activations.{ActTree, ActTrees}
 use Rattle.lisa_tree.specs.Descriptions.{OperationTree, DescriptionTree}
-use Rattle.description_names.specs.Operations.{number_of, operation_at, own_stage, sections_at, activation_in}
-use Rattle.description_names.specs.Paths.{node_count}
+use Rattle.lisa_tree.specs.Operations.{number_of, operation_at, own_stage, sections_at, activation_in}
+use Rattle.lisa_tree.specs.Paths.{node_count}
 use Rattle.stage_checks.specs.Controls.{main_name}
 use Rattle.stage_checks.specs.Running.{act_names, acts_names, activation_names}
 use Rattle.activation_trees.specs.declared.parts.Occurrence.{Occurrence}

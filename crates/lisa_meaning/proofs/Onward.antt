@@ -6,12 +6,12 @@ use Rattle.std.specs.List.{AllByRecursion}
 use Rattle.std.proofs.lemmas.Bool.{eq-eqb}
 use Rattle.lisa_tree.specs.Descriptions as trees
 use Rattle.lisa_tree.specs.Descriptions.{CodingTree, DescriptionTree}
-use Rattle.description_names.specs.Resources.{stages}
-use Rattle.description_names.specs.Operations.{own_stage, sections_at, coding_in, activation_in, is_root}
+use Rattle.lisa_tree.specs.Resources.{stages}
+use Rattle.lisa_tree.specs.Operations.{own_stage, sections_at, coding_in, activation_in, is_root}
 use Rattle.coded_names.specs.Codings.{names_instructions}
 use Rattle.graph_paths.specs.Paths.{is_in}
 use Rattle.stage_checks.specs.Running.{started, choices_named, activation_names, Activates, RunsIn}
-use Rattle.description_promises.proofs.Entries.{Split, in_first, in_second, split}
+use Rattle.lisa_machine.proofs.Entries.{Split, in_first, in_second, split}
 use Rattle.use_promises.proofs.Staged.{own_low}
 use Rattle.activation_trees.specs.declared.parts.Occurrence.{Occurrence}
 use Rattle.activation_trees.specs.Starting.{Activated, plain_named, plain_of, names_by}

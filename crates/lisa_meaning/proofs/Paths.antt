@@ -9,26 +9,26 @@ use Rattle.lisa_tree.specs.Descriptions.{OperationTree, DescriptionTree}
 use Rattle.description_places.specs.declared.sites.Region.TheVariants as regions
 use Rattle.description_places.specs.Places as places
 use Rattle.description_places.specs.Places.{at}
-use Rattle.description_names.specs.declared.declared.What.{What}
-use Rattle.description_names.specs.declared.declared.What.TheVariants as whats
-use Rattle.description_names.specs.Same.{same_name}
-use Rattle.description_names.specs.Operations.{number_of, name_at, operation_at, own_stage, is_alias}
-use Rattle.description_names.specs.Declarations.{Entry, entries, declared_at, what_at, above, is_reference}
-use Rattle.description_names.specs.Paths.{Operation, refers}
+use Rattle.lisa_tree.specs.declared.declared.What.{What}
+use Rattle.lisa_tree.specs.declared.declared.What.TheVariants as whats
+use Rattle.lisa_tree.specs.Same.{same_name}
+use Rattle.lisa_tree.specs.Operations.{number_of, name_at, operation_at, own_stage, is_alias}
+use Rattle.lisa_tree.specs.Declarations.{Entry, entries, declared_at, what_at, above, is_reference}
+use Rattle.lisa_tree.specs.Paths.{Operation, refers}
 use Rattle.graph_paths.specs.Paths.{is_in}
 use Rattle.description_graph.proofs.Hits.{found}
 use Rattle.stage_checks.specs.Controls.{main_name}
-use Rattle.description_promises.specs.Ranks.{Ranks}
-use Rattle.description_promises.specs.Running.{FitsMain}
-use Rattle.description_promises.specs.Soundness.{IsSound}
-use Rattle.description_promises.proofs.Chosen.{in_here}
-use Rattle.description_promises.proofs.Decoding.{position_there}
-use Rattle.description_promises.proofs.Distinct.{operation_found}
-use Rattle.description_promises.proofs.Falling.{node_ranks}
-use Rattle.description_promises.proofs.Fitting.{alias_fits}
-use Rattle.description_promises.proofs.Forward.{main_is}
-use Rattle.description_promises.proofs.Named.{what_is}
-use Rattle.description_promises.proofs.Standing.{operation_stands}
+use Rattle.lisa_machine.specs.Ranks.{Ranks}
+use Rattle.lisa_machine.specs.Running.{FitsMain}
+use Rattle.lisa_machine.specs.Soundness.{IsSound}
+use Rattle.lisa_machine.proofs.Chosen.{in_here}
+use Rattle.lisa_machine.proofs.Decoding.{position_there}
+use Rattle.lisa_machine.proofs.Distinct.{operation_found}
+use Rattle.lisa_machine.proofs.Falling.{node_ranks}
+use Rattle.lisa_machine.proofs.Fitting.{alias_fits}
+use Rattle.lisa_machine.proofs.Forward.{main_is}
+use Rattle.lisa_machine.proofs.Named.{what_is}
+use Rattle.lisa_machine.proofs.Standing.{operation_stands}
 use Rattle.meant_declarations.specs.Meant.{MayMean, itself, higher}
 use Rattle.use_promises.specs.Meant.{FitsReference}
 use Rattle.use_promises.proofs.References.{reference_fits}

@@ -6,8 +6,8 @@ use Rattle.std.specs.List.{find, filter}
 use Rattle.std.proofs.lemmas.Bool.{eq-eqb, eqb-true, ltb-false}
 use Rattle.std.proofs.lemmas.Option.{slice_get_within, same_Some}
 use Rattle.lisa_tree.specs.Descriptions.{OperationTree, DescriptionTree}
-use Rattle.description_names.specs.Resources.{stages}
-use Rattle.description_names.specs.Operations.{operation_at, own_stage, is_root}
+use Rattle.lisa_tree.specs.Resources.{stages}
+use Rattle.lisa_tree.specs.Operations.{operation_at, own_stage, is_root}
 use Rattle.stage_checks.specs.Running.{Activates, RunsIn}
 use Rattle.activation_trees.specs.declared.parts.Occurrence.{Occurrence}
 use Rattle.activation_trees.specs.Unfolding.{occurrences, occurrences_of}

@@ -7,13 +7,13 @@ use Rattle.std.proofs.lemmas.List.{map-append}
 use Rattle.lisa_tree.specs.Activations as items
 use Rattle.lisa_tree.specs.Activations.{ActTree, ActTrees}
 use Rattle.lisa_tree.specs.Descriptions.{DescriptionTree}
-use Rattle.description_names.specs.Operations.{number_of, own_stage, sections_at, coding_in, activation_in, is_root}
-use Rattle.description_names.specs.Declarations.{plain_at}
-use Rattle.description_names.specs.Paths.{node_count}
+use Rattle.lisa_tree.specs.Operations.{number_of, own_stage, sections_at, coding_in, activation_in, is_root}
+use Rattle.lisa_tree.specs.Declarations.{plain_at}
+use Rattle.lisa_tree.specs.Paths.{node_count}
 use Rattle.coded_names.specs.Codings.{names_instructions}
 use Rattle.stage_checks.specs.Controls.{main_name}
 use Rattle.stage_checks.specs.Running.{Activates, RunsIn, started, act_names, acts_names, activation_names}
-use Rattle.description_promises.proofs.Entries.{get_left, get_right}
+use Rattle.lisa_machine.proofs.Entries.{get_left, get_right}
 use Rattle.activation_trees.specs.declared.parts.Occurrence.{Occurrence}
 use Rattle.activation_trees.specs.Starting.{Activated, activation, activated_by, start}
 use Rattle.activation_trees.specs.Unfolding.{occurrences, occurrence, child, in_turn, whole, firsts}

@@ -9,20 +9,20 @@ use Rattle.std.proofs.lemmas.Option.{same_Some}
 use Rattle.lisa_tree.specs.Expressions as exprs
 use Rattle.lisa_tree.specs.Expressions.{ExprTree}
 use Rattle.lisa_tree.specs.Descriptions.{DescriptionTree}
-use Rattle.description_names.specs.declared.declared.Meaning.{Meaning}
-use Rattle.description_names.specs.declared.declared.Meaning.TheVariants as meanings
-use Rattle.description_names.specs.declared.declared.What.TheVariants as whats
-use Rattle.description_names.specs.Same.{same_name}
-use Rattle.description_names.specs.Resources.{stage_at}
-use Rattle.description_names.specs.Operations.{own_stage}
-use Rattle.description_names.specs.Declarations.{Entry, entries, declared_at, what_at, plain_at, is_reference}
-use Rattle.description_names.specs.Meanings.{meaning}
-use Rattle.description_names.specs.Paths.{Operation, Choosing, Declaring, leads}
+use Rattle.lisa_tree.specs.declared.declared.Meaning.{Meaning}
+use Rattle.lisa_tree.specs.declared.declared.Meaning.TheVariants as meanings
+use Rattle.lisa_tree.specs.declared.declared.What.TheVariants as whats
+use Rattle.lisa_tree.specs.Same.{same_name}
+use Rattle.lisa_tree.specs.Resources.{stage_at}
+use Rattle.lisa_tree.specs.Operations.{own_stage}
+use Rattle.lisa_tree.specs.Declarations.{Entry, entries, declared_at, what_at, plain_at, is_reference}
+use Rattle.lisa_tree.specs.Meanings.{meaning}
+use Rattle.lisa_tree.specs.Paths.{Operation, Choosing, Declaring, leads}
 use Rattle.graph_paths.specs.Paths.{is_in}
 use Rattle.stage_checks.specs.Running.{choice_at}
-use Rattle.description_promises.specs.Ranks.{Ranks}
-use Rattle.description_promises.specs.Soundness.{IsSound}
-use Rattle.description_promises.proofs.Chosen.{plain_listed}
+use Rattle.lisa_machine.specs.Ranks.{Ranks}
+use Rattle.lisa_machine.specs.Soundness.{IsSound}
+use Rattle.lisa_machine.proofs.Chosen.{plain_listed}
 use Rattle.meant_declarations.specs.Meant.{MayMean, itself, higher}
 use Rattle.use_promises.specs.Meant.{ChoosesFrom}
 use Rattle.use_promises.proofs.Traits.{means}
@@ -30,7 +30,7 @@ use Rattle.description_sizes.specs.Texts.{levels}
 use Rattle.typed_values.specs.Words.{TypedWord, truth}
 use Rattle.typed_values.specs.Expressions.{Reader, value}
 use Rattle.typed_values.specs.Effects.{Doing}
-use Rattle.reset_values.specs.Effects.{local_or}
+use Rattle.typed_values.specs.ResetEffects.{local_or}
 use Rattle.activation_trees.specs.declared.parts.Occurrence.{Occurrence}
 use Rattle.activation_trees.specs.Starting.{plain_of, plain_named}
 use Rattle.activation_trees.specs.Unfolding.{occurrences}

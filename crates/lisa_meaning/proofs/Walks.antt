@@ -15,8 +15,8 @@ use Rattle.shape_checks.specs.Bounds.{bounds_of, turns}
 use Rattle.typed_values.specs.Words.{TypedWord, is_zero}
 use Rattle.typed_values.specs.Expressions.{value}
 use Rattle.typed_values.specs.Effects.{Locals, Doing, leave, turned, loop_turn, all_turns, looped, with_counter, effect, effects}
-use Rattle.description_promises.specs.Freedom.{Stands, AllStand}
-use Rattle.description_promises.proofs.Among.{stand_both}
+use Rattle.lisa_machine.specs.Freedom.{Stands, AllStand}
+use Rattle.lisa_machine.proofs.Among.{stand_both}
 
 -- each thing that is done in the BEHAVIOR of an operation keeps what is said of a moment
 pub record KeepsStanding {M : Type 0} (d : DescriptionTree) (o : ℕ) (doing : Doing M) (P : M → Type 0) : Type 0 where

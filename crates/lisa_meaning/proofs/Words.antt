@@ -7,7 +7,7 @@ use Rattle.std.proofs.lemmas.List.{length-map}
 use Rattle.std.proofs.lemmas.List.Quantifiers.{position-Some}
 use Rattle.std.proofs.lemmas.Slice.Zip.{get_or-zip, length-zip}
 use Rattle.lisa_tree.specs.Descriptions.{DescriptionTree}
-use Rattle.description_names.specs.Operations.{is_alias}
+use Rattle.lisa_tree.specs.Operations.{is_alias}
 use Rattle.instruction_trees.specs.Bits.{Frame, Has, mask, pattern}
 use Rattle.instruction_trees.specs.Trees as plain
 use Rattle.instruction_trees.specs.Trees.{form_bits, is_plain}
@@ -16,10 +16,10 @@ use Rattle.coding_tables.specs.Instructions.{instruction_items, forms_of}
 use Rattle.pattern_tables.specs.Tables.{IsDecoded}
 use Rattle.pattern_tables.proofs.Masks.{has_masked, masked_has}
 use Rattle.form_patterns.specs.Instructions.{instruction_frames, instruction_plain}
-use Rattle.lisa_coding.specs.declared.coding.Coding.{Coding}
-use Rattle.lisa_coding.specs.Parts.{IsCodingOf, IsDecodedAs}
-use Rattle.lisa_coding.proofs.Decoded.{decoded}
-use Rattle.lisa_coding.proofs.Known.{one_form}
+use Rattle.lisa_forms.specs.declared.coding.Coding.{Coding}
+use Rattle.lisa_forms.specs.Codings.{IsCodingOf, IsDecodedAs}
+use Rattle.lisa_forms.proofs.Decoded.{decoded}
+use Rattle.lisa_forms.proofs.Known.{one_form}
 use Rattle.lisa_meaning.specs.Scenes.{is_word_of, is_plain_form_of, form_with}
 
 -- ---- words of frames

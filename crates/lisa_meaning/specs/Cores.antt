@@ -6,8 +6,8 @@ use Rattle.lisa_tree.specs.Activations as items
 use Rattle.lisa_tree.specs.Activations.{ActTree, ActTrees}
 use Rattle.lisa_tree.specs.Descriptions as trees
 use Rattle.lisa_tree.specs.Descriptions.{CodingTree, DescriptionTree}
-use Rattle.description_names.specs.Resources.{stages}
-use Rattle.description_names.specs.Operations.{sections_at, coding_in, activation_in, is_root}
+use Rattle.lisa_tree.specs.Resources.{stages}
+use Rattle.lisa_tree.specs.Operations.{sections_at, coding_in, activation_in, is_root}
 use Rattle.typed_values.specs.Words.{is_zero}
 use Rattle.activation_trees.specs.declared.parts.Occurrence.{Occurrence}
 use Rattle.activation_trees.specs.Unfolding.{occurrences}

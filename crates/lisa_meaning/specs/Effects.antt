@@ -9,12 +9,12 @@ use Rattle.lisa_tree.specs.Statements.{StmtTrees}
 use Rattle.lisa_tree.specs.Descriptions as trees
 use Rattle.lisa_tree.specs.Descriptions.{ResourceTree, DescriptionTree}
 use Rattle.lisa_engine.specs.Touches.{set_cell}
-use Rattle.description_names.specs.declared.declared.Meaning.{Meaning}
-use Rattle.description_names.specs.declared.declared.Meaning.TheVariants as meanings
-use Rattle.description_names.specs.Same.{same_name}
-use Rattle.description_names.specs.Resources.{stage_at}
-use Rattle.description_names.specs.Operations.{sections_at, behavior_in, own_stage}
-use Rattle.description_names.specs.Meanings.{meaning}
+use Rattle.lisa_tree.specs.declared.declared.Meaning.{Meaning}
+use Rattle.lisa_tree.specs.declared.declared.Meaning.TheVariants as meanings
+use Rattle.lisa_tree.specs.Same.{same_name}
+use Rattle.lisa_tree.specs.Resources.{stage_at}
+use Rattle.lisa_tree.specs.Operations.{sections_at, behavior_in, own_stage}
+use Rattle.lisa_tree.specs.Meanings.{meaning}
 use Rattle.typed_values.specs.Words.{TypedWord, fitted}
 use Rattle.typed_values.specs.Effects.{Doing, local_put, like, effects}
 use Rattle.description_sizes.specs.Texts.{levels}

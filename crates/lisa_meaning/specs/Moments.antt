@@ -2,7 +2,7 @@
 use Rattle.std.specs.Prelude.{ℕ, zero, suc, ◌-◌, ◌||◌, List, [], ◌∷◌, length, Option, None, Some, cond, map, unwrap_or, slice_index_or, slice_set, if◌then◌else◌}
 use Rattle.std.specs.List.{range_with_len}
 use Rattle.lisa_tree.specs.Descriptions.{DescriptionTree}
-use Rattle.description_names.specs.Resources.{stages, fields}
+use Rattle.lisa_tree.specs.Resources.{stages, fields}
 use Rattle.graph_paths.specs.Paths.{is_in}
 use Rattle.pipeline_time.specs.Edges.{is_held, is_flushed}
 use Rattle.typed_values.specs.Effects.{Locals}

@@ -2,10 +2,10 @@
 use Rattle.std.specs.Prelude.{ℕ, zero, suc, ◌^◌, Bool, true, false, ◌&&◌, ◌||◌, List, [], ◌∷◌, length, Option, None, Some, option_map, cond, nat_eq, nat_lt, bit_and, filter_map, position, zip, slice_get}
 use Rattle.std.specs.Option.{option_and_then}
 use Rattle.lisa_tree.specs.Descriptions.{DescriptionTree}
-use Rattle.description_names.specs.declared.declared.What.{What}
-use Rattle.description_names.specs.declared.declared.What.TheVariants as whats
-use Rattle.description_names.specs.Operations.{sections_at, coding_in, is_root}
-use Rattle.description_names.specs.Declarations.{declared_at, what_at, is_reference}
+use Rattle.lisa_tree.specs.declared.declared.What.{What}
+use Rattle.lisa_tree.specs.declared.declared.What.TheVariants as whats
+use Rattle.lisa_tree.specs.Operations.{sections_at, coding_in, is_root}
+use Rattle.lisa_tree.specs.Declarations.{declared_at, what_at, is_reference}
 use Rattle.graph_paths.specs.Paths.{is_in}
 use Rattle.coded_names.specs.Codings.{names_instructions}
 use Rattle.activation_trees.specs.declared.parts.Occurrence.{Occurrence}

@@ -5,7 +5,7 @@ use Rattle.lisa_tree.specs.Descriptions.{DescriptionTree}
 use Rattle.lisa_engine.specs.Memory.{Memory}
 use Rattle.lisa_engine.specs.Images.{first_cells}
 use Rattle.lisa_engine.specs.State as engine
-use Rattle.description_names.specs.Resources.{stages, fields}
+use Rattle.lisa_tree.specs.Resources.{stages, fields}
 use Rattle.machine_parts.specs.Parts.{arrays_of, registers_of, first_values}
 use Rattle.activation_trees.specs.Unfolding.{occurrences}
 use Rattle.activation_trees.specs.Items.{root_stage, has_bit}

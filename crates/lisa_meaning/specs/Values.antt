@@ -7,15 +7,15 @@ use Rattle.lisa_tree.specs.declared.tokens.Shape.{Shape}
 use Rattle.lisa_tree.specs.Expressions.{ExprTree}
 use Rattle.lisa_tree.specs.Descriptions as trees
 use Rattle.lisa_tree.specs.Descriptions.{ResourceTree, DescriptionTree}
-use Rattle.description_names.specs.declared.declared.Meaning.{Meaning}
-use Rattle.description_names.specs.declared.declared.Meaning.TheVariants as meanings
-use Rattle.description_names.specs.Same.{same_name}
-use Rattle.description_names.specs.Resources.{fields, stage_at}
-use Rattle.description_names.specs.Operations.{sections_at, expression_in, own_stage}
-use Rattle.description_names.specs.Meanings.{meaning}
+use Rattle.lisa_tree.specs.declared.declared.Meaning.{Meaning}
+use Rattle.lisa_tree.specs.declared.declared.Meaning.TheVariants as meanings
+use Rattle.lisa_tree.specs.Same.{same_name}
+use Rattle.lisa_tree.specs.Resources.{fields, stage_at}
+use Rattle.lisa_tree.specs.Operations.{sections_at, expression_in, own_stage}
+use Rattle.lisa_tree.specs.Meanings.{meaning}
 use Rattle.typed_values.specs.Words.{TypedWord, typed, truth}
 use Rattle.typed_values.specs.Expressions.{Reader, value}
-use Rattle.reset_values.specs.Effects.{local_or}
+use Rattle.typed_values.specs.ResetEffects.{local_or}
 use Rattle.machine_parts.specs.Parts.{array_in, pin_in, register_in}
 use Rattle.instruction_trees.specs.Trees.{slice}
 use Rattle.instruction_forms.specs.declared.form.Field.{Field}

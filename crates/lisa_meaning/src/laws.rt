@@ -10,8 +10,8 @@ ghost use Rattle.lisa_machine.specs.Verdicts.{IsAccepted};
 ghost use Rattle.machine_parts.specs.Parts.{arrays_of};
 ghost use Rattle.instruction_forms.specs.Widths.{HasWidth};
 ghost use Rattle.description_sizes.specs.Sizes.{items};
-ghost use Rattle.lisa_coding.specs.declared.coding.Coding.{Coding};
-ghost use Rattle.lisa_coding.specs.Parts.{IsCodingOf, IsDecodedAs};
+ghost use Rattle.lisa_forms.specs.declared.coding.Coding.{Coding};
+ghost use Rattle.lisa_forms.specs.Codings.{IsCodingOf, IsDecodedAs};
 ghost use Rattle.pipeline_time.specs.Laws.{
   UnchosenDoNothing,
   SameLevelRunsAtOnce,

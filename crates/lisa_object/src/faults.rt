@@ -1,5 +1,6 @@
 // Why bytes are refused.
 ghost use Rattle.std.specs.Prelude.{◌≡◌};
+ghost use Rattle.lisa_object.specs.declared.faults.GenFault.TheVariants as generation;
 ghost use Rattle.lisa_object.specs.declared.faults.Stop.TheVariants.{NoMemory};
 
 use lisa_words::Name;
@@ -82,6 +83,25 @@ pub enum LinkFault {
     /// Memory ran out.
     #[error("out of memory")]
     NoMemory,
+}
+
+/// Why there is no program of instructions that are drawn.
+#[derive(Debug, PartialEq, Eq, Drop, Error)]
+pub enum GenFault {
+    /// No memory is as wide as an instruction, or there is no instruction.
+    #[error("no memory holds instructions, or there is none")]
+    NoProgram,
+    /// Memory ran out.
+    #[error("out of memory")]
+    NoMemory,
+}
+
+impl From<lisa_words::NoMemory> for GenFault {
+    ghost from_gives = { λ _ fault. fault ≡ generation.NoMemory };
+
+    fn from(_error: lisa_words::NoMemory) -> GenFault {
+        GenFault::NoMemory
+    }
 }
 
 /// Why reading stopped.

@@ -14,7 +14,7 @@ mod printing;
 mod rules;
 mod words;
 
-pub use faults::{ImageFault, LinkFault, ObjectFault};
+pub use faults::{GenFault, ImageFault, LinkFault, ObjectFault};
 pub use image_reader::read_image;
 pub use image_text::print_image;
 pub use laws::{images_are_unique, objects_are_unique};

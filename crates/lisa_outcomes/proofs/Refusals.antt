@@ -4,6 +4,8 @@ use Rattle.asm_source.specs.declared.flaw.SourceFault.{SourceFault}
 use Rattle.asm_source.specs.declared.flaw.SourceFault.TheVariants as sources
 use Rattle.lisa_engine.specs.declared.schedule.ScheduleFault.{ScheduleFault}
 use Rattle.lisa_engine.specs.declared.schedule.ScheduleFault.TheVariants as schedules
+use Rattle.lisa_object.specs.declared.faults.GenFault.{GenFault}
+use Rattle.lisa_object.specs.declared.faults.GenFault.TheVariants as programs
 use Rattle.lisa_object.specs.declared.faults.ImageFault.{ImageFault}
 use Rattle.lisa_object.specs.declared.faults.ImageFault.TheVariants as images
 use Rattle.lisa_object.specs.declared.faults.LinkFault.{LinkFault}
@@ -12,6 +14,8 @@ use Rattle.lisa_object.specs.declared.faults.ObjectFault.{ObjectFault}
 use Rattle.lisa_object.specs.declared.faults.ObjectFault.TheVariants as objects
 use Rattle.lisa_tree.specs.declared.faults.DescFault.{DescFault}
 use Rattle.lisa_tree.specs.declared.faults.DescFault.TheVariants as descriptions
+use Rattle.step_program.specs.declared.faults.LowerFault.{LowerFault}
+use Rattle.step_program.specs.declared.faults.LowerFault.TheVariants as netlists
 use Rattle.verilog_text.specs.declared.faults.VerilogFault.{VerilogFault}
 use Rattle.verilog_text.specs.declared.faults.VerilogFault.TheVariants as verilogs
 use Rattle.lisa_outcomes.specs.declared.status.Refusal.TheVariants as refusals
@@ -28,6 +32,8 @@ pub file_refusal : (fault : FileFault) → fault ≢ file_faults.NoMemory → Is
 file_refusal fault other = record {
   file = λ e. other (same_file _ _ e);
   input = λ e. cc;
+  program = λ e. cc;
+  netlist = λ e. cc;
   description = λ e. cc;
   verilog = λ e. cc;
   image = λ e. cc;
@@ -44,6 +50,44 @@ pub input_refusal : (fault : InputFault) → fault ≢ input_faults.NoMemory →
 input_refusal fault other = record {
   file = λ e. cc;
   input = λ e. other (same_input _ _ e);
+  program = λ e. cc;
+  netlist = λ e. cc;
+  description = λ e. cc;
+  verilog = λ e. cc;
+  image = λ e. cc;
+  object = λ e. cc;
+  schedule = λ e. cc;
+  source = λ e. cc;
+  link = λ e. cc;
+}
+
+same_program : (a b : GenFault) → refusals.Program a ≡ refusals.Program b → a ≡ b
+same_program a b e = cc
+
+pub program_refusal : (fault : GenFault) → fault ≢ programs.NoMemory → IsRefusal (refusals.Program fault)
+program_refusal fault other = record {
+  file = λ e. cc;
+  input = λ e. cc;
+  program = λ e. other (same_program _ _ e);
+  netlist = λ e. cc;
+  description = λ e. cc;
+  verilog = λ e. cc;
+  image = λ e. cc;
+  object = λ e. cc;
+  schedule = λ e. cc;
+  source = λ e. cc;
+  link = λ e. cc;
+}
+
+same_netlist : (a b : LowerFault) → refusals.Netlist a ≡ refusals.Netlist b → a ≡ b
+same_netlist a b e = cc
+
+pub netlist_refusal : (fault : LowerFault) → fault ≢ netlists.NoMemory → IsRefusal (refusals.Netlist fault)
+netlist_refusal fault other = record {
+  file = λ e. cc;
+  input = λ e. cc;
+  program = λ e. cc;
+  netlist = λ e. other (same_netlist _ _ e);
   description = λ e. cc;
   verilog = λ e. cc;
   image = λ e. cc;
@@ -60,6 +104,8 @@ pub description_refusal : (fault : DescFault) → fault ≢ descriptions.NoMemor
 description_refusal fault other = record {
   file = λ e. cc;
   input = λ e. cc;
+  program = λ e. cc;
+  netlist = λ e. cc;
   description = λ e. other (same_description _ _ e);
   verilog = λ e. cc;
   image = λ e. cc;
@@ -76,6 +122,8 @@ pub verilog_refusal : (fault : VerilogFault) → fault ≢ verilogs.NoMemory →
 verilog_refusal fault other = record {
   file = λ e. cc;
   input = λ e. cc;
+  program = λ e. cc;
+  netlist = λ e. cc;
   description = λ e. cc;
   verilog = λ e. other (same_verilog _ _ e);
   image = λ e. cc;
@@ -92,6 +140,8 @@ pub image_refusal : (fault : ImageFault) → fault ≢ images.NoMemory → IsRef
 image_refusal fault other = record {
   file = λ e. cc;
   input = λ e. cc;
+  program = λ e. cc;
+  netlist = λ e. cc;
   description = λ e. cc;
   verilog = λ e. cc;
   image = λ e. other (same_image _ _ e);
@@ -108,6 +158,8 @@ pub schedule_refusal : (fault : ScheduleFault) → fault ≢ schedules.NoMemory 
 schedule_refusal fault other = record {
   file = λ e. cc;
   input = λ e. cc;
+  program = λ e. cc;
+  netlist = λ e. cc;
   description = λ e. cc;
   verilog = λ e. cc;
   image = λ e. cc;
@@ -124,6 +176,8 @@ pub object_refusal : (fault : ObjectFault) → fault ≢ objects.NoMemory → Is
 object_refusal fault other = record {
   file = λ e. cc;
   input = λ e. cc;
+  program = λ e. cc;
+  netlist = λ e. cc;
   description = λ e. cc;
   verilog = λ e. cc;
   image = λ e. cc;
@@ -140,6 +194,8 @@ pub source_refusal : (fault : SourceFault) → fault ≢ sources.NoMemory → Is
 source_refusal fault other = record {
   file = λ e. cc;
   input = λ e. cc;
+  program = λ e. cc;
+  netlist = λ e. cc;
   description = λ e. cc;
   verilog = λ e. cc;
   image = λ e. cc;
@@ -156,6 +212,8 @@ pub link_refusal : (fault : LinkFault) → fault ≢ links.NoMemory → IsRefusa
 link_refusal fault other = record {
   file = λ e. cc;
   input = λ e. cc;
+  program = λ e. cc;
+  netlist = λ e. cc;
   description = λ e. cc;
   verilog = λ e. cc;
   image = λ e. cc;

@@ -2,10 +2,12 @@
 use Rattle.std.specs.Prelude.{◌≢◌}
 use Rattle.asm_source.specs.declared.flaw.SourceFault.TheVariants as sources
 use Rattle.lisa_engine.specs.declared.schedule.ScheduleFault.TheVariants as schedules
+use Rattle.lisa_object.specs.declared.faults.GenFault.TheVariants as programs
 use Rattle.lisa_object.specs.declared.faults.ImageFault.TheVariants as images
 use Rattle.lisa_object.specs.declared.faults.LinkFault.TheVariants as links
 use Rattle.lisa_object.specs.declared.faults.ObjectFault.TheVariants as objects
 use Rattle.lisa_tree.specs.declared.faults.DescFault.TheVariants as descriptions
+use Rattle.step_program.specs.declared.faults.LowerFault.TheVariants as netlists
 use Rattle.verilog_text.specs.declared.faults.VerilogFault.TheVariants as verilogs
 use Rattle.lisa_outcomes.specs.declared.status.Refusal.{Refusal}
 use Rattle.lisa_outcomes.specs.declared.status.Refusal.TheVariants as refusals
@@ -16,6 +18,8 @@ use Rattle.lisa_outcomes.specs.declared.status.InputFault.TheVariants as input_f
 pub record IsRefusal (refusal : Refusal) : Type 0 where
   pub file : refusal ≢ refusals.File file_faults.NoMemory
   pub input : refusal ≢ refusals.Input input_faults.NoMemory
+  pub program : refusal ≢ refusals.Program programs.NoMemory
+  pub netlist : refusal ≢ refusals.Netlist netlists.NoMemory
   pub description : refusal ≢ refusals.Description descriptions.NoMemory
   pub verilog : refusal ≢ refusals.Verilog verilogs.NoMemory
   pub image : refusal ≢ refusals.Image images.NoMemory

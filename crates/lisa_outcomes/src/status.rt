@@ -2,9 +2,10 @@
 
 use asm_source::SourceFault;
 use lisa_engine::ScheduleFault;
-use lisa_object::{ImageFault, LinkFault, ObjectFault};
+use lisa_object::{GenFault, ImageFault, LinkFault, ObjectFault};
 use lisa_tree::DescFault;
 use lisa_words::{Name, NoMemory};
+use step_program::LowerFault;
 use verilog_text::VerilogFault;
 
 /// What may be wrong with a file as a whole.
@@ -30,6 +31,8 @@ pub enum InputFault {
 pub enum Refusal {
     File(FileFault),
     Input(InputFault),
+    Program(GenFault),
+    Netlist(LowerFault),
     Description(DescFault),
     Verilog(VerilogFault),
     Image(ImageFault),

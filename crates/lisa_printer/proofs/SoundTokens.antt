@@ -8,7 +8,7 @@ use Rattle.std.specs.Str.Parse.{AllDigits, IsNumeral, digits_value_after}
 use Rattle.std.proofs.lemmas.Bool.{and_from}
 use Rattle.std.proofs.lemmas.Bool.Decides.{nat_tests}
 use Rattle.std.proofs.lemmas.Fmt.{digits_is_IsNumeral, decimal_is_IsNumeral}
-use Rattle.text_scan.specs.Bytes.{is_digit, is_hexadecimal, front_is}
+use Rattle.lisa_words.specs.Bytes.{is_digit, is_hexadecimal, front_is}
 use Rattle.lisa_tree.specs.declared.tokens.Base.{Base}
 use Rattle.lisa_tree.specs.declared.tokens.Base.TheVariants as bases
 use Rattle.lisa_tree.specs.declared.tokens.Keyword.{Keyword}

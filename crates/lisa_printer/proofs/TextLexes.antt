@@ -2,8 +2,8 @@
 use Rattle.std.proofs.Common.{◌≡◌, ℕ, zero, suc, ◌+◌, ◌*◌, Bool, true, false, cond, List, [], ◌∷◌, ◌++◌, length, Option, ◌⊎◌, inl, inr, refl, ap}
 use Rattle.std.specs.Prelude.{◌||◌, replicate}
 use Rattle.std.specs.List.{list_all}
-use Rattle.text_scan.specs.Bytes.{is_blank, front_is}
-use Rattle.text_scan.specs.Gaps.{IsGap, blanks}
+use Rattle.lisa_words.specs.Bytes.{is_blank, front_is}
+use Rattle.lisa_words.specs.Gaps.{IsGap, blanks}
 use Rattle.lisa_tree.specs.declared.tokens.Sign.{Sign}
 use Rattle.lisa_tree.specs.declared.tokens.Sign.TheVariants as signs
 use Rattle.lisa_tree.specs.declared.tokens.Token.{Token}

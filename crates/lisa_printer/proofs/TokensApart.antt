@@ -9,9 +9,9 @@ use Rattle.std.proofs.lemmas.Bool.{and_from, and_parts, both_ways, cases_Bool}
 use Rattle.std.proofs.lemmas.Bool.Decides.{nat_tests}
 use Rattle.std.proofs.lemmas.Fmt.{decimal_is_IsNumeral}
 use Rattle.std.proofs.lemmas.List.Folds.{list_all-append}
-use Rattle.text_scan.specs.Bytes.{is_blank, is_digit, is_hexadecimal, is_letter, is_word, front_is}
-use Rattle.text_scan.specs.Gaps.{starts_comment}
-use Rattle.text_scan.proofs.Runs.{same_head, same_tail, run_longest, run_is}
+use Rattle.lisa_words.specs.Bytes.{is_blank, is_digit, is_hexadecimal, is_letter, is_word, front_is}
+use Rattle.lisa_words.specs.Gaps.{starts_comment}
+use Rattle.lisa_words.proofs.Runs.{same_head, same_tail, run_longest, run_is}
 use Rattle.lisa_words.specs.declared.words.Kind.{Kind}
 use Rattle.lisa_words.specs.declared.words.Kind.TheVariants as kinds
 use Rattle.lisa_tree.specs.declared.tokens.Keyword.{Keyword}

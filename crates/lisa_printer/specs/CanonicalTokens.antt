@@ -12,7 +12,7 @@ use Rattle.lisa_tree.specs.declared.descriptions.Pattern.{Pattern}
 use Rattle.lisa_tree.specs.declared.descriptions.CodingItem.{CodingItem}
 use Rattle.lisa_tree.specs.declared.descriptions.CodingItem.TheVariants as codings
 use Rattle.lisa_tree.specs.Operators.{sign_of}
-use Rattle.operators.specs.Operators.{level_of}
+use Rattle.lisa_words.specs.Operators.{level_of}
 use Rattle.lisa_tree.specs.Expressions as expressions
 use Rattle.lisa_tree.specs.Expressions.{ExprTree}
 use Rattle.lisa_tree.specs.Statements as statements

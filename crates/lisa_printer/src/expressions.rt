@@ -6,7 +6,7 @@ ghost use Rattle.lisa_tree.specs.declared.tokens.Sign.TheVariants as signs;
 ghost use Rattle.lisa_tree.specs.declared.tokens.TokenPart.TheVariants as parts;
 ghost use Rattle.lisa_tree.specs.Grammar.{mark};
 ghost use Rattle.lisa_tree.specs.Operators.{sign_of};
-ghost use Rattle.operators.specs.Operators.{level_of};
+ghost use Rattle.lisa_words.specs.Operators.{level_of};
 ghost use Rattle.lisa_tree.specs.Expressions.{Boundary, expr_tree};
 ghost use Rattle.lisa_printer.specs.CanonicalTokens.{own_level, bare_tokens, expr_tokens};
 ghost use Rattle.lisa_printer.specs.Sheets.{write_all};
@@ -16,8 +16,7 @@ use crate::tokens::{
     put_binary, put_decimal, put_hexadecimal, put_name, put_shape, put_sign, put_word,
 };
 use lisa_tree::{Base, BoundaryField, Expr, Keyword, Operator, Sign};
-use lisa_words::{Name, NoMemory};
-use operators::level;
+use lisa_words::{Name, NoMemory, level};
 use std::alloc::Global;
 
 fn sign(operator: Operator) -> Sign

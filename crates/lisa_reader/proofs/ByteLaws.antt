@@ -13,7 +13,7 @@ use Rattle.lisa_tree.specs.Descriptions.{DescriptionTree}
 use Rattle.lisa_tree.specs.Texts.{SpellsText}
 use Rattle.lisa_tree.specs.Tokens as tokens
 use Rattle.lisa_tree.specs.Tokens.{Lexes, Breaks, toks}
-use Rattle.text_scan.proofs.StepLaws.{some_is}
+use Rattle.lisa_words.proofs.StepLaws.{some_is}
 use Rattle.lisa_lexer.specs.Answers.{IsFirst}
 use Rattle.lisa_lexer.specs.Answers as lexer
 use Rattle.lisa_lexer.proofs.Lexed.{lexes_same, lexes_whole, breaks_same, has_outcome as has_tokens}

@@ -9,10 +9,10 @@ use Rattle.lisa_tree.specs.Descriptions.{ResourceTree, OperationTree, Descriptio
 use Rattle.lisa_tree.specs.Grammar.{Toks, mark}
 use Rattle.lisa_tree.specs.DescriptionGrammar as grammar
 use Rattle.lisa_tree.specs.DescriptionGrammar.{word, braced, SpellsResource, SpellsOperation, SpellsDescription}
-use Rattle.text_scan.specs.Many.{Each, none, some, many, with_front}
-use Rattle.text_scan.specs.Steps.{◌>>=◌}
-use Rattle.text_scan.proofs.StepLaws.{bind_some, some_is}
-use Rattle.text_scan.proofs.ManyLaws.{many_sound, many_complete}
+use Rattle.lisa_words.specs.Many.{Each, none, some, many, with_front}
+use Rattle.lisa_words.specs.Steps.{◌>>=◌}
+use Rattle.lisa_words.proofs.StepLaws.{bind_some, some_is}
+use Rattle.lisa_words.proofs.ManyLaws.{many_sound, many_complete}
 use Rattle.lisa_behav_reader.specs.declared.misses.Missed.{Missed}
 use Rattle.lisa_behav_reader.specs.declared.misses.Missed.TheVariants as misses
 use Rattle.lisa_behav_reader.specs.Gives.{Fails}

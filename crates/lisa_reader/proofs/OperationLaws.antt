@@ -8,9 +8,9 @@ use Rattle.lisa_tree.specs.declared.tokens.TokenPart.TheVariants as parts
 use Rattle.lisa_tree.specs.Descriptions.{SectionTree, OperationTree, sections_depth}
 use Rattle.lisa_tree.specs.Grammar.{Toks, mark}
 use Rattle.lisa_tree.specs.DescriptionGrammar.{word, alias_tokens, stage_tokens, SpellsSections, SpellsOperation}
-use Rattle.text_scan.specs.Steps.{◌>>=◌}
-use Rattle.text_scan.proofs.StepLaws.{bind_some, some_is}
-use Rattle.text_scan.proofs.ManyLaws.{Shrinks, Takes, shrinks_from, IsItem}
+use Rattle.lisa_words.specs.Steps.{◌>>=◌}
+use Rattle.lisa_words.proofs.StepLaws.{bind_some, some_is}
+use Rattle.lisa_words.proofs.ManyLaws.{Shrinks, Takes, shrinks_from, IsItem}
 use Rattle.lisa_behav_reader.specs.Past.{past_of}
 use Rattle.lisa_behav_reader.proofs.PastLaws.{past_is}
 use Rattle.lisa_reader.specs.Reading.{sections_of, is_alias, behind_alias, title_of, place_of, stage_of, operation, titled_of, operation_of, is_done}

@@ -13,9 +13,9 @@ use Rattle.lisa_tree.specs.Descriptions as descriptions
 use Rattle.lisa_tree.specs.Descriptions.{CodingTree, DeclareTree, SectionTree, coding_depth, section_depth}
 use Rattle.lisa_tree.specs.Grammar.{Toks, mark}
 use Rattle.lisa_tree.specs.DescriptionGrammar.{word, braced, IsBalanced, SpellsCoding, SpellsSection, syntax_tokens}
-use Rattle.text_scan.specs.Steps.{◌>>=◌}
-use Rattle.text_scan.proofs.StepLaws.{bind_some, some_is}
-use Rattle.text_scan.proofs.ManyLaws.{Shrinks, Takes, shrinks_from, IsItem}
+use Rattle.lisa_words.specs.Steps.{◌>>=◌}
+use Rattle.lisa_words.proofs.StepLaws.{bind_some, some_is}
+use Rattle.lisa_words.proofs.ManyLaws.{Shrinks, Takes, shrinks_from, IsItem}
 use Rattle.lisa_behav_reader.specs.Past.{past_of}
 use Rattle.lisa_behav_reader.specs.Reading.{reads, whole}
 use Rattle.lisa_behav_reader.specs.StmtReading as stmt_reading

@@ -6,10 +6,10 @@ use Rattle.lisa_tree.specs.Descriptions.{SectionTree, section_depth, sections_de
 use Rattle.lisa_tree.specs.Grammar.{Toks}
 use Rattle.lisa_tree.specs.DescriptionGrammar as grammar
 use Rattle.lisa_tree.specs.DescriptionGrammar.{SpellsSections}
-use Rattle.text_scan.specs.Many.{Each, none, some, next_of, many, with_front}
-use Rattle.text_scan.specs.Steps.{◌>>=◌}
-use Rattle.text_scan.proofs.StepLaws.{bind_some, some_is}
-use Rattle.text_scan.proofs.ManyLaws.{many_is, many_sound, many_complete}
+use Rattle.lisa_words.specs.Many.{Each, none, some, next_of, many, with_front}
+use Rattle.lisa_words.specs.Steps.{◌>>=◌}
+use Rattle.lisa_words.proofs.StepLaws.{bind_some, some_is}
+use Rattle.lisa_words.proofs.ManyLaws.{many_is, many_sound, many_complete}
 use Rattle.lisa_behav_reader.specs.declared.misses.Missed.{Missed}
 use Rattle.lisa_behav_reader.specs.declared.misses.Missed.TheVariants as misses
 use Rattle.lisa_behav_reader.specs.Gives.{Fails}

@@ -7,7 +7,7 @@ use Rattle.lisa_tree.specs.declared.tokens.TokenPart.TheVariants as parts
 use Rattle.lisa_tree.specs.Grammar.{Toks, mark}
 use Rattle.lisa_tree.specs.DescriptionGrammar as grammar
 use Rattle.lisa_tree.specs.DescriptionGrammar.{is_brace, IsBalanced}
-use Rattle.text_scan.proofs.StepLaws.{some_is}
+use Rattle.lisa_words.proofs.StepLaws.{some_is}
 use Rattle.lisa_behav_reader.specs.declared.misses.Missed.{Missed}
 use Rattle.lisa_reader.specs.Skipping.{braces_after, skip_of}
 

@@ -8,8 +8,8 @@ use Rattle.lisa_tree.specs.declared.tokens.TokenPart.TheVariants as parts
 use Rattle.lisa_tree.specs.Descriptions as descriptions
 use Rattle.lisa_tree.specs.Descriptions.{ResourceTree, SectionTree, OperationTree, DescriptionTree}
 use Rattle.lisa_tree.specs.Grammar.{Toks}
-use Rattle.text_scan.specs.Many.{Item, many}
-use Rattle.text_scan.specs.Steps.{◌>>=◌}
+use Rattle.lisa_words.specs.Many.{Item, many}
+use Rattle.lisa_words.specs.Steps.{◌>>=◌}
 use Rattle.lisa_behav_reader.specs.Past.{past_of}
 use Rattle.lisa_behav_reader.specs.Reading.{reads, whole}
 use Rattle.lisa_behav_reader.specs.StmtReading as stmt_reading

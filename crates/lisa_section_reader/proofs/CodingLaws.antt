@@ -14,10 +14,10 @@ use Rattle.lisa_tree.specs.Descriptions as descriptions
 use Rattle.lisa_tree.specs.Descriptions.{CodingTree}
 use Rattle.lisa_tree.specs.Grammar.{Toks, mark}
 use Rattle.lisa_tree.specs.DescriptionGrammar.{word, SpellsBits, SpellsCodingItem, SpellsRootPlace, SpellsCoding}
-use Rattle.text_scan.specs.Many.{Each, none, some, many, with_front}
-use Rattle.text_scan.specs.Steps.{◌>>=◌}
-use Rattle.text_scan.proofs.StepLaws.{bind_some, guard_some, some_is}
-use Rattle.text_scan.proofs.ManyLaws.{Shrinks, Takes, shrinks_from, many_sound, IsItem, many_complete}
+use Rattle.lisa_words.specs.Many.{Each, none, some, many, with_front}
+use Rattle.lisa_words.specs.Steps.{◌>>=◌}
+use Rattle.lisa_words.proofs.StepLaws.{bind_some, guard_some, some_is}
+use Rattle.lisa_words.proofs.ManyLaws.{Shrinks, Takes, shrinks_from, many_sound, IsItem, many_complete}
 use Rattle.lisa_behav_reader.specs.declared.misses.Missed.{Missed}
 use Rattle.lisa_behav_reader.specs.declared.misses.Missed.TheVariants as misses
 use Rattle.lisa_behav_reader.specs.Gives.{Fails}

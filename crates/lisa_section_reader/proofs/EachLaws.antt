@@ -2,7 +2,7 @@
 use Rattle.std.proofs.Common.{List}
 use Rattle.lisa_tree.specs.Grammar.{Toks}
 use Rattle.lisa_tree.specs.DescriptionGrammar.{Each, none, some}
-use Rattle.text_scan.specs.Many as items
+use Rattle.lisa_words.specs.Many as items
 
 pub to_items : {A : Type 0} {S : Toks → A → Type 0} {ts : Toks} {all : List A} → Each S ts all → items.Each S ts all
 to_items none = items.none

@@ -8,10 +8,10 @@ use Rattle.lisa_tree.specs.declared.tokens.TokenPart.{TokenPart}
 use Rattle.lisa_tree.specs.declared.tokens.TokenPart.TheVariants as parts
 use Rattle.lisa_tree.specs.Grammar.{Toks, mark}
 use Rattle.lisa_tree.specs.DescriptionGrammar.{names_by, field_tokens, IsOptional}
-use Rattle.text_scan.specs.Many.{Each, none, some, Item, many, with_front}
-use Rattle.text_scan.specs.Steps.{◌>>=◌}
-use Rattle.text_scan.proofs.StepLaws.{bind_some, some_is}
-use Rattle.text_scan.proofs.ManyLaws.{Shrinks, Takes, shrinks_from, many_sound, IsItem, many_complete, fails_on}
+use Rattle.lisa_words.specs.Many.{Each, none, some, Item, many, with_front}
+use Rattle.lisa_words.specs.Steps.{◌>>=◌}
+use Rattle.lisa_words.proofs.StepLaws.{bind_some, some_is}
+use Rattle.lisa_words.proofs.ManyLaws.{Shrinks, Takes, shrinks_from, many_sound, IsItem, many_complete, fails_on}
 use Rattle.lisa_behav_reader.specs.declared.misses.Missed.{Missed}
 use Rattle.lisa_behav_reader.specs.declared.misses.Missed.TheVariants as misses
 use Rattle.lisa_behav_reader.specs.Gives.{Fails}

@@ -12,10 +12,10 @@ use Rattle.lisa_tree.specs.Descriptions as descriptions
 use Rattle.lisa_tree.specs.Descriptions.{ResourceTree}
 use Rattle.lisa_tree.specs.Grammar.{Toks, mark}
 use Rattle.lisa_tree.specs.DescriptionGrammar.{word, names_by, register_word, memory_word, SpellsDepth, field_tokens, IsOptional, SpellsResource}
-use Rattle.text_scan.specs.Many.{Each, many, with_front}
-use Rattle.text_scan.specs.Steps.{◌>>=◌}
-use Rattle.text_scan.proofs.StepLaws.{bind_some, some_is}
-use Rattle.text_scan.proofs.ManyLaws.{Shrinks, Takes, TakesAll, shrinks_from, many_sound, IsItem, many_complete}
+use Rattle.lisa_words.specs.Many.{Each, many, with_front}
+use Rattle.lisa_words.specs.Steps.{◌>>=◌}
+use Rattle.lisa_words.proofs.StepLaws.{bind_some, some_is}
+use Rattle.lisa_words.proofs.ManyLaws.{Shrinks, Takes, TakesAll, shrinks_from, many_sound, IsItem, many_complete}
 use Rattle.lisa_behav_reader.specs.Past.{past_of}
 use Rattle.lisa_behav_reader.specs.Reading.{name_of}
 use Rattle.lisa_behav_reader.proofs.PastLaws.{past_is}

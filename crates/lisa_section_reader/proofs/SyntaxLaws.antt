@@ -10,10 +10,10 @@ use Rattle.lisa_tree.specs.declared.descriptions.SyntaxPart.{SyntaxPart}
 use Rattle.lisa_tree.specs.declared.descriptions.SyntaxPart.TheVariants as syntaxes
 use Rattle.lisa_tree.specs.Grammar.{Toks, mark}
 use Rattle.lisa_tree.specs.DescriptionGrammar.{format_sign, syntax_part_tokens, joint_tokens, syntax_tokens, IsSyntax}
-use Rattle.text_scan.specs.Many.{Each, none, some, many, with_front}
-use Rattle.text_scan.specs.Steps.{◌>>=◌}
-use Rattle.text_scan.proofs.StepLaws.{bind_some, some_is}
-use Rattle.text_scan.proofs.ManyLaws.{Shrinks, Takes, shrinks_from, many_sound, IsItem, many_complete}
+use Rattle.lisa_words.specs.Many.{Each, none, some, many, with_front}
+use Rattle.lisa_words.specs.Steps.{◌>>=◌}
+use Rattle.lisa_words.proofs.StepLaws.{bind_some, some_is}
+use Rattle.lisa_words.proofs.ManyLaws.{Shrinks, Takes, shrinks_from, many_sound, IsItem, many_complete}
 use Rattle.lisa_behav_reader.specs.declared.misses.Missed.{Missed}
 use Rattle.lisa_behav_reader.specs.declared.misses.Missed.TheVariants as misses
 use Rattle.lisa_behav_reader.specs.Gives.{Fails}

@@ -11,8 +11,8 @@ use Rattle.lisa_tree.specs.Expressions as expressions
 use Rattle.lisa_tree.specs.Expressions.{ExprTree}
 use Rattle.lisa_tree.specs.Descriptions as descriptions
 use Rattle.lisa_tree.specs.Descriptions.{CodingTree}
-use Rattle.text_scan.specs.Many.{Item, many}
-use Rattle.text_scan.specs.Steps.{◌>>=◌}
+use Rattle.lisa_words.specs.Many.{Item, many}
+use Rattle.lisa_words.specs.Steps.{◌>>=◌}
 use Rattle.lisa_behav_reader.specs.Past.{past_of}
 use Rattle.lisa_behav_reader.specs.Reading.{name_of}
 use Rattle.lisa_section_reader.specs.Resources.{ends}

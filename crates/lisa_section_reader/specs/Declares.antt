@@ -7,8 +7,8 @@ use Rattle.lisa_tree.specs.declared.tokens.TokenPart.TheVariants as parts
 use Rattle.lisa_tree.specs.Descriptions as descriptions
 use Rattle.lisa_tree.specs.Descriptions.{DeclareTree}
 use Rattle.lisa_tree.specs.Grammar.{Toks}
-use Rattle.text_scan.specs.Many.{Item, many}
-use Rattle.text_scan.specs.Steps.{◌>>=◌}
+use Rattle.lisa_words.specs.Many.{Item, many}
+use Rattle.lisa_words.specs.Steps.{◌>>=◌}
 use Rattle.lisa_behav_reader.specs.Past.{past_of}
 use Rattle.lisa_behav_reader.specs.Reading.{name_of}
 use Rattle.lisa_section_reader.specs.Lists.{names_of}

@@ -9,8 +9,8 @@ use Rattle.lisa_tree.specs.declared.descriptions.Format.TheVariants as formats
 use Rattle.lisa_tree.specs.declared.descriptions.SyntaxItem.{SyntaxItem}
 use Rattle.lisa_tree.specs.declared.descriptions.SyntaxPart.{SyntaxPart}
 use Rattle.lisa_tree.specs.declared.descriptions.SyntaxPart.TheVariants as syntaxes
-use Rattle.text_scan.specs.Many.{Item, many}
-use Rattle.text_scan.specs.Steps.{◌>>=◌}
+use Rattle.lisa_words.specs.Many.{Item, many}
+use Rattle.lisa_words.specs.Steps.{◌>>=◌}
 use Rattle.lisa_section_reader.specs.Resources.{ends}
 
 abbrev pub format_of : Sign → Option Format

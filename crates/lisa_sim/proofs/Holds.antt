@@ -6,7 +6,7 @@ use Rattle.lisa_tree.specs.Descriptions.{DescriptionTree}
 use Rattle.lisa_engine.specs.Memory.{Memory}
 use Rattle.lisa_engine.specs.declared.parts.Item.{Item}
 use Rattle.machine_parts.specs.Parts.{registers_of}
-use Rattle.description_promises.proofs.Sound.{sound}
+use Rattle.lisa_machine.proofs.Sound.{sound}
 use Rattle.use_promises.proofs.Shown.{shown_fits}
 use Rattle.item_layouts.specs.declared.place.ItemPlace.{ItemPlace}
 use Rattle.item_layouts.specs.declared.place.ItemPlace.TheVariants.{Register, Field, Word, Bit}

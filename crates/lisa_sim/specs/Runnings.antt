@@ -7,7 +7,7 @@ use Rattle.lisa_engine.specs.State.{State}
 use Rattle.lisa_engine.specs.Images.{IsImage, missing_memory}
 use Rattle.lisa_engine.specs.Touches.{IsPlaced, put_back}
 use Rattle.lisa_engine.specs.declared.parts.Touch.{Touch}
-use Rattle.description_names.specs.Resources.{stages}
+use Rattle.lisa_tree.specs.Resources.{stages}
 use Rattle.machine_parts.specs.Parts.{arrays_of}
 use Rattle.lisa_machine.specs.Verdicts.{IsAccepted}
 use Rattle.item_layouts.specs.declared.place.ItemPlace.{ItemPlace}

@@ -9,7 +9,7 @@ ghost use Rattle.lisa_engine.specs.Touches.{Tracks};
 ghost use Rattle.machine_parts.specs.Parts.{arrays_of, pins_of};
 ghost use Rattle.lisa_forms.specs.Parts.{AreFormsOf};
 ghost use Rattle.lisa_forms.specs.Verdicts.{HasForms};
-ghost use Rattle.lisa_coding.specs.Parts.{IsCodingOf};
+ghost use Rattle.lisa_forms.specs.Codings.{IsCodingOf};
 ghost use Rattle.scene_paths.specs.Lookups.{tree_of};
 ghost use Rattle.lisa_meaning.specs.States.{state_of};
 ghost use Rattle.lisa_sim.specs.Runnings.{IsBefore};
@@ -19,9 +19,8 @@ use crate::parts::{Parts, make_parts, make_pipeline};
 use crate::states::{restart, retreat};
 use item_layouts::ItemPlace;
 use item_promises::sizes_are_limited;
-use lisa_coding::Coding;
 use lisa_engine::{Image, MakeFault, Touch};
-use lisa_forms::Forms;
+use lisa_forms::{Coding, Forms};
 use lisa_machine::Machine;
 use lisa_meaning::laws::{
     cores_are_sound, edges_have_items, items_show_all, trees_are_occurrences,

@@ -7,15 +7,14 @@ ghost use Rattle.lisa_engine.specs.Shape.{IsShaped, HaveWidths, HaveDistinctName
 ghost use Rattle.machine_parts.specs.Parts.{arrays_of, pins_of};
 ghost use Rattle.lisa_forms.specs.Parts.{AreFormsOf};
 ghost use Rattle.lisa_forms.specs.Verdicts.{HasForms};
-ghost use Rattle.lisa_coding.specs.Parts.{IsCodingOf};
+ghost use Rattle.lisa_forms.specs.Codings.{IsCodingOf};
 ghost use Rattle.scene_paths.specs.Lookups.{tree_of};
 ghost use Rattle.lisa_meaning.specs.States.{state_of};
 
 use crate::runner::Runner;
 use item_promises::{shown_names_differ, shown_widths_fit};
-use lisa_coding::Coding;
 use lisa_engine::{ArrayItem, Engine, Image, Item, MakeFault, Touch};
-use lisa_forms::Forms;
+use lisa_forms::{Coding, Forms};
 use lisa_machine::Machine;
 use lisa_meaning::laws::states_are_shaped;
 use std::alloc::Global;

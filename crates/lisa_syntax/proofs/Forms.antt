@@ -3,7 +3,7 @@ use Rattle.std.proofs.Common.{◌≡◌, ◌&&◌, ◌+◌, ℕ, suc, List, [], 
 use Rattle.std.specs.Prelude.{◌↔◌, ◌≤◌, option_map}
 use Rattle.std.proofs.lemmas.List.{length-append}
 use Rattle.lisa_tree.specs.Descriptions.{DescriptionTree}
-use Rattle.description_names.specs.Paths.{node_count, choice_node}
+use Rattle.lisa_tree.specs.Paths.{node_count, choice_node}
 use Rattle.lisa_machine.specs.Verdicts.{IsAccepted, Verdict, before, at_places, nothing}
 use Rattle.coding_checks.specs.Uneven.{IsFirstGroupWidth, group_width}
 use Rattle.coding_checks.specs.Written.{not_written}
@@ -18,8 +18,8 @@ use Rattle.instruction_texts.specs.Texts.{form_symbols, IsReadable}
 use Rattle.instruction_texts.proofs.TextLaws.{writes_are_texts}
 use Rattle.form_texts.specs.Syntaxes.{syntax_table}
 use Rattle.form_texts.specs.Instructions.{instruction_symbols, instruction_shapes, first_bad_from, first_bad_text}
-use Rattle.description_promises.specs.Freedom.{IsFree}
-use Rattle.description_promises.proofs.Sound.{sound}
+use Rattle.lisa_machine.specs.Freedom.{IsFree}
+use Rattle.lisa_machine.proofs.Sound.{sound}
 use Rattle.instruction_forms.proofs.Wide.{whole_width, small_width}
 use Rattle.form_promises.proofs.Readable.{form_readable}
 use Rattle.form_promises.proofs.Rooted.{the_root}

@@ -8,7 +8,7 @@ use Rattle.lisa_tree.specs.declared.descriptions.SyntaxItem.{SyntaxItem}
 use Rattle.lisa_tree.specs.declared.descriptions.SyntaxPart.{SyntaxPart}
 use Rattle.lisa_tree.specs.declared.descriptions.SyntaxPart.TheVariants as parts
 use Rattle.lisa_tree.specs.Descriptions.{DescriptionTree}
-use Rattle.description_names.specs.Operations.{syntax_in, sections_at}
+use Rattle.lisa_tree.specs.Operations.{syntax_in, sections_at}
 use Rattle.spelled_promises.specs.Trees.{IsWellFormedPart}
 use Rattle.spelled_promises.proofs.Outer.{well_formed}
 use Rattle.spelled_promises.proofs.Found.{sections_formed, syntax_formed}

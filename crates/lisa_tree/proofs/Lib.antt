@@ -1,2 +1,4 @@
 pub mod Views
 pub mod DepthLaws
+pub mod Lists
+pub mod Rising

@@ -2,7 +2,7 @@
 use Rattle.std.specs.Prelude.{ℕ, suc, max, List}
 use Rattle.lisa_tree.specs.declared.tokens.Base.{Base}
 use Rattle.lisa_tree.specs.declared.tokens.Shape.{Shape}
-use Rattle.operators.specs.declared.binary.Operator.{Operator}
+use Rattle.lisa_words.specs.declared.binary.Operator.{Operator}
 use Rattle.lisa_tree.specs.declared.expressions.Expr.{Expr}
 use Rattle.lisa_tree.specs.declared.expressions.Expr.TheVariants as exprs
 

@@ -9,3 +9,9 @@ pub mod Spellings
 pub mod Tokens
 pub mod Brackets
 pub mod Texts
+pub mod Same
+pub mod Resources
+pub mod Operations
+pub mod Declarations
+pub mod Meanings
+pub mod Paths

@@ -1,8 +1,8 @@
 -- The signs of the operators of two operands.
 use Rattle.lisa_tree.specs.declared.tokens.Sign.{Sign}
 use Rattle.lisa_tree.specs.declared.tokens.Sign.TheVariants as signs
-use Rattle.operators.specs.declared.binary.Operator.{Operator}
-use Rattle.operators.specs.declared.binary.Operator.TheVariants as operators
+use Rattle.lisa_words.specs.declared.binary.Operator.{Operator}
+use Rattle.lisa_words.specs.declared.binary.Operator.TheVariants as operators
 
 abbrev pub sign_of : Operator → Sign
 sign_of operators.OneTrue = signs.OrOr

@@ -1,8 +1,7 @@
 //! Expressions of a behaviour.
 
 use crate::tokens::{Base, Shape};
-use lisa_words::Name;
-use operators::Operator;
+use lisa_words::{Name, Operator};
 
 /// A field of the boundary between two stages: `PIPELINE_REGISTER(pipe, before/after).field`.
 #[derive(Debug, Drop)]

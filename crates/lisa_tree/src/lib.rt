@@ -2,13 +2,18 @@
 //! may have.
 #![tactic(auto)]
 
+mod declared;
 mod depths;
 mod descriptions;
 mod expressions;
 mod faults;
+mod laws;
+mod names;
+mod sections;
 mod statements;
 mod tokens;
 
+pub use declared::{Meaning, What};
 pub use depths::depth;
 pub use descriptions::{
     Act, CodingItem, CodingPart, Declare, Description, Format, MemoryWord, Operation, Pattern,
@@ -16,6 +21,9 @@ pub use descriptions::{
 };
 pub use expressions::{BoundaryField, Expr};
 pub use faults::DescFault;
-pub use operators::Operator;
+pub use laws::above_rises;
+pub use lisa_words::Operator;
+pub use names::Names;
+pub use sections::{activation, behavior, coding, declares, expression, syntax};
 pub use statements::{ForHead, Stmt};
 pub use tokens::{Base, Keyword, Shape, Sign, Token, TokenPart};

@@ -1,3 +1,10 @@
+pub mod Fixed
+pub mod FixedEach
+pub mod StepLaws
+pub mod ManyLaws
+pub mod Runs
+pub mod Ends
+pub mod GapLaws
 pub mod DigitSteps
 pub mod HexDigits
 pub mod Readings

@@ -1,2 +1,10 @@
+pub mod Operators
+pub mod Levels
+pub mod Bytes
+pub mod Gaps
+pub mod Steps
+pub mod Fix
+pub mod FixEach
+pub mod Many
 pub mod Numerals
 pub mod Words

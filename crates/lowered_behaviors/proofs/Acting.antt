@@ -1,7 +1,7 @@
 -- Of the alternatives of a child the one that is chosen acts, and the others rest.
 use lib.Bits.{and_comm}
-use Rattle.std.proofs.Common.{◌≡◌, ◌<◌, ◌≤◌, ◌+◌, ◌∙◌, ℕ, Bool, true, false, List, [], ◌∷◌, Option, None, Some, length, refl, sym, ap, subst, arith, ⊎_elim}
-use Rattle.std.specs.Prelude.{slice_index, bit_and}
+use Rattle.std.proofs.Common.{◌≡◌, ◌≤◌, ◌∙◌, ℕ, Bool, true, false, List, [], ◌∷◌, Option, None, Some, sym, ap, subst, arith, ⊎_elim}
+use Rattle.std.specs.Prelude.{bit_and}
 use Rattle.std.specs.List.{AllByRecursion}
 use Rattle.instruction_forms.specs.Trees.{FormTree}
 use Rattle.lisa_meaning.specs.Scenes.{Link}
@@ -18,7 +18,7 @@ use Rattle.lowered_time.specs.Lowering.{bit}
 use Rattle.lowered_time.proofs.Base.{both_is}
 use Rattle.lowered_statements.specs.Agreement.{Spares, IsGuard, Idles}
 use Rattle.lowered_statements.proofs.Idle.{held_value, held_rests, behind_rests}
-use Rattle.lowered_statements.proofs.Scoped.{guard_low, guard_up, guard_spared, spares_rest, spares_on}
+use Rattle.lowered_statements.proofs.Scoped.{guard_low, guard_up, spares_rest, spares_on}
 use Rattle.lowered_words.specs.Ways.{Way}
 use Rattle.lowered_behaviors.specs.Standpoints.{Standpoint, own_way}
 use Rattle.lowered_behaviors.specs.Values.{Ground, flag}

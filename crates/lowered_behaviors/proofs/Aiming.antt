@@ -10,7 +10,7 @@ use Rattle.lisa_tree.specs.Expressions.{ExprTree}
 use Rattle.lisa_tree.specs.Statements as stmts
 use Rattle.lisa_tree.specs.Statements.{StmtTree, StmtTrees}
 use Rattle.lisa_tree.specs.Descriptions.{DescriptionTree}
-use Rattle.description_names.specs.Same.{same_name}
+use Rattle.lisa_tree.specs.Same.{same_name}
 use Rattle.description_places.specs.Literals.{literal}
 use Rattle.machine_parts.specs.Parts.{registers_of}
 use Rattle.shape_checks.specs.declared.bounds.Bounds.{Bounds}

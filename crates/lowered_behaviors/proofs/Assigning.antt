@@ -1,6 +1,6 @@
 -- Under a guard that is 1 an assignment assigns, through all names of children that lead there.
-use Rattle.std.proofs.Common.{◌≡◌, ◌⊎◌, ◌<◌, ◌≤◌, ◌+◌, ◌∙◌, ℕ, zero, suc, Bool, true, false, cond, List, [], ◌∷◌, Option, None, Some, length, refl, sym, ap, subst, arith, inl, inr, ⊎_elim}
-use Rattle.std.specs.Prelude.{slice_get, slice_index, All}
+use Rattle.std.proofs.Common.{◌≡◌, ◌⊎◌, ◌≤◌, ◌∙◌, ℕ, zero, suc, List, [], ◌∷◌, Option, None, Some, refl, sym, ap, subst, arith, inl, inr, ⊎_elim}
+use Rattle.std.specs.Prelude.{slice_get}
 use Rattle.std.specs.List.{AllZip}
 use Rattle.std.specs.Map.{lookup}
 use Rattle.std.proofs.lemmas.Option.{same_Some}
@@ -14,16 +14,15 @@ use Rattle.description_places.specs.Scopes as places
 use Rattle.description_places.specs.Scopes.{local_named}
 use Rattle.description_places.specs.Places as marks
 use Rattle.description_places.specs.Places.{at, uses, targets}
-use Rattle.description_names.specs.declared.declared.What.{What}
-use Rattle.description_names.specs.declared.declared.What.TheVariants as whats
-use Rattle.description_names.specs.declared.declared.Meaning.{Meaning}
-use Rattle.description_names.specs.declared.declared.Meaning.TheVariants as meanings
-use Rattle.description_names.specs.Same.{same_name}
-use Rattle.description_names.specs.Resources.{resource_at}
-use Rattle.description_names.specs.Operations.{sections_at, expression_in}
-use Rattle.description_names.specs.Declarations.{Entry, entries, declared_at, what_at}
-use Rattle.description_names.specs.Meanings.{meaning, meaning_of}
-use Rattle.description_names.specs.Paths.{Operation, entry_node}
+use Rattle.lisa_tree.specs.declared.declared.What.{What}
+use Rattle.lisa_tree.specs.declared.declared.What.TheVariants as whats
+use Rattle.lisa_tree.specs.declared.declared.Meaning.TheVariants as meanings
+use Rattle.lisa_tree.specs.Same.{same_name}
+use Rattle.lisa_tree.specs.Resources.{resource_at}
+use Rattle.lisa_tree.specs.Operations.{sections_at, expression_in}
+use Rattle.lisa_tree.specs.Declarations.{Entry, entries, declared_at, what_at}
+use Rattle.lisa_tree.specs.Meanings.{meaning_of}
+use Rattle.lisa_tree.specs.Paths.{entry_node}
 use Rattle.description_graph.proofs.Hits.{found}
 use Rattle.description_graph.proofs.Nodes.{alternatives_below}
 use Rattle.description_types.specs.declared.values.Assignable.{Assignable}
@@ -32,17 +31,16 @@ use Rattle.description_types.specs.Facts.{entry_value}
 use Rattle.description_types.specs.Kinds.{assignable_fact}
 use Rattle.description_types.specs.Steady.{assignables_steady}
 use Rattle.description_types.specs.Tables.{unfit}
-use Rattle.description_promises.specs.Assigning.{IsPlace as IsAssignable, register, element, declared}
-use Rattle.description_promises.specs.Freedom.{Stands, AllStand}
-use Rattle.description_promises.specs.Soundness.{IsSound}
-use Rattle.description_promises.proofs.Assigned.{written, child_yes, reference_yes, operation_yes}
-use Rattle.description_promises.proofs.Chosen.{plain_listed}
-use Rattle.description_promises.proofs.Named.{what_is}
-use Rattle.description_promises.proofs.Standing.{expression_stand}
-use Rattle.description_promises.proofs.Settling.{entry_is}
+use Rattle.lisa_machine.specs.Assigning.{IsPlace as IsAssignable, register, element, declared}
+use Rattle.lisa_machine.specs.Freedom.{Stands, AllStand}
+use Rattle.lisa_machine.specs.Soundness.{IsSound}
+use Rattle.lisa_machine.proofs.Assigned.{written, child_yes, reference_yes, operation_yes}
+use Rattle.lisa_machine.proofs.Chosen.{plain_listed}
+use Rattle.lisa_machine.proofs.Named.{what_is}
+use Rattle.lisa_machine.proofs.Standing.{expression_stand}
+use Rattle.lisa_machine.proofs.Settling.{entry_is}
 use Rattle.description_sizes.specs.Texts.{levels}
 use Rattle.meant_declarations.specs.Meant.{MayMean, itself, higher}
-use Rattle.use_promises.specs.Meant.{ChoosesFrom}
 use Rattle.use_promises.specs.Using.{IsChildEntry, ChildrenMayRun}
 use Rattle.use_promises.proofs.Used.{reads_run, writes_run}
 use Rattle.use_promises.proofs.References.{definite}
@@ -50,34 +48,32 @@ use Rattle.instruction_forms.specs.Trees.{FormTree}
 use Rattle.step_program.specs.Programs.{Program, Expr}
 use Rattle.step_program.specs.Effects as steps
 use Rattle.typed_values.specs.Words.{TypedWord}
-use Rattle.typed_values.specs.Laws.{HasNumbers}
-use Rattle.lisa_meaning.specs.Scenes.{Link, Scene, child_at_home, home as home_of}
+use Rattle.lisa_meaning.specs.Scenes.{Link, Scene, child_at_home}
 use Rattle.lisa_meaning.specs.Moments.{Moment, bare, with_locals}
-use Rattle.lisa_meaning.specs.Values.{value_of}
 use Rattle.lisa_meaning.specs.Effects as effects
 use Rattle.lisa_meaning.specs.Effects.{PutBelow, doing, put_within}
 use Rattle.lisa_meaning.proofs.Above.{named_by}
 use Rattle.lisa_meaning.proofs.Paths as paths
 use Rattle.lisa_meaning.proofs.Paths.{Home, ranks}
-use Rattle.meaning_promises.specs.Running.{IsPath, PartsStand}
+use Rattle.meaning_promises.specs.Running.{PartsStand}
 use Rattle.meaning_promises.proofs.Children.{as_path, is_path, home_parts, child_low, Child, child_there, apart}
 use Rattle.meaning_promises.proofs.Reading.{On, Within, enough}
-use Rattle.step_pieces.specs.Pieces.{Piece, IsScratch, top}
-use Rattle.step_pieces.specs.Running.{ran, Rests, HasTemps}
+use Rattle.step_pieces.specs.Pieces.{Piece}
+use Rattle.step_pieces.specs.Running.{ran}
 use Rattle.step_pieces.specs.Formed.{Lies}
 use Rattle.step_pieces.proofs.Rested.{low_up}
 use Rattle.lowered_values.specs.Operands.{StandsFor}
 use Rattle.lowered_values.proofs.Lowering.{stands_on}
-use Rattle.lowered_statements.specs.Scopes.{Local, Scope, names_of, IsScope}
-use Rattle.lowered_statements.specs.Agreement.{IsLocal, Agrees, Spares, IsGuard, Leads, AreGiven, Idles}
-use Rattle.lowered_statements.proofs.Scoped.{scope_low, spares_rest}
+use Rattle.lowered_statements.specs.Scopes.{Scope, names_of, IsScope}
+use Rattle.lowered_statements.specs.Agreement.{Agrees, Spares, IsGuard, Leads, AreGiven, Idles}
+use Rattle.lowered_statements.proofs.Scoped.{scope_low}
 use Rattle.lowered_resources.specs.Putting.{Given, Stores, Reads, puts}
 use Rattle.lowered_resources.specs.Holding.{Holds}
-use Rattle.lowered_resources.specs.Laws.{IsDeclared, IsPlace, ReadsIndex}
+use Rattle.lowered_resources.specs.Laws.{IsPlace, ReadsIndex}
 use Rattle.lowered_resources.proofs.Assigning.{puts_lead}
 use Rattle.lowered_resources.proofs.Locals.{no_local}
 use Rattle.lowered_behaviors.specs.Standpoints.{Standpoint, running, alternatives}
-use Rattle.lowered_behaviors.specs.Values.{Ground, value_within}
+use Rattle.lowered_behaviors.specs.Values.{Ground}
 use Rattle.lowered_behaviors.specs.Behaviors.{reads_at, store_at, puts_with, puts_within}
 use Rattle.lowered_behaviors.specs.Agreement.{IsLink, HasWord, HoldsIn, AreNames}
 use Rattle.lowered_behaviors.specs.Laws.{IsGround}
@@ -85,7 +81,7 @@ use Rattle.lowered_behaviors.proofs.Scratch.{value_scratch}
 use Rattle.lowered_behaviors.proofs.Choosing.{IsOn, AreChosen, flag_tells, alternatives_chosen}
 use Rattle.lowered_behaviors.proofs.Once.{named_once}
 use Rattle.lowered_behaviors.proofs.Resting.{Acting, puts_idle, stored_rests}
-use Rattle.lowered_behaviors.proofs.Kept.{its_sound, word_kept, holds_kept, holds_else}
+use Rattle.lowered_behaviors.proofs.Kept.{its_sound, word_kept, holds_else}
 use Rattle.lowered_behaviors.proofs.Sources.{no_standing}
 use Rattle.lowered_behaviors.proofs.Evaluating.{IsHere, here_lasts, scope_down, evaluates}
 use Rattle.lowered_behaviors.proofs.Acting.{Tells, one_acts}

@@ -1,5 +1,5 @@
 -- The steps of a child's alternatives leave the value of the one that is chosen.
-use Rattle.std.proofs.Common.{◌≡◌, ◌<◌, ◌≤◌, ◌+◌, ◌∙◌, ℕ, Bool, true, false, cond, List, [], ◌∷◌, Option, None, Some, length, nat_eq, refl, sym, ap, subst, arith, ⊎_elim}
+use Rattle.std.proofs.Common.{◌≡◌, ◌<◌, ◌≤◌, ◌∙◌, ℕ, Bool, cond, List, [], ◌∷◌, Option, Some, length, refl, sym, ap, arith, ⊎_elim}
 use Rattle.std.specs.Prelude.{nat_lt}
 use Rattle.std.specs.List.{AllByRecursion}
 use Rattle.std.proofs.lemmas.Bool.{eq-eqb}
@@ -21,7 +21,7 @@ use Rattle.step_pieces.proofs.Laid.{lies_left, lies_right, lies_one}
 use Rattle.lowered_values.specs.Operands.{StandsFor, IsOperand}
 use Rattle.lowered_values.specs.Templates.{widened, fitted}
 use Rattle.lowered_values.specs.Computed.{Computed}
-use Rattle.lowered_values.proofs.Lowering.{Scratch, all_none, all_one, scratch_up, scratch_behind, held_scratch, top_low, rested}
+use Rattle.lowered_values.proofs.Lowering.{all_none, all_one, scratch_up, scratch_behind, held_scratch, rested}
 use Rattle.lowered_time.specs.Lowering.{bit}
 use Rattle.lowered_statements.specs.Stated.{shaped}
 use Rattle.lowered_statements.proofs.Scoped.{word_width_is}

@@ -4,21 +4,19 @@ use Rattle.std.specs.Prelude.{slice_get, option_map}
 use Rattle.std.specs.List.{AllZip, AllByRecursion}
 use Rattle.std.specs.Option.{is_some, option_and_then, option_to_list}
 use Rattle.std.proofs.lemmas.Bool.{eqb-true, eq-eqb}
-use Rattle.std.proofs.lemmas.Option.{same_Some}
 use Rattle.lisa_tree.specs.Descriptions.{DescriptionTree}
-use Rattle.description_names.specs.Operations.{sections_at, coding_in}
-use Rattle.description_names.specs.Declarations.{is_reference}
+use Rattle.lisa_tree.specs.Operations.{sections_at, coding_in}
+use Rattle.lisa_tree.specs.Declarations.{is_reference}
 use Rattle.graph_paths.specs.Paths.{is_in}
 use Rattle.coded_names.specs.Codings.{names_instructions}
 use Rattle.activation_trees.specs.Starting.{plain_named}
 use Rattle.instruction_forms.specs.Trees.{FormTree}
-use Rattle.lisa_forms.specs.Choosing.{child_place, child_at, operation_of}
+use Rattle.lisa_forms.specs.Choosing.{child_place, operation_of}
 use Rattle.lisa_meaning.specs.Scenes.{Link, Scene, link, declared, part_at, child_part, chosen, onto, child_at_home, home as home_of}
-use Rattle.step_program.specs.Programs.{Program, Expr}
+use Rattle.step_program.specs.Programs.{Program}
 use Rattle.step_program.specs.Effects as steps
 use Rattle.lowered_time.specs.Lowering.{bit}
 use Rattle.lowered_words.specs.Ways.{Way, Whole, Child, part_by, of_operation, child_of}
-use Rattle.lowered_words.specs.Rows.{has_part}
 use Rattle.lowered_words.proofs.Telling.{row_tells}
 use Rattle.lowered_behaviors.specs.Standpoints.{Level, Standpoint, level, home, alternative, placed, beside, alternatives_at, alternatives, own_way}
 use Rattle.lowered_behaviors.specs.Values.{flag}

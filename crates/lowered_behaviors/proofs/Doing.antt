@@ -6,17 +6,16 @@ use Rattle.lisa_words.specs.declared.words.Kind.{Kind}
 use Rattle.lisa_tree.specs.Expressions as exprs
 use Rattle.lisa_tree.specs.Expressions.{ExprTree}
 use Rattle.lisa_tree.specs.Statements.{StmtTrees}
-use Rattle.lisa_tree.specs.Descriptions.{DescriptionTree}
 use Rattle.description_places.specs.declared.sites.Region.TheVariants as regions
 use Rattle.description_places.specs.Literals.{literal}
 use Rattle.description_places.specs.Scopes as places
 use Rattle.description_places.specs.Places as marks
 use Rattle.description_places.specs.Places.{at, targets}
-use Rattle.description_names.specs.Resources.{stage_at}
-use Rattle.description_names.specs.Operations.{sections_at, behavior_in}
-use Rattle.description_promises.specs.Freedom.{Stands, AllStand}
-use Rattle.description_promises.specs.Soundness.{IsSound}
-use Rattle.description_promises.proofs.Standing.{behavior_stand}
+use Rattle.lisa_tree.specs.Resources.{stage_at}
+use Rattle.lisa_tree.specs.Operations.{sections_at, behavior_in}
+use Rattle.lisa_machine.specs.Freedom.{Stands, AllStand}
+use Rattle.lisa_machine.specs.Soundness.{IsSound}
+use Rattle.lisa_machine.proofs.Standing.{behavior_stand}
 use Rattle.description_sizes.specs.Texts.{levels}
 use Rattle.step_program.specs.Programs.{Program, Expr}
 use Rattle.step_program.specs.Effects as steps
@@ -24,22 +23,19 @@ use Rattle.typed_values.specs.Words.{TypedWord}
 use Rattle.typed_values.specs.Effects.{Doing, Locals, effects}
 use Rattle.typed_values.specs.Laws.{HasNumbers}
 use Rattle.lisa_meaning.specs.Scenes.{Link, Scene, at_path, first_operation}
-use Rattle.lisa_meaning.specs.Moments.{Moment, bare, with_locals}
+use Rattle.lisa_meaning.specs.Moments.{Moment, bare}
 use Rattle.lisa_meaning.specs.Effects.{doing, body, behavior_at, put_within, run_within}
 use Rattle.meaning_promises.specs.Running.{IsPath, PartsStand, Runs, HasChild}
 use Rattle.meaning_promises.proofs.Meant.{called_child}
 use Rattle.meaning_promises.proofs.Reading.{On, enough}
-use Rattle.step_pieces.specs.Pieces.{Piece, nothing}
-use Rattle.step_pieces.specs.Running.{ran, Rests, HasTemps}
+use Rattle.step_pieces.specs.Pieces.{Piece}
+use Rattle.step_pieces.specs.Running.{ran, HasTemps}
 use Rattle.step_pieces.specs.Formed.{Lies, IsPiece}
 use Rattle.step_pieces.proofs.Rested.{rests_none}
 use Rattle.step_pieces.proofs.Laid.{nothing_formed}
 use Rattle.lowered_values.specs.Operands.{StandsFor}
 use Rattle.lowered_statements.specs.Scopes.{Scope, names_of, IsScope}
-use Rattle.lowered_statements.specs.Ways.{Ways}
-use Rattle.lowered_statements.specs.Stated.{stated_all}
-use Rattle.lowered_statements.specs.Typed.{Rules}
-use Rattle.lowered_statements.specs.Agreement.{IsLocal, Agrees, Spares, IsGuard, Leads, AreIdle, AreGiven, Idles, FormWays, DoWays}
+use Rattle.lowered_statements.specs.Agreement.{IsLocal, Agrees, Spares, IsGuard, Leads, AreGiven, Idles, FormWays, DoWays}
 use Rattle.lowered_statements.proofs.Forms.{all_formed as statements_formed}
 use Rattle.lowered_statements.proofs.Does.{does_all}
 use Rattle.lowered_statements.proofs.Scoped.{scope_low, spares_rest}
@@ -53,7 +49,7 @@ use Rattle.lowered_behaviors.specs.Values.{Ground}
 use Rattle.lowered_behaviors.specs.Behaviors.{done_by_all, puts_within, ways_at, body_of, behavior_within}
 use Rattle.lowered_behaviors.specs.Agreement.{IsLink, IsScene, HoldsIn, AreNames}
 use Rattle.lowered_behaviors.specs.Laws.{IsGround}
-use Rattle.lowered_behaviors.proofs.Choosing.{IsOn, flag_tells, alternatives_chosen}
+use Rattle.lowered_behaviors.proofs.Choosing.{flag_tells, alternatives_chosen}
 use Rattle.lowered_behaviors.proofs.Once.{named_once}
 use Rattle.lowered_behaviors.proofs.Resting.{Acting, ways_idle, behavior_rests}
 use Rattle.lowered_behaviors.proofs.Kept.{its_sound, holds_kept, holds_else}

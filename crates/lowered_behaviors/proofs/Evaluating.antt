@@ -1,11 +1,10 @@
 -- The steps of an expression leave its value in its operand, with all that its names stand for.
-use Rattle.std.proofs.Common.{◌≡◌, ◌⊎◌, ◌<◌, ◌≤◌, ◌+◌, ◌∙◌, ℕ, zero, suc, Bool, true, false, cond, List, [], ◌∷◌, Option, None, Some, length, refl, sym, ap, subst, arith, inl, inr}
+use Rattle.std.proofs.Common.{◌≡◌, ◌≤◌, ◌∙◌, ℕ, zero, suc, Bool, true, false, cond, List, [], ◌∷◌, Option, None, Some, refl, sym, ap, subst, arith, inl, inr}
 use Rattle.std.specs.Prelude.{slice_get, is_some, option_map}
 use Rattle.std.specs.List.{AllZip}
 use Rattle.std.specs.Map.{lookup}
 use Rattle.std.specs.Option.{option_and_then}
 use Rattle.std.proofs.lemmas.Option.{same_Some}
-use Rattle.lisa_words.specs.declared.words.Kind.TheVariants.{Unsigned}
 use Rattle.lisa_tree.specs.declared.tokens.Shape.{Shape}
 use Rattle.lisa_tree.specs.Expressions.{ExprTree}
 use Rattle.lisa_tree.specs.Descriptions as trees
@@ -16,28 +15,27 @@ use Rattle.description_places.specs.Scopes as places
 use Rattle.description_places.specs.Scopes.{local_named}
 use Rattle.description_places.specs.Places as marks
 use Rattle.description_places.specs.Places.{at, uses}
-use Rattle.description_names.specs.declared.declared.What.{What}
-use Rattle.description_names.specs.declared.declared.What.TheVariants as whats
-use Rattle.description_names.specs.declared.declared.Meaning.{Meaning}
-use Rattle.description_names.specs.declared.declared.Meaning.TheVariants as meanings
-use Rattle.description_names.specs.Same.{same_name}
-use Rattle.description_names.specs.Resources.{resource_at}
-use Rattle.description_names.specs.Operations.{sections_at, coding_in, expression_in}
-use Rattle.description_names.specs.Declarations.{Entry, entries, declared_at, what_at, plain_at}
-use Rattle.description_names.specs.Meanings.{meaning, meaning_of}
-use Rattle.description_names.specs.Paths.{Operation, entry_node}
+use Rattle.lisa_tree.specs.declared.declared.What.{What}
+use Rattle.lisa_tree.specs.declared.declared.What.TheVariants as whats
+use Rattle.lisa_tree.specs.declared.declared.Meaning.TheVariants as meanings
+use Rattle.lisa_tree.specs.Same.{same_name}
+use Rattle.lisa_tree.specs.Resources.{resource_at}
+use Rattle.lisa_tree.specs.Operations.{sections_at, coding_in, expression_in}
+use Rattle.lisa_tree.specs.Declarations.{Entry, entries, declared_at, what_at}
+use Rattle.lisa_tree.specs.Meanings.{meaning, meaning_of}
+use Rattle.lisa_tree.specs.Paths.{entry_node}
 use Rattle.description_graph.proofs.Hits.{found}
 use Rattle.description_types.specs.declared.values.TypeOf.{TypeOf}
 use Rattle.description_types.specs.declared.values.TypeOf.TheVariants as types
-use Rattle.description_types.specs.Types.{Types, typed, meant_type, or_meant_type, name_type}
+use Rattle.description_types.specs.Types.{Types, typed, meant_type, or_meant_type}
 use Rattle.description_places.specs.declared.scopes.Local.{Local}
 use Rattle.coded_names.specs.Codings.{field_width, is_coding}
-use Rattle.description_promises.specs.Freedom.{Stands, AllStand}
-use Rattle.description_promises.specs.Resolving.{IsValue, Readable, reads_local, reads_word, reads_value}
-use Rattle.description_promises.specs.Soundness.{IsSound}
-use Rattle.description_promises.proofs.Named.{what_is}
-use Rattle.description_promises.proofs.Resolved.{readable}
-use Rattle.description_promises.proofs.Standing.{expression_stand}
+use Rattle.lisa_machine.specs.Freedom.{Stands, AllStand}
+use Rattle.lisa_machine.specs.Resolving.{Readable, reads_local, reads_word, reads_value}
+use Rattle.lisa_machine.specs.Soundness.{IsSound}
+use Rattle.lisa_machine.proofs.Named.{what_is}
+use Rattle.lisa_machine.proofs.Resolved.{readable}
+use Rattle.lisa_machine.proofs.Standing.{expression_stand}
 use Rattle.meant_declarations.specs.Meant.{MayMean}
 use Rattle.use_promises.specs.Meant.{ChoosesFrom}
 use Rattle.use_promises.specs.Valued.{IsField}
@@ -45,14 +43,14 @@ use Rattle.use_promises.proofs.Given.{label_fielded}
 use Rattle.use_promises.proofs.References.{definite}
 use Rattle.use_promises.proofs.Used.{reads_run}
 use Rattle.instruction_forms.specs.Trees.{FormTree}
-use Rattle.step_program.specs.Programs.{Program, Temp}
+use Rattle.step_program.specs.Programs.{Program}
 use Rattle.step_program.specs.Effects as steps
 use Rattle.typed_values.specs.Words.{TypedWord, truth}
 use Rattle.typed_values.specs.Expressions.{value as expression_value}
 use Rattle.typed_values.specs.Laws.{IsFit, HasNumbers}
-use Rattle.reset_values.specs.Effects.{local_or}
+use Rattle.typed_values.specs.ResetEffects.{local_or}
 use Rattle.lisa_forms.specs.Choosing.{numbered_form}
-use Rattle.lisa_meaning.specs.Scenes.{Link, Scene, declared, is_label, child_at_home, instruction_with, form_with, home as home_of}
+use Rattle.lisa_meaning.specs.Scenes.{Link, Scene, declared, is_label, child_at_home, form_with}
 use Rattle.lisa_meaning.specs.Moments.{Moment, bare}
 use Rattle.lisa_meaning.specs.Values as meant
 use Rattle.lisa_meaning.specs.Values.{Below, label_value, value_below, declared_value, meant_value, reader}
@@ -63,15 +61,15 @@ use Rattle.lisa_meaning.proofs.Paths.{Home, ranks}
 use Rattle.meaning_promises.specs.Forms.{IsPartOf}
 use Rattle.meaning_promises.specs.Typing.{IsOfType, IsTypedBy, ReadsTyped}
 use Rattle.meaning_promises.specs.Scoping.{AreLocalsOf}
-use Rattle.meaning_promises.specs.Running.{IsPath, PartsStand}
+use Rattle.meaning_promises.specs.Running.{PartsStand}
 use Rattle.meaning_promises.proofs.Children.{as_path, is_path, home_parts, child_low, Child, child_there, apart}
 use Rattle.meaning_promises.proofs.Reading.{On, Within, Expressed, expressed as child_expressed, reads_typed, values_typed}
-use Rattle.step_pieces.specs.Pieces.{Piece, nothing, behind, top}
+use Rattle.step_pieces.specs.Pieces.{Piece, nothing, top}
 use Rattle.step_pieces.specs.Running.{ran, Rests, HasTemps}
 use Rattle.step_pieces.specs.Formed.{Lies}
-use Rattle.step_pieces.proofs.Rested.{rests_none, ran_append}
+use Rattle.step_pieces.proofs.Rested.{ran_append}
 use Rattle.step_pieces.proofs.Laid.{lies_left, lies_right}
-use Rattle.lowered_values.specs.Operands.{Operand, StandsFor, IsOperand}
+use Rattle.lowered_values.specs.Operands.{StandsFor, IsOperand}
 use Rattle.lowered_values.specs.Computed.{Computed, leaf, computed}
 use Rattle.lowered_values.specs.Sources.{AreSources, Mirrors}
 use Rattle.lowered_values.proofs.Lowering.{Scratch, top_low, rested, computes}
@@ -84,16 +82,15 @@ use Rattle.lowered_resources.specs.Laws.{IsDeclared}
 use Rattle.lowered_resources.proofs.Forming.{formed}
 use Rattle.lowered_resources.proofs.Reading.{read}
 use Rattle.lowered_resources.proofs.Locals.{no_local}
-use Rattle.lowered_words.specs.Ways.{Way, part_by}
-use Rattle.lowered_words.specs.Rows.{row_widths}
+use Rattle.lowered_words.specs.Ways.{Way}
 use Rattle.lowered_words.proofs.Labelled.{label_computes, label_formed}
 use Rattle.lowered_words.proofs.Telling.{row_leaves}
-use Rattle.lowered_behaviors.specs.Standpoints.{Level, Standpoint, level, running, home, alternatives_at, own_way}
-use Rattle.lowered_behaviors.specs.Values.{Ground, names_in, prepared, decoded_in, known_of, flag, child_value, label_by, declared_here, meant_here, name_here, expression_of, expressed, value_within}
+use Rattle.lowered_behaviors.specs.Standpoints.{Level, Standpoint, running, home, alternatives_at}
+use Rattle.lowered_behaviors.specs.Values.{Ground, names_in, prepared, decoded_in, known_of, child_value, label_by, declared_here, meant_here, name_here, expression_of, value_within}
 use Rattle.lowered_behaviors.specs.Agreement.{part_of, IsLink, HasWord, HoldsIn, AreNames}
 use Rattle.lowered_behaviors.specs.Laws.{IsGround}
 use Rattle.lowered_behaviors.proofs.Scratch.{below, below_scratch, name_scratch, prepared_scratch}
-use Rattle.lowered_behaviors.proofs.Choosing.{is_on, IsOn, AreChosen, flag_tells, home_links, home_chosen}
+use Rattle.lowered_behaviors.proofs.Choosing.{flag_tells, home_links, home_chosen}
 use Rattle.lowered_behaviors.proofs.Once.{named_once}
 use Rattle.lowered_behaviors.proofs.Kept.{its_sound, types_are, holds_kept, holds_else}
 use Rattle.lowered_behaviors.proofs.Chains.{child_is}

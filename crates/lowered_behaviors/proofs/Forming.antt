@@ -1,34 +1,32 @@
 -- The steps of an expression are well formed, with all that its names stand for.
-use Rattle.std.proofs.Common.{◌≡◌, ◌<◌, ◌≤◌, ◌+◌, ◌∙◌, ℕ, zero, suc, Bool, true, false, cond, List, [], ◌∷◌, Option, None, Some, length, refl, sym, ap, subst, arith}
+use Rattle.std.proofs.Common.{◌≡◌, ◌<◌, ◌≤◌, ◌∙◌, ℕ, zero, suc, Bool, true, false, cond, List, [], ◌∷◌, Option, None, Some, length, refl, sym, subst, arith}
 use Rattle.std.specs.Prelude.{is_some, slice_index, max}
 use Rattle.std.proofs.lemmas.Nat.{pow_pos}
 use Rattle.std.specs.Map.{lookup}
 use Rattle.lisa_tree.specs.declared.tokens.Shape.{Shape}
 use Rattle.lisa_tree.specs.Expressions.{ExprTree}
-use Rattle.lisa_tree.specs.Descriptions.{DescriptionTree}
 use Rattle.description_places.specs.declared.sites.Region.{Region}
 use Rattle.description_places.specs.declared.sites.Region.TheVariants as regions
 use Rattle.description_places.specs.Scopes as places
 use Rattle.description_places.specs.Places.{uses}
-use Rattle.description_names.specs.declared.declared.Meaning.{Meaning}
-use Rattle.description_names.specs.declared.declared.Meaning.TheVariants as meanings
-use Rattle.description_names.specs.Same.{same_name}
-use Rattle.description_names.specs.Operations.{sections_at, expression_in}
-use Rattle.description_names.specs.Meanings.{meaning}
+use Rattle.lisa_tree.specs.declared.declared.Meaning.{Meaning}
+use Rattle.lisa_tree.specs.declared.declared.Meaning.TheVariants as meanings
+use Rattle.lisa_tree.specs.Same.{same_name}
+use Rattle.lisa_tree.specs.Operations.{sections_at, expression_in}
+use Rattle.lisa_tree.specs.Meanings.{meaning}
 use Rattle.description_types.specs.Types.{meant_type}
-use Rattle.description_promises.specs.Freedom.{AllStand}
-use Rattle.description_promises.proofs.Standing.{expression_stand}
-use Rattle.step_program.specs.Programs.{Program, Expr, Const, Temp, ToTemp}
+use Rattle.lisa_machine.specs.Freedom.{AllStand}
+use Rattle.lisa_machine.proofs.Standing.{expression_stand}
+use Rattle.step_program.specs.Programs.{Program, Expr, Const, ToTemp}
 use Rattle.step_program.specs.Effects.{width}
 use Rattle.step_program.specs.WellFormed.{IsWidth, IsFit}
 use Rattle.typed_values.specs.Laws.{HasNumbers}
 use Rattle.lisa_meaning.specs.Scenes.{declared, is_label}
-use Rattle.step_pieces.specs.Pieces.{Piece, nothing, behind, top, held, always}
-use Rattle.step_pieces.specs.Running.{IsLow}
+use Rattle.step_pieces.specs.Pieces.{nothing, behind, top, held}
 use Rattle.step_pieces.specs.Formed.{Lies, IsStep, IsPiece}
-use Rattle.step_program.specs.Depths.{expr_depth, move_depth}
+use Rattle.step_program.specs.Depths.{expr_depth}
 use Rattle.step_pieces.proofs.Laid.{lies_left, lies_right, lies_one, nothing_formed, behind_formed, all_one, held_formed}
-use Rattle.lowered_values.specs.Operands.{Operand, IsOperand}
+use Rattle.lowered_values.specs.Operands.{IsOperand}
 use Rattle.lowered_values.specs.Templates.{fitted}
 use Rattle.lowered_values.specs.Computed.{Computed, IsComputed, leaf, computed}
 use Rattle.lowered_values.proofs.Forming.{operand_good, fitted_good}
@@ -36,12 +34,10 @@ use Rattle.lowered_values.proofs.Lowering.{top_low, top_behind, all_none, operan
 use Rattle.lowered_statements.specs.Scopes.{Scope, names_of, IsScope}
 use Rattle.lowered_statements.specs.Stated.{shaped}
 use Rattle.lowered_statements.proofs.Scoped.{scope_up, scope_low, word_width_is}
-use Rattle.lowered_resources.specs.Reading.{Known, absent, sources}
+use Rattle.lowered_resources.specs.Reading.{absent, sources}
 use Rattle.lowered_resources.specs.Putting.{moving, move_to}
-use Rattle.lowered_resources.specs.Laws.{IsDeclared}
 use Rattle.lowered_resources.proofs.Forming.{formed}
 use Rattle.lowered_words.specs.Ways.{Way}
-use Rattle.lowered_words.specs.Rows.{row_widths}
 use Rattle.lowered_words.proofs.Labelled.{label_formed}
 use Rattle.lowered_words.proofs.Telling.{row_leaves}
 use Rattle.lowered_behaviors.specs.Standpoints.{Standpoint, running, home, alternatives_at, own_way}
@@ -50,7 +46,7 @@ use Rattle.lowered_behaviors.specs.Agreement.{AreNames}
 use Rattle.lowered_behaviors.specs.Laws.{IsGround}
 use Rattle.lowered_behaviors.proofs.Scratch.{below}
 use Rattle.lowered_behaviors.proofs.Kept.{its_sound}
-use Rattle.lowered_behaviors.proofs.Prepared.{Among, out_of, each_formed}
+use Rattle.lowered_behaviors.proofs.Prepared.{each_formed}
 use Rattle.lowered_behaviors.proofs.Sources.{sources_are}
 use Rattle.lowered_behaviors.proofs.Evaluating.{absent_operand, decoded_operand, scope_down}
 

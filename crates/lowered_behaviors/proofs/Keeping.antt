@@ -1,5 +1,5 @@
 -- Whatever the guard, a behaviour gives values to registers, cells, temps that tell what lasts and temps of its own alone.
-use Rattle.std.proofs.Common.{◌≡◌, ◌<◌, ◌≤◌, ◌∙◌, ◌⊎◌, ℕ, zero, suc, List, [], ◌∷◌, Option, None, Some, length, nat_eq, refl, sym, arith, inl, inr, ⊎_elim}
+use Rattle.std.proofs.Common.{◌≡◌, ◌<◌, ◌≤◌, ◌∙◌, ◌⊎◌, ℕ, zero, suc, List, [], ◌∷◌, Option, None, Some, nat_eq, refl, sym, arith, inl, inr, ⊎_elim}
 use Rattle.std.specs.Prelude.{All, slice_get}
 use Rattle.std.specs.Map.{lookup}
 use Rattle.std.proofs.lemmas.Bool.{cond_both}
@@ -15,14 +15,14 @@ use Rattle.lisa_tree.specs.Descriptions.{ResourceTree, DescriptionTree}
 use Rattle.description_places.specs.declared.sites.Region.{Region}
 use Rattle.description_places.specs.declared.sites.Region.TheVariants as regions
 use Rattle.description_places.specs.Scopes as places
-use Rattle.description_names.specs.declared.declared.Meaning.{Meaning}
-use Rattle.description_names.specs.declared.declared.Meaning.TheVariants as meanings
-use Rattle.description_names.specs.Same.{same_name}
-use Rattle.description_names.specs.Resources.{stage_at}
-use Rattle.description_names.specs.Operations.{sections_at, expression_in, behavior_in, own_stage}
-use Rattle.description_names.specs.Meanings.{meaning}
-use Rattle.description_promises.specs.Soundness.{IsSound}
-use Rattle.description_promises.proofs.Standing.{expression_stand, behavior_stand}
+use Rattle.lisa_tree.specs.declared.declared.Meaning.{Meaning}
+use Rattle.lisa_tree.specs.declared.declared.Meaning.TheVariants as meanings
+use Rattle.lisa_tree.specs.Same.{same_name}
+use Rattle.lisa_tree.specs.Resources.{stage_at}
+use Rattle.lisa_tree.specs.Operations.{sections_at, expression_in, behavior_in, own_stage}
+use Rattle.lisa_tree.specs.Meanings.{meaning}
+use Rattle.lisa_machine.specs.Soundness.{IsSound}
+use Rattle.lisa_machine.proofs.Standing.{expression_stand, behavior_stand}
 use Rattle.description_sizes.specs.Texts.{levels}
 use Rattle.machine_parts.specs.Parts.{item, register_in, registers_of}
 use Rattle.step_program.specs.Programs.{Program, Expr, Temp, Aim, ToItem, ToTemp, ToCell, Move}

@@ -16,3 +16,12 @@ pub mod Assigning
 pub mod Doing
 pub mod Aiming
 pub mod Keeping
+pub mod Standing
+pub mod Acted
+pub mod Preparing
+pub mod Placed
+pub mod Called
+pub mod Flagged
+pub mod Bodies
+pub mod Levels
+pub mod Naming

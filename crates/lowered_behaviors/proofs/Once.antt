@@ -1,20 +1,20 @@
 -- No operation is listed twice among the alternatives of a name.
-use Rattle.std.proofs.Common.{◌≡◌, ◌≢◌, ◌<◌, ◌||◌, ◌∙◌, ℕ, zero, suc, Bool, true, false, cond, not, List, [], ◌∷◌, Option, None, Some, length, filter, nat_eq, refl, sym, ap, subst, arith}
+use Rattle.std.proofs.Common.{◌≡◌, ◌≢◌, ◌||◌, ◌∙◌, ℕ, suc, Bool, true, false, cond, not, List, [], ◌∷◌, Option, None, Some, filter, nat_eq, refl, sym, ap, subst, arith}
 use Rattle.std.specs.Prelude.{slice_get, AllPairs, All}
 use Rattle.std.specs.Cmp.Lexicographic.{same_text}
 use Rattle.std.proofs.lemmas.Bool.{eqb-true}
 use Rattle.std.proofs.lemmas.Option.{same_Some}
 use Rattle.std.proofs.lemmas.List.Elements.{All-head, All-tail}
 use Rattle.lisa_tree.specs.Descriptions.{OperationTree, DescriptionTree}
-use Rattle.description_names.specs.Same.{same_name}
-use Rattle.description_names.specs.Operations.{number_of, numbers_of, is_alias}
-use Rattle.description_names.specs.Declarations.{Choice, choices, alternatives_at, plain_at}
+use Rattle.lisa_tree.specs.Same.{same_name}
+use Rattle.lisa_tree.specs.Operations.{number_of, numbers_of, is_alias}
+use Rattle.lisa_tree.specs.Declarations.{Choice, choices, alternatives_at}
 use Rattle.graph_paths.specs.Paths.{is_in}
 use Rattle.stage_checks.specs.Running.{started}
 use Rattle.activation_trees.specs.Starting.{plain_of, plain_named}
-use Rattle.description_promises.specs.Soundness.{IsSound}
-use Rattle.description_promises.proofs.Decoding.{position_there}
-use Rattle.description_promises.proofs.Distinct.{alternatives_distinct}
+use Rattle.lisa_machine.specs.Soundness.{IsSound}
+use Rattle.lisa_machine.proofs.Decoding.{position_there}
+use Rattle.lisa_machine.proofs.Distinct.{alternatives_distinct}
 use Rattle.lowered_behaviors.proofs.Choosing.{AreOnce}
 
 abbrev Differ : List ℕ → List ℕ → Type 0

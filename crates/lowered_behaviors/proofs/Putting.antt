@@ -1,10 +1,8 @@
 -- An assignment through the names of children assigns what the child's EXPRESSION is.
-use Rattle.std.proofs.Common.{◌≡◌, ◌≢◌, ◌⊎◌, ◌<◌, ◌≤◌, ◌+◌, ◌∙◌, ℕ, zero, suc, Bool, true, false, cond, List, [], ◌∷◌, Option, None, Some, length, refl, sym, ap, subst, arith, inl, inr, max, ⊎_elim}
-use Rattle.std.specs.Prelude.{slice_get, slice_index, All}
+use Rattle.std.proofs.Common.{◌≡◌, ◌⊎◌, ◌<◌, ◌≤◌, ◌+◌, ◌∙◌, ℕ, zero, suc, List, [], ◌∷◌, Option, None, Some, refl, sym, ap, subst, arith, inl, inr, max, ⊎_elim}
 use Rattle.std.specs.List.{AllZip}
 use Rattle.std.specs.Map.{lookup}
 use Rattle.std.proofs.lemmas.Option.{same_Some}
-use Rattle.lisa_words.specs.declared.words.Kind.{Kind}
 use Rattle.lisa_tree.specs.Expressions as exprs
 use Rattle.lisa_tree.specs.Expressions.{ExprTree}
 use Rattle.lisa_tree.specs.Descriptions.{DescriptionTree}
@@ -13,33 +11,29 @@ use Rattle.description_places.specs.declared.sites.Region.TheVariants as regions
 use Rattle.description_places.specs.Scopes as places
 use Rattle.description_places.specs.Places as marks
 use Rattle.description_places.specs.Places.{at, uses, targets}
-use Rattle.description_names.specs.declared.declared.Meaning.{Meaning}
-use Rattle.description_names.specs.declared.declared.Meaning.TheVariants as meanings
-use Rattle.description_names.specs.Same.{same_name}
-use Rattle.description_names.specs.Meanings.{meaning}
-use Rattle.description_promises.specs.Freedom.{AllStand}
-use Rattle.description_promises.specs.Soundness.{IsSound}
-use Rattle.description_promises.proofs.Resolved.{read_element, written_element, writes_output, no_output_read}
+use Rattle.lisa_tree.specs.declared.declared.Meaning.{Meaning}
+use Rattle.lisa_tree.specs.declared.declared.Meaning.TheVariants as meanings
+use Rattle.lisa_tree.specs.Same.{same_name}
+use Rattle.lisa_tree.specs.Meanings.{meaning}
+use Rattle.lisa_machine.specs.Freedom.{AllStand}
+use Rattle.lisa_machine.specs.Soundness.{IsSound}
+use Rattle.lisa_machine.proofs.Resolved.{read_element, written_element, writes_output, no_output_read}
 use Rattle.step_program.specs.Programs.{Program, Expr, Const, Now, Before, Pin, Temp, Cell, One, Two, Choose}
 use Rattle.step_program.specs.Effects as steps
-use Rattle.typed_values.specs.Words.{TypedWord}
 use Rattle.typed_values.specs.Effects.{Locals}
 use Rattle.typed_values.specs.Laws.{HasNumbers}
-use Rattle.lisa_meaning.specs.Scenes.{Link, Scene}
-use Rattle.lisa_meaning.specs.Moments.{Moment}
 use Rattle.lisa_meaning.specs.Values.{Array, named_array, field_place}
-use Rattle.lowered_values.specs.Operands.{StandsFor}
-use Rattle.lowered_statements.specs.Scopes.{Local, Scope, local_operand, names_of, IsScope, IsFree}
+use Rattle.lowered_statements.specs.Scopes.{Local, Scope, names_of, IsScope, IsFree}
 use Rattle.lowered_statements.specs.Agreement.{IsLocal, Spares, IsGuard, AreGiven}
 use Rattle.lowered_statements.proofs.Scoped.{scope_low, guard_low, guard_wide, guard_fits, guard_up}
 use Rattle.lowered_resources.specs.Places.{IsThere}
 use Rattle.lowered_resources.proofs.Standing.{field_low}
 use Rattle.std.proofs.lemmas.Bool.Decides.{nat_tests}
-use Rattle.description_names.specs.Operations.{sections_at, expression_in, own_stage}
-use Rattle.description_promises.proofs.Standing.{expression_stand}
+use Rattle.lisa_tree.specs.Operations.{sections_at, expression_in, own_stage}
+use Rattle.lisa_machine.proofs.Standing.{expression_stand}
 use Rattle.description_sizes.specs.Texts.{levels}
 use Rattle.step_program.specs.Depths.{expr_depth}
-use Rattle.step_pieces.specs.Pieces.{Piece, nothing, behind, top, held}
+use Rattle.step_pieces.specs.Pieces.{Piece, nothing, top, held}
 use Rattle.step_pieces.specs.Formed.{Lies, IsPiece}
 use Rattle.step_pieces.proofs.Laid.{lies_left, lies_right, lies_one, nothing_formed, behind_formed, held_formed}
 use Rattle.lowered_values.specs.Computed.{IsComputed}

@@ -1,25 +1,20 @@
 -- Under a guard that is 0 a behaviour changes scratch alone, with all that it assigns and calls.
-use Rattle.std.proofs.Common.{◌≡◌, ◌<◌, ◌≤◌, ◌∙◌, ℕ, zero, suc, List, [], ◌∷◌, Option, None, Some, refl, sym, ap, subst, arith}
+use Rattle.std.proofs.Common.{◌≡◌, ◌∙◌, ℕ, zero, suc, List, [], ◌∷◌, Option, None, Some, refl, sym, ap, arith}
 use Rattle.std.specs.Prelude.{bit_and}
-use Rattle.lisa_words.specs.declared.words.Kind.{Kind}
 use Rattle.lisa_tree.specs.Expressions.{ExprTree}
 use Rattle.lisa_tree.specs.Statements.{StmtTrees}
-use Rattle.description_names.specs.Operations.{sections_at, expression_in, behavior_in}
+use Rattle.lisa_tree.specs.Operations.{sections_at, expression_in, behavior_in}
 use Rattle.description_sizes.specs.Texts.{levels}
 use Rattle.step_program.specs.Programs.{Program, Expr, Temp}
 use Rattle.step_program.specs.Effects.{Moment, value}
-use Rattle.step_pieces.specs.Pieces.{Piece, nothing, behind, top, held}
-use Rattle.step_pieces.specs.Running.{ran, Rests, IsLow, HasTemps}
-use Rattle.step_pieces.specs.Formed.{Lies}
-use Rattle.step_pieces.proofs.Rested.{rests_none, rests_up, low_up, low_value}
+use Rattle.step_pieces.specs.Pieces.{Piece, nothing, top, held}
+use Rattle.step_pieces.specs.Running.{ran}
+use Rattle.step_pieces.proofs.Rested.{rests_none, low_up, low_value}
 use Rattle.step_pieces.proofs.Laid.{lies_left, lies_right}
-use Rattle.lowered_values.specs.Operands.{Operand}
-use Rattle.lowered_values.proofs.Lowering.{Scratch, top_low, top_held, all_none}
+use Rattle.lowered_values.proofs.Lowering.{top_low, all_none}
 use Rattle.lowered_time.specs.Pieces.{both}
-use Rattle.lowered_time.specs.Lowering.{bit}
 use Rattle.lowered_statements.specs.Scopes.{Scope}
 use Rattle.lowered_statements.specs.Ways.{Ways}
-use Rattle.lowered_statements.specs.Stated.{stated_all}
 use Rattle.lowered_statements.specs.Agreement.{Idles, AreIdle}
 use Rattle.lowered_statements.proofs.Idle.{held_value, held_rests, behind_rests, all_rest}
 use Rattle.lowered_resources.specs.Places.{Stall, Flush}

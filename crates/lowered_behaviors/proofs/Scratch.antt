@@ -1,22 +1,20 @@
 -- The steps of an expression give values to temps of their own alone.
-use Rattle.std.proofs.Common.{◌≤◌, ◌+◌, ℕ, zero, suc, Bool, true, false, cond, List, [], ◌∷◌, Option, None, Some, length, arith}
-use Rattle.std.specs.Prelude.{All}
+use Rattle.std.proofs.Common.{◌≤◌, ℕ, zero, suc, Bool, true, false, cond, List, [], ◌∷◌, Option, None, Some, arith}
 use Rattle.std.specs.Option.{is_some}
 use Rattle.std.specs.Map.{lookup}
 use Rattle.lisa_tree.specs.declared.tokens.Shape.{Shape}
 use Rattle.lisa_tree.specs.Expressions.{ExprTree}
 use Rattle.lisa_tree.specs.Descriptions.{DescriptionTree}
-use Rattle.description_names.specs.declared.declared.Meaning.{Meaning}
-use Rattle.description_names.specs.declared.declared.Meaning.TheVariants as meanings
-use Rattle.description_names.specs.Same.{same_name}
-use Rattle.description_names.specs.Meanings.{meaning}
-use Rattle.description_names.specs.Operations.{sections_at, expression_in}
+use Rattle.lisa_tree.specs.declared.declared.Meaning.{Meaning}
+use Rattle.lisa_tree.specs.declared.declared.Meaning.TheVariants as meanings
+use Rattle.lisa_tree.specs.Same.{same_name}
+use Rattle.lisa_tree.specs.Meanings.{meaning}
+use Rattle.lisa_tree.specs.Operations.{sections_at, expression_in}
 use Rattle.description_types.specs.Types.{meant_type}
 use Rattle.instruction_forms.specs.declared.form.Field.{Field}
 use Rattle.lisa_meaning.specs.Scenes.{declared, is_label}
-use Rattle.step_program.specs.Programs.{Expr, Const, ToTemp, Move}
+use Rattle.step_program.specs.Programs.{Const, ToTemp, Move}
 use Rattle.step_pieces.specs.Pieces.{Piece, nothing, behind, top, held, IsScratch}
-use Rattle.lowered_values.specs.Operands.{Operand}
 use Rattle.lowered_values.specs.Templates.{fitted}
 use Rattle.lowered_values.specs.Computed.{Computed, leaf, computed}
 use Rattle.lowered_values.proofs.Lowering.{Scratch, all_none, all_one, scratch_up, scratch_behind, held_scratch, top_low, computed_scratch}

@@ -1,6 +1,5 @@
 -- What an expression reads, where it stands in an operation of an accepted description.
-use Rattle.std.proofs.Common.{◌≡◌, ◌⊎◌, ◌<◌, ◌≤◌, ◌+◌, ◌^◌, ◌++◌, ◌∙◌, ℕ, Bool, true, false, cond, List, [], ◌∷◌, Option, None, Some, length, refl, sym, ap, subst, arith, inl, inr, ⊎_elim}
-use Rattle.std.specs.Prelude.{slice_get}
+use Rattle.std.proofs.Common.{◌≡◌, ◌+◌, ◌++◌, ◌∙◌, ℕ, Bool, true, false, cond, List, [], ◌∷◌, Option, None, Some, refl, sym, ap, subst, arith, inl, inr, ⊎_elim}
 use Rattle.std.specs.List.{AllZip}
 use Rattle.std.specs.Map.{lookup}
 use Rattle.std.proofs.lemmas.Option.{same_Some}
@@ -14,17 +13,15 @@ use Rattle.description_places.specs.Scopes as standings
 use Rattle.description_places.specs.Scopes.{local_named}
 use Rattle.description_places.specs.Places as marks
 use Rattle.description_places.specs.Places.{at, uses}
-use Rattle.description_names.specs.declared.declared.Meaning.{Meaning}
-use Rattle.description_names.specs.declared.declared.Meaning.TheVariants as meanings
-use Rattle.description_names.specs.Same.{same_name}
-use Rattle.description_names.specs.Resources.{resource_at, stage_at}
-use Rattle.description_names.specs.Meanings.{meaning, meaning_of}
+use Rattle.lisa_tree.specs.Same.{same_name}
+use Rattle.lisa_tree.specs.Resources.{resource_at, stage_at}
+use Rattle.lisa_tree.specs.Meanings.{meaning_of}
 use Rattle.description_types.specs.Types.{element_shape}
-use Rattle.description_promises.specs.Freedom.{Stands, AllStand}
-use Rattle.description_promises.specs.Resolving.{IsArray, IsBoundary}
-use Rattle.description_promises.specs.Soundness.{IsSound}
-use Rattle.description_promises.proofs.Among.{among_left, among_right}
-use Rattle.description_promises.proofs.Resolved.{read_element, reads_boundary}
+use Rattle.lisa_machine.specs.Freedom.{Stands, AllStand}
+use Rattle.lisa_machine.specs.Resolving.{IsArray, IsBoundary}
+use Rattle.lisa_machine.specs.Soundness.{IsSound}
+use Rattle.lisa_machine.proofs.Among.{among_left, among_right}
+use Rattle.lisa_machine.proofs.Resolved.{read_element, reads_boundary}
 use Rattle.step_program.specs.Programs.{Program}
 use Rattle.step_program.specs.Effects as steps
 use Rattle.typed_values.specs.Laws.{HasNumbers}
@@ -33,16 +30,16 @@ use Rattle.lisa_meaning.specs.Scenes.{Scene, running}
 use Rattle.lisa_meaning.specs.Moments.{Moment}
 use Rattle.lisa_meaning.specs.Values.{Array, Below, array_place, array_of, meant_array, named_array, field_place, reader}
 use Rattle.meaning_promises.specs.Scoping.{AreLocalsOf}
-use Rattle.lowered_values.specs.Operands.{Operand, StandsFor, IsOperand}
+use Rattle.lowered_values.specs.Operands.{StandsFor, IsOperand}
 use Rattle.lowered_values.specs.Sources.{AreSources, Mirrors}
-use Rattle.lowered_statements.specs.Scopes.{Scope, Names, names_of}
+use Rattle.lowered_statements.specs.Scopes.{Scope, names_of}
 use Rattle.lowered_statements.specs.Agreement.{IsLocal}
 use Rattle.lowered_resources.specs.Places.{Places, IsThere}
 use Rattle.lowered_resources.specs.Reading.{Known, sources}
 use Rattle.lowered_resources.specs.Laws.{IsDeclared, ReadResources, FormResources}
 use Rattle.lowered_resources.proofs.Standing.{stage_low, field_low}
 use Rattle.lowered_behaviors.specs.Values.{names_in}
-use Rattle.lowered_behaviors.specs.Agreement.{IsNamed, AreNames}
+use Rattle.lowered_behaviors.specs.Agreement.{AreNames}
 use Rattle.lowered_behaviors.proofs.Prepared.{Among, among_first, among_second}
 
 -- ---- locals

@@ -1,5 +1,5 @@
 -- A behaviour of an accepted description has said what is needed of each of its statements.
-use Rattle.std.proofs.Common.{◌≡◌, ◌<◌, ◌≤◌, ◌+◌, ◌++◌, ◌∙◌, ℕ, Bool, true, false, cond, List, [], ◌∷◌, Option, None, Some, refl, sym, ap, subst, inl, inr}
+use Rattle.std.proofs.Common.{◌≡◌, ◌≤◌, ◌++◌, ◌∙◌, ℕ, Bool, true, false, cond, List, [], ◌∷◌, Option, None, Some, refl, sym, ap, subst, inl, inr}
 use Rattle.std.specs.Option.{is_some}
 use Rattle.lisa_tree.specs.declared.tokens.Shape.{Shape}
 use Rattle.lisa_tree.specs.Expressions.{ExprTree}
@@ -11,14 +11,14 @@ use Rattle.description_places.specs.declared.sites.Region.TheVariants as regions
 use Rattle.description_places.specs.Scopes.{Scope, local_named, entered}
 use Rattle.description_places.specs.Places as marks
 use Rattle.description_places.specs.Places.{at, uses, targets, uses_of_value, with_counter, with_counted, head_places, after, places, all_places}
-use Rattle.description_names.specs.Same.{same_name}
-use Rattle.description_promises.specs.Freedom.{Stands, AllStand}
-use Rattle.description_promises.specs.Running.{FitsLoop}
-use Rattle.description_promises.specs.Soundness.{IsSound}
-use Rattle.description_promises.proofs.Among.{among_left, among_right}
-use Rattle.description_promises.proofs.Distinct.{local_fresh, counter_fresh}
-use Rattle.description_promises.proofs.Forward.{loop_fits}
-use Rattle.description_promises.proofs.Resolved.{local_wide, counter_wide}
+use Rattle.lisa_tree.specs.Same.{same_name}
+use Rattle.lisa_machine.specs.Freedom.{Stands, AllStand}
+use Rattle.lisa_machine.specs.Running.{FitsLoop}
+use Rattle.lisa_machine.specs.Soundness.{IsSound}
+use Rattle.lisa_machine.proofs.Among.{among_left, among_right}
+use Rattle.lisa_machine.proofs.Distinct.{local_fresh, counter_fresh}
+use Rattle.lisa_machine.proofs.Forward.{loop_fits}
+use Rattle.lisa_machine.proofs.Resolved.{local_wide, counter_wide}
 use Rattle.typed_values.specs.Laws.{HasNumbers}
 use Rattle.meaning_promises.proofs.Typed.{same_width}
 use Rattle.lowered_statements.specs.Scopes.{Names, IsNew}

@@ -1,11 +1,11 @@
 -- An expression has its value wherever something runs.
-use Rattle.std.proofs.Common.{◌≡◌, ◌≤◌, ℕ, suc, List, [], ◌∷◌, Option, sym, subst, arith}
+use Rattle.std.proofs.Common.{ℕ, suc, List, [], ◌∷◌, sym, subst, arith}
 use Rattle.std.specs.List.{AllZip}
 use Rattle.lisa_tree.specs.Expressions.{ExprTree}
 use Rattle.description_places.specs.declared.sites.Region.{Region}
 use Rattle.description_places.specs.Scopes as places
 use Rattle.description_places.specs.Places.{uses}
-use Rattle.description_promises.specs.Freedom.{AllStand}
+use Rattle.lisa_machine.specs.Freedom.{AllStand}
 use Rattle.description_sizes.specs.Texts.{levels}
 use Rattle.step_program.specs.Programs.{Program}
 use Rattle.step_program.specs.Effects as steps
@@ -25,7 +25,7 @@ use Rattle.lowered_behaviors.specs.Values.{Ground, value_within}
 use Rattle.lowered_behaviors.specs.Agreement.{IsLink, IsScene, HoldsIn, AreNames}
 use Rattle.lowered_behaviors.specs.Laws.{IsGround}
 use Rattle.lowered_behaviors.proofs.Kept.{its_sound}
-use Rattle.lowered_behaviors.proofs.Evaluating.{IsHere, evaluates}
+use Rattle.lowered_behaviors.proofs.Evaluating.{evaluates}
 
 module _ (g : Ground) (p : Program) (before pins : List ℕ) (first lasts : ℕ) (ground : IsGround g p first lasts) where
   pub value_stands : (standpoint : Standpoint) (scene : Scene) (region : Region) (scope : Scope) (standing : places.Scope) (from : ℕ) (e : ExprTree) (m : Moment) (now : steps.Moment)

@@ -1,5 +1,5 @@
 -- When something runs in a scene as it is lowered at a standpoint. On the way to the program: nothing here needs to be trusted.
-use Rattle.std.specs.Prelude.{ℕ, ◌≡◌, ◌<◌, ◌^◌, List, [], ◌∷◌, Option, None, Some, ⊤}
+use Rattle.std.specs.Prelude.{ℕ, ◌≡◌, ◌<◌, ◌^◌, List, Option, None, Some, ⊤}
 use Rattle.std.specs.List.{AllZip}
 use Rattle.std.specs.Option.{option_and_then}
 use Rattle.lisa_tree.specs.declared.tokens.Shape.{Shape}
@@ -7,12 +7,12 @@ use Rattle.lisa_tree.specs.Expressions.{ExprTree}
 use Rattle.lisa_tree.specs.Statements as stmts
 use Rattle.lisa_tree.specs.Statements.{StmtTree, StmtTrees}
 use Rattle.lisa_tree.specs.Descriptions.{DescriptionTree}
-use Rattle.description_names.specs.Operations.{sections_at, behavior_in}
+use Rattle.lisa_tree.specs.Operations.{sections_at, behavior_in}
 use Rattle.description_places.specs.declared.scopes.Local.{Local}
 use Rattle.description_places.specs.declared.sites.Region.{Region}
-use Rattle.description_places.specs.Places.{at, uses, targets, Calls, Stalls, Flushes}
+use Rattle.description_places.specs.Places.{uses, targets}
 use Rattle.description_places.specs.Scopes.{Scope}
-use Rattle.description_promises.specs.Freedom.{Stands, AllStand}
+use Rattle.lisa_machine.specs.Freedom.{AllStand}
 use Rattle.instruction_forms.specs.Trees.{FormTree}
 use Rattle.step_program.specs.Programs.{Program}
 use Rattle.step_program.specs.Effects as steps
@@ -20,11 +20,10 @@ use Rattle.typed_values.specs.Laws.{HasNumbers}
 use Rattle.lisa_meaning.specs.Moments.{Moment}
 use Rattle.lisa_meaning.specs.Scenes.{Link, Scene, instruction_with}
 use Rattle.lowered_statements.specs.Scopes.{Names}
-use Rattle.lowered_statements.specs.Typed.{Rules}
 use Rattle.lowered_resources.specs.Holding.{Holds}
 use Rattle.lowered_words.specs.Ways.{Way, part_by}
 use Rattle.lowered_words.specs.Rows.{HasRow}
-use Rattle.lowered_behaviors.specs.Standpoints.{Level, Standpoint, running}
+use Rattle.lowered_behaviors.specs.Standpoints.{Level, Standpoint}
 use Rattle.lowered_behaviors.specs.Values.{Ground}
 
 -- ---- scenes

@@ -10,17 +10,16 @@ use Rattle.machine_parts.specs.Parts.{registers_of}
 use Rattle.step_program.specs.Programs.{Program, Expr}
 use Rattle.step_program.specs.Effects as steps
 use Rattle.typed_values.specs.Laws.{HasNumbers}
-use Rattle.lisa_meaning.specs.Moments.{Moment, with_locals}
+use Rattle.lisa_meaning.specs.Moments.{Moment}
 use Rattle.lisa_meaning.specs.Scenes.{Link, Scene}
 use Rattle.lisa_meaning.specs.Values.{value_of}
 use Rattle.lisa_meaning.specs.Effects.{doing, run_behavior}
 use Rattle.meaning_promises.specs.Running.{Runs}
 use Rattle.meaning_promises.specs.Fitting.{HaveNumbers}
 use Rattle.step_pieces.specs.Pieces.{IsScratch}
-use Rattle.step_pieces.specs.Running.{ran, Rests, HasTemps}
+use Rattle.step_pieces.specs.Running.{ran, HasTemps}
 use Rattle.step_pieces.specs.Formed.{Lies, IsPiece}
 use Rattle.lowered_values.specs.Operands.{StandsFor}
-use Rattle.lowered_values.specs.Computed.{IsComputed}
 use Rattle.lowered_statements.specs.Scopes.{Scope, names_of, IsScope}
 use Rattle.lowered_statements.specs.Agreement.{Agrees, Spares, IsGuard, Idles}
 use Rattle.lowered_resources.specs.Places.{ArePlaced}

@@ -3,3 +3,6 @@ pub mod Values
 pub mod Behaviors
 pub mod Agreement
 pub mod Laws
+pub mod Settled
+pub mod Positions
+pub mod Code

@@ -2,8 +2,8 @@
 use Rattle.std.specs.Prelude.{ℕ, List, [], ◌∷◌, Option, None, Some, cond, map, slice_get}
 use Rattle.std.specs.Option.{option_to_list}
 use Rattle.lisa_tree.specs.Descriptions.{DescriptionTree}
-use Rattle.description_names.specs.Operations.{sections_at, coding_in}
-use Rattle.description_names.specs.Declarations.{is_reference}
+use Rattle.lisa_tree.specs.Operations.{sections_at, coding_in}
+use Rattle.lisa_tree.specs.Declarations.{is_reference}
 use Rattle.coded_names.specs.Codings.{names_instructions}
 use Rattle.activation_trees.specs.Starting.{plain_named}
 use Rattle.lisa_forms.specs.Choosing.{child_place}

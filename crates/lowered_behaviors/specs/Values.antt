@@ -1,5 +1,5 @@
 -- Expressions with the names that their operations declare. On the way to the program: nothing here needs to be trusted.
-use Rattle.std.specs.Prelude.{ℕ, zero, suc, List, [], ◌∷◌, ◌++◌, Option, None, Some, cond, slice_get}
+use Rattle.std.specs.Prelude.{ℕ, zero, suc, List, [], ◌∷◌, ◌++◌, Option, None, Some, cond}
 use Rattle.std.specs.Option.{is_some}
 use Rattle.std.specs.Map.{lookup}
 use Rattle.lisa_words.specs.declared.words.Kind.TheVariants.{Unsigned}
@@ -7,11 +7,11 @@ use Rattle.lisa_tree.specs.declared.tokens.Shape.{Shape}
 use Rattle.lisa_tree.specs.Expressions as exprs
 use Rattle.lisa_tree.specs.Expressions.{ExprTree}
 use Rattle.lisa_tree.specs.Descriptions.{DescriptionTree}
-use Rattle.description_names.specs.declared.declared.Meaning.{Meaning}
-use Rattle.description_names.specs.declared.declared.Meaning.TheVariants as meanings
-use Rattle.description_names.specs.Same.{same_name}
-use Rattle.description_names.specs.Meanings.{meaning}
-use Rattle.description_names.specs.Operations.{sections_at, expression_in}
+use Rattle.lisa_tree.specs.declared.declared.Meaning.{Meaning}
+use Rattle.lisa_tree.specs.declared.declared.Meaning.TheVariants as meanings
+use Rattle.lisa_tree.specs.Same.{same_name}
+use Rattle.lisa_tree.specs.Meanings.{meaning}
+use Rattle.lisa_tree.specs.Operations.{sections_at, expression_in}
 use Rattle.description_types.specs.Types.{Types, meant_type}
 use Rattle.step_program.specs.Programs.{Expr, Const, Temp, ToTemp}
 use Rattle.lisa_meaning.specs.Scenes.{declared, is_label}

@@ -1,5 +1,5 @@
 -- The BEHAVIOR of an occurrence does in its scene what it does in the core.
-use Rattle.std.proofs.Common.{◌≡◌, ◌<◌, ◌≤◌, ◌∙◌, ◌||◌, ℕ, suc, Bool, true, false, cond, List, [], Option, None, Some, length, refl, sym, ap, ap₂, subst, arith, ⊎_elim}
+use Rattle.std.proofs.Common.{◌≡◌, ◌<◌, ◌≤◌, ◌+◌, ◌∙◌, ◌||◌, ◌⊎◌, ℕ, suc, Bool, true, false, cond, List, [], ◌∷◌, Option, None, Some, length, refl, sym, ap, ap₂, subst, arith, ⊎_elim}
 use Rattle.std.specs.Prelude.{slice_get, is_some, option_map, if◌then◌else◌}
 use Rattle.std.specs.Option.{option_and_then, option_map_or}
 use Rattle.std.proofs.lemmas.Bool.{both_ways}
@@ -8,10 +8,10 @@ use Rattle.lisa_tree.specs.Descriptions.{DescriptionTree}
 use Rattle.lisa_machine.specs.Verdicts.{IsAccepted}
 use Rattle.lisa_forms.specs.Verdicts.{HasForms}
 use Rattle.description_types.specs.Types.{Types}
-use Rattle.description_names.specs.Operations.{is_root}
+use Rattle.lisa_tree.specs.Operations.{is_root}
 use Rattle.description_sizes.specs.Texts.{levels}
-use Rattle.description_promises.proofs.Forward.{onward, main_is}
-use Rattle.description_promises.proofs.Sound.{sound}
+use Rattle.lisa_machine.proofs.Forward.{onward, main_is}
+use Rattle.lisa_machine.proofs.Sound.{sound}
 use Rattle.activation_trees.specs.declared.parts.Occurrence.{Occurrence}
 use Rattle.activation_trees.specs.Unfolding.{occurrences}
 use Rattle.pipeline_time.specs.Acts.{size}
@@ -19,6 +19,7 @@ use Rattle.pipeline_time.specs.Cores.{is_past}
 use Rattle.step_program.specs.Programs.{Program, Expr}
 use Rattle.step_program.specs.Effects as steps
 use Rattle.step_program.specs.Effects.{value}
+use Rattle.step_pieces.specs.Pieces.{always}
 use Rattle.step_pieces.specs.Running.{ran, IsLow}
 use Rattle.step_pieces.specs.Formed.{Lies}
 use Rattle.lisa_meaning.specs.Scenes.{has_word, instruction_with, scene_of}

@@ -1,5 +1,5 @@
 -- The condition of an `if` of an occurrence.
-use Rattle.std.proofs.Common.{◌≡◌, ◌++◌, ℕ, zero, suc, List, [], ◌∷◌, Option, None, Some, refl, subst}
+use Rattle.std.proofs.Common.{◌≡◌, ◌<◌, ◌≤◌, ◌+◌, ◌++◌, ◌∙◌, ℕ, zero, suc, List, [], ◌∷◌, Option, None, Some, refl, subst}
 use Rattle.std.specs.Prelude.{slice_get}
 use Rattle.std.specs.List.{AllByRecursion}
 use Rattle.std.proofs.lemmas.Option.{same_Some}
@@ -9,11 +9,11 @@ use Rattle.lisa_tree.specs.Activations.{ActTree, ActTrees}
 use Rattle.lisa_tree.specs.Descriptions.{DescriptionTree}
 use Rattle.description_places.specs.declared.sites.Region.TheVariants as regions
 use Rattle.description_places.specs.Places.{At, uses, act_places, acts_places}
-use Rattle.description_names.specs.Operations.{sections_at, activation_in}
-use Rattle.description_promises.specs.Freedom.{AllStand}
-use Rattle.description_promises.proofs.Among.{among_left, among_right}
-use Rattle.description_promises.proofs.Standing.{activation_stand}
-use Rattle.lisa_meaning.specs.Cores.{item_conditions, items_conditions, conditions_in}
+use Rattle.lisa_tree.specs.Operations.{sections_at, activation_in}
+use Rattle.lisa_machine.specs.Freedom.{AllStand}
+use Rattle.lisa_machine.proofs.Among.{among_left, among_right}
+use Rattle.lisa_machine.proofs.Standing.{activation_stand}
+use Rattle.lisa_meaning.specs.Cores.{item_conditions, items_conditions, conditions_in, condition}
 
 module _ (d : DescriptionTree) (o : ℕ) where
   abbrev AreReads : List ExprTree → Type 0

@@ -1,5 +1,5 @@
 -- The piece of the root's word leaves what is held as it was, and its operand has the word.
-use Rattle.std.proofs.Common.{◌≡◌, ◌<◌, ◌≤◌, ◌+◌, ◌^◌, ◌∙◌, ℕ, zero, suc, List, [], Option, None, Some, length, refl, sym, ap, subst}
+use Rattle.std.proofs.Common.{◌≡◌, ◌<◌, ◌≤◌, ◌+◌, ◌^◌, ◌%◌, ◌∙◌, ℕ, zero, suc, List, [], ◌∷◌, Option, None, Some, length, refl, sym, ap, subst}
 use Rattle.std.specs.Prelude.{option_map}
 use Rattle.std.specs.Option.{option_or}
 use Rattle.std.specs.List.{AllByRecursion}
@@ -10,15 +10,15 @@ use Rattle.lisa_tree.specs.Expressions as exprs
 use Rattle.lisa_tree.specs.Expressions.{ExprTree}
 use Rattle.lisa_tree.specs.Descriptions as trees
 use Rattle.lisa_tree.specs.Descriptions.{CodingTree, DescriptionTree}
-use Rattle.description_names.specs.declared.declared.Meaning.TheVariants as meanings
-use Rattle.description_names.specs.Meanings.{meaning, meaning_of}
-use Rattle.description_names.specs.Resources.{resource_at}
-use Rattle.description_names.specs.Operations.{sections_at, coding_in}
+use Rattle.lisa_tree.specs.declared.declared.Meaning.TheVariants as meanings
+use Rattle.lisa_tree.specs.Meanings.{meaning, meaning_of}
+use Rattle.lisa_tree.specs.Resources.{resource_at}
+use Rattle.lisa_tree.specs.Operations.{sections_at, coding_in}
 use Rattle.description_types.specs.Types.{Types}
-use Rattle.description_promises.specs.Codings.{FitsWord, FitsCoding, IsScalar}
-use Rattle.description_promises.proofs.Fitting.{coding_fits}
-use Rattle.description_promises.proofs.Standing.{coding_stand}
-use Rattle.description_promises.proofs.Sound.{sound}
+use Rattle.lisa_machine.specs.Codings.{FitsWord, FitsCoding, IsScalar}
+use Rattle.lisa_machine.proofs.Fitting.{coding_fits}
+use Rattle.lisa_machine.proofs.Standing.{coding_stand}
+use Rattle.lisa_machine.proofs.Sound.{sound}
 use Rattle.coding_tables.specs.Instructions.{Root, root, root_group, root_from, first_root, choice_of_root, instruction_choice}
 use Rattle.coding_checks.specs.Widths.{choice_named}
 use Rattle.instruction_forms.specs.Widths.{HasWidth}

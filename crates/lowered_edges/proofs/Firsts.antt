@@ -1,5 +1,5 @@
 -- What a description's program holds first is what its hardware has.
-use Rattle.std.proofs.Common.{◌≡◌, ◌<◌, ◌≤◌, ◌+◌, ◌-◌, ◌∙◌, ℕ, zero, suc, List, [], ◌∷◌, Option, length, map, get_or, refl, sym, ap, arith}
+use Rattle.std.proofs.Common.{◌≡◌, ◌<◌, ◌≤◌, ◌+◌, ◌-◌, ◌∙◌, ℕ, zero, suc, List, [], ◌∷◌, ◌++◌, Option, length, map, get_or, refl, sym, ap, arith}
 use Rattle.std.proofs.lemmas.List.{length-append, length-map, get_or_append_left, get_or-append-add}
 use Rattle.lisa_tree.specs.Descriptions.{DescriptionTree}
 use Rattle.lisa_engine.specs.declared.parts.Item.{Item}
@@ -26,7 +26,7 @@ use Rattle.lowered_edges.proofs.Moments.{behind_registers}
 abbrev no_value : {X : Type 0} → X → ℕ
 no_value x = 0
 
-zeros : {X : Type 0} (xs : List X) (k : ℕ) → get_or (map no_value xs) k 0 ≡ 0
+zeros : {X : Type 0} (xs : List X) (k : ℕ) → get_or (map (no_value {X = X}) xs) k 0 ≡ 0
 zeros [] k = refl
 zeros (x ∷ xs) zero = refl
 zeros (x ∷ xs) (suc k) = zeros xs k
@@ -39,7 +39,7 @@ module _ (d : DescriptionTree) (types : Types) (declared : Option ℕ) (arranged
   first = (edge_program d types declared).first
 
   abbrev rest : List ℕ
-  rest = map no_value behind
+  rest = map (λ item. 0) behind
 
   pub register_first : (k : ℕ) → k < length (registers_of d) → get_or first k 0 ≡ get_or (first_values d) k 0
   register_first k low = let count = registers_counted d in get_or_append_left (first_values d) rest 0 k (omega (arith, low, count))
@@ -56,7 +56,7 @@ module _ (d : DescriptionTree) (types : Types) (declared : Option ℕ) (arranged
   first_long =
       let count = registers_counted d in
       let mine = length-append (first_values d) rest in
-      let zero_count = length-map behind no_value in
+      let zero_count = length-map {B = ℕ} behind (λ (item : Item). 0) in
       let all = length-append (registers_of d) behind in
       omega (arith, count, mine, zero_count, all)
 

@@ -1,5 +1,5 @@
 -- The steps of a description's program are well formed.
-use Rattle.std.proofs.Common.{◌≡◌, ◌<◌, ◌+◌, ◌-◌, ◌*◌, ◌^◌, ⊎_elim, ℕ, zero, suc, List, [], ◌∷◌, ◌++◌, Option, length, get_or, replicate, sym, subst, arith}
+use Rattle.std.proofs.Common.{◌≡◌, ◌<◌, ◌≤◌, ◌+◌, ◌-◌, ◌*◌, ◌^◌, ⊎_elim, ℕ, zero, suc, List, [], ◌∷◌, ◌++◌, Option, length, get_or, replicate, sym, subst, arith}
 use Rattle.std.specs.Prelude.{All}
 use Rattle.std.specs.List.{flat_map, range_with_len}
 use Rattle.std.proofs.lemmas.Bool.{cases_lt}
@@ -7,13 +7,13 @@ use Rattle.std.proofs.lemmas.Nat.{pow_pos}
 use Rattle.std.proofs.lemmas.List.{length-replicate, get_or-replicate, get_or_append_left}
 use Rattle.std.proofs.lemmas.List.Elements.{All-append}
 use Rattle.lisa_tree.specs.Descriptions.{DescriptionTree}
-use Rattle.description_names.specs.Resources.{stages, fields}
+use Rattle.lisa_tree.specs.Resources.{stages, fields}
 use Rattle.description_types.specs.Types.{Types}
 use Rattle.lisa_engine.specs.Shape.{IsFitting}
 use Rattle.lisa_engine.specs.declared.parts.Item.{Item}
 use Rattle.lisa_machine.specs.Verdicts.{IsAccepted}
 use Rattle.lisa_machine.specs.Machines.{IsSpelled}
-use Rattle.description_promises.proofs.Sound.{sound}
+use Rattle.lisa_machine.proofs.Sound.{sound}
 use Rattle.use_promises.proofs.Shown.{shown_fits}
 use Rattle.machine_parts.specs.Parts.{registers_of}
 use Rattle.machine_parts.proofs.Fitting.{firsts_fit}

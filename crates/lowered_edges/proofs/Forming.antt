@@ -1,14 +1,14 @@
 -- The parts of a description are well formed.
-use Rattle.std.proofs.Common.{◌≡◌, ◌<◌, ◌≤◌, ◌∙◌, ℕ, suc, [], ◌∷◌, Option, None, Some, length, refl, sym, subst, arith}
+use Rattle.std.proofs.Common.{◌≡◌, ◌<◌, ◌≤◌, ◌+◌, ◌^◌, ◌∙◌, ℕ, suc, [], ◌∷◌, Option, None, Some, length, refl, sym, subst, arith}
 use Rattle.std.specs.Prelude.{slice_get}
 use Rattle.std.proofs.lemmas.Nat.{pow_pos}
 use Rattle.lisa_tree.specs.Expressions as exprs
 use Rattle.lisa_tree.specs.Expressions.{ExprTree}
 use Rattle.lisa_tree.specs.Descriptions.{CodingTree, DescriptionTree}
-use Rattle.description_names.specs.Operations.{sections_at, activation_in}
+use Rattle.lisa_tree.specs.Operations.{sections_at, activation_in}
 use Rattle.description_places.specs.declared.sites.Region.TheVariants as regions
 use Rattle.description_places.specs.Places.{uses}
-use Rattle.description_promises.specs.Freedom.{AllStand}
+use Rattle.lisa_machine.specs.Freedom.{AllStand}
 use Rattle.description_sizes.specs.Texts.{levels}
 use Rattle.description_types.specs.Types.{Types}
 use Rattle.coding_tables.specs.Instructions.{Root, first_root}

@@ -16,3 +16,7 @@ pub mod Made
 pub mod Firsts
 pub mod Shown
 pub mod Formed
+pub mod Lining
+pub mod Copying
+pub mod Worded
+pub mod Parting

@@ -6,7 +6,7 @@ use Rattle.std.proofs.lemmas.List.{length-map}
 use Rattle.std.proofs.Math.Nat.{mul-le-mul_right}
 use Rattle.lisa_tree.specs.Descriptions.{DescriptionTree}
 use Rattle.lisa_engine.specs.State.{State}
-use Rattle.description_names.specs.Resources.{stages}
+use Rattle.lisa_tree.specs.Resources.{stages}
 use Rattle.graph_paths.specs.Paths.{is_in}
 use Rattle.lisa_engine.specs.Shape.{IsFitting}
 use Rattle.machine_parts.specs.Parts.{pins_of, registers_of}

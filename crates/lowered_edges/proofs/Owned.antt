@@ -1,11 +1,11 @@
 -- An `if` stands among the items of its own occurrence.
-use Rattle.std.proofs.Common.{◌+◌, ℕ, zero, suc, false, List, [], ◌∷◌, Option, None, Some, refl}
+use Rattle.std.proofs.Common.{◌≡◌, ◌+◌, ℕ, zero, suc, false, List, [], ◌∷◌, Option, None, Some, refl}
 use Rattle.std.specs.Option.{option_to_list}
 use Rattle.lisa_tree.specs.Activations as items
 use Rattle.lisa_tree.specs.Activations.{ActTree, ActTrees}
 use Rattle.lisa_tree.specs.Descriptions.{DescriptionTree}
-use Rattle.description_names.specs.Operations.{number_of, sections_at, activation_in}
-use Rattle.description_names.specs.Paths.{node_count}
+use Rattle.lisa_tree.specs.Operations.{number_of, sections_at, activation_in}
+use Rattle.lisa_tree.specs.Paths.{node_count}
 use Rattle.stage_checks.specs.Controls.{main_name}
 use Rattle.activation_trees.specs.declared.parts.Occurrence.{Occurrence}
 use Rattle.activation_trees.specs.Starting.{Activated, start_of, activated_by}

@@ -1,5 +1,5 @@
 -- The states of a description's program are those of the description.
-use Rattle.std.proofs.Common.{◌≡◌, ℕ, List, [], Option, None, get_or, refl, ap₂}
+use Rattle.std.proofs.Common.{◌≡◌, ◌∙◌, ℕ, List, [], ◌∷◌, Option, None, get_or, refl, ap₂}
 use Rattle.std.specs.Prelude.{All}
 use Rattle.std.proofs.lemmas.Nat.{pow_pos}
 use Rattle.lisa_tree.specs.Descriptions.{DescriptionTree}
@@ -8,8 +8,8 @@ use Rattle.lisa_engine.specs.Memory.{Memory}
 use Rattle.lisa_engine.specs.Shape.{IsFitting}
 use Rattle.lisa_engine.specs.State.{State}
 use Rattle.description_types.specs.Types.{Types}
-use Rattle.description_promises.proofs.Sound.{sound}
-use Rattle.description_promises.proofs.Forward.{onward, main_is}
+use Rattle.lisa_machine.proofs.Sound.{sound}
+use Rattle.lisa_machine.proofs.Forward.{onward, main_is}
 use Rattle.use_promises.proofs.Shown.{shown_fits}
 use Rattle.machine_parts.specs.Parts.{arrays_of, pins_of}
 use Rattle.pipeline_time.specs.Bits.{Hardware, shown, first_hardware}

@@ -1,11 +1,11 @@
 -- What a BEHAVIOR stalls are stages, and it leaves locals as they are.
-use Rattle.std.proofs.Common.{◌≡◌, ◌<◌, ◌≤◌, ◌++◌, ℕ, zero, suc, List, [], ◌∷◌, Option, None, Some, length, refl, sym, subst, arith}
+use Rattle.std.proofs.Common.{◌≡◌, ◌<◌, ◌≤◌, ◌++◌, ◌∙◌, ℕ, zero, suc, List, [], ◌∷◌, Option, None, Some, length, refl, sym, subst, arith}
 use Rattle.std.specs.Prelude.{All}
 use Rattle.std.specs.List.{AllByRecursion}
 use Rattle.std.proofs.lemmas.List.Elements.{All-head, All-tail}
 use Rattle.lisa_tree.specs.Statements.{StmtTrees}
 use Rattle.lisa_tree.specs.Descriptions.{DescriptionTree}
-use Rattle.description_names.specs.Resources.{stages, stage_at}
+use Rattle.lisa_tree.specs.Resources.{stages, stage_at}
 use Rattle.description_sizes.specs.Texts.{levels}
 use Rattle.typed_values.proofs.Preserved.{Keeps, effects_kept}
 use Rattle.lisa_meaning.specs.Scenes.{Scene, at_path, child}

@@ -1,5 +1,5 @@
 -- The piece of a condition tells whether it holds, and leaves what is held as it was.
-use Rattle.std.proofs.Common.{◌≡◌, ◌≤◌, ◌+◌, ◌∙◌, ℕ, suc, Bool, true, false, not, cond, List, [], ◌∷◌, Option, None, Some, length, nat_eq, refl, sym, ap, subst, arith}
+use Rattle.std.proofs.Common.{◌≡◌, ◌<◌, ◌≤◌, ◌+◌, ◌++◌, ◌∙◌, ℕ, suc, Bool, true, false, not, cond, List, [], ◌∷◌, Option, None, Some, length, nat_eq, refl, sym, ap, subst, arith}
 use Rattle.std.specs.Prelude.{All, slice_get, option_map, filter_map}
 use Rattle.std.specs.List.{cons_option}
 use Rattle.std.specs.Option.{option_and_then}
@@ -8,8 +8,8 @@ use Rattle.lisa_tree.specs.Expressions.{ExprTree}
 use Rattle.lisa_tree.specs.Descriptions.{DescriptionTree}
 use Rattle.description_places.specs.declared.sites.Region.TheVariants as regions
 use Rattle.description_places.specs.Places.{uses}
-use Rattle.description_names.specs.Operations.{sections_at, activation_in}
-use Rattle.description_promises.specs.Freedom.{AllStand}
+use Rattle.lisa_tree.specs.Operations.{sections_at, activation_in}
+use Rattle.lisa_machine.specs.Freedom.{AllStand}
 use Rattle.description_sizes.specs.Texts.{levels}
 use Rattle.description_types.specs.Types.{Types}
 use Rattle.activation_trees.specs.declared.parts.Occurrence.{Occurrence}

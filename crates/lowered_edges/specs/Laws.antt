@@ -9,7 +9,7 @@ use Rattle.machine_parts.specs.Parts.{arrays_of, pins_of}
 use Rattle.pipeline_time.specs.Bits.{first_hardware}
 use Rattle.step_program.specs.Effects.{p_state}
 use Rattle.lisa_meaning.specs.States.{first_contents, shown_state, state_of}
-use Rattle.description_names.specs.Operations.{sections_at, activation_in}
+use Rattle.lisa_tree.specs.Operations.{sections_at, activation_in}
 use Rattle.description_types.specs.Types.{Types}
 use Rattle.description_types.specs.Tables.{Known, AreKinds}
 use Rattle.lisa_machine.specs.Verdicts.{IsAccepted}

@@ -1,9 +1,9 @@
 -- What the parts of a description become: the operations of `lowered_time`. On the way to the program: nothing here needs to be trusted.
-use Rattle.std.specs.Prelude.{ℕ, suc, Bool, false, [], Option, None, Some, cond, filter_map, option_map, slice_get}
+use Rattle.std.specs.Prelude.{ℕ, suc, Bool, false, [], ◌∷◌, Option, None, Some, cond, filter_map, option_map, slice_get}
 use Rattle.std.specs.Option.{option_map_or}
 use Rattle.lisa_tree.specs.Expressions.{ExprTree}
 use Rattle.lisa_tree.specs.Descriptions.{DescriptionTree}
-use Rattle.description_names.specs.Operations.{sections_at, coding_in}
+use Rattle.lisa_tree.specs.Operations.{sections_at, coding_in}
 use Rattle.description_sizes.specs.Texts.{levels}
 use Rattle.description_types.specs.Types.{Types}
 use Rattle.activation_trees.specs.Unfolding.{occurrences}

@@ -1,4 +1,4 @@
-//! What holds of the parts of a description. Each law is the contract of a function that does nothing.
+//! What holds of the parts of a description. Each law is the contract of a function that does nothing, or calls laws.
 ghost use Rattle.std.specs.Prelude.{ℕ, Option};
 ghost use Rattle.lisa_tree.specs.Descriptions.{DescriptionTree};
 ghost use Rattle.description_types.specs.Types.{Types};

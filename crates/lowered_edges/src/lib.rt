@@ -1,4 +1,12 @@
 //! The step program of a description: its parts as those that time asks for.
 #![tactic(auto)]
 
+mod edge_parts;
 pub mod laws;
+mod lines;
+mod parts;
+mod programs;
+mod roots;
+
+pub use edge_parts::EdgeParts;
+pub use programs::lower_edges;

@@ -7,7 +7,7 @@ use Rattle.std.proofs.lemmas.Bool.{cases_eq}
 use Rattle.std.proofs.lemmas.List.{length-set, get_or-set_same, get_or-set_other}
 use Rattle.std.proofs.lemmas.List.FromFn.{get_or-map-range_with_len}
 use Rattle.lisa_tree.specs.Descriptions.{DescriptionTree}
-use Rattle.description_names.specs.Resources.{stages, fields}
+use Rattle.lisa_tree.specs.Resources.{stages, fields}
 use Rattle.machine_parts.specs.Parts.{registers_of}
 use Rattle.instruction_trees.specs.Trees.{In, here, there}
 use Rattle.instruction_trees.proofs.Listing.{in_map, from_map, in_flat, from_flat}

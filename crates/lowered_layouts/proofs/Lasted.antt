@@ -3,7 +3,7 @@ use Rattle.std.proofs.Common.{◌≡◌, ◌+◌, ◌-◌, ◌*◌, ◌++◌, �
 use Rattle.std.specs.List.{flat_map, range_with_len}
 use Rattle.std.proofs.lemmas.List.{take_all}
 use Rattle.lisa_tree.specs.Descriptions.{DescriptionTree}
-use Rattle.description_names.specs.Resources.{stages}
+use Rattle.lisa_tree.specs.Resources.{stages}
 use Rattle.lowered_words.specs.Rows.{row_widths}
 use Rattle.lowered_layouts.specs.Temps.{row_count, time_widths, boundary_widths, boundaries_widths, controls_widths, rows_widths, lasting_widths}
 

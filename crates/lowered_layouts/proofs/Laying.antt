@@ -7,7 +7,7 @@ use Rattle.std.proofs.lemmas.List.{get_or-replicate}
 use Rattle.std.proofs.lemmas.Option.{same_Some, slice_get_within}
 use Rattle.lisa_tree.specs.Descriptions.{DescriptionTree}
 use Rattle.lisa_machine.specs.Verdicts.{IsAccepted}
-use Rattle.description_names.specs.Resources.{stages}
+use Rattle.lisa_tree.specs.Resources.{stages}
 use Rattle.activation_trees.specs.declared.parts.Occurrence.{Occurrence}
 use Rattle.activation_trees.specs.Unfolding.{occurrences}
 use Rattle.activation_trees.specs.Items.{stage_or_first, root_stage, is_between, has_bit}

@@ -7,12 +7,12 @@ use Rattle.std.proofs.lemmas.Option.{same_Some, slice_get_within}
 use Rattle.lisa_tree.specs.Expressions.{ExprTree}
 use Rattle.lisa_tree.specs.Descriptions as trees
 use Rattle.lisa_tree.specs.Descriptions.{CodingTree, OperationTree, DescriptionTree}
-use Rattle.description_names.specs.Operations.{sections_at, coding_in, is_root, operation_at}
-use Rattle.description_promises.specs.Codings.{FitsCoding}
-use Rattle.description_promises.specs.Declaring.{IsGroup}
-use Rattle.description_promises.proofs.Fitting.{coding_fits}
-use Rattle.description_promises.proofs.Standing.{coding_stand}
-use Rattle.description_promises.proofs.Sound.{sound}
+use Rattle.lisa_tree.specs.Operations.{sections_at, coding_in, is_root, operation_at}
+use Rattle.lisa_machine.specs.Codings.{FitsCoding}
+use Rattle.lisa_machine.specs.Declaring.{IsGroup}
+use Rattle.lisa_machine.proofs.Fitting.{coding_fits}
+use Rattle.lisa_machine.proofs.Standing.{coding_stand}
+use Rattle.lisa_machine.proofs.Sound.{sound}
 use Rattle.coding_checks.specs.Widths.{choice_named}
 use Rattle.coding_tables.specs.Instructions.{Root, root, root_group, root_at, root_from, first_root, choice_of_root, instruction_choice}
 use Rattle.lisa_machine.specs.Verdicts.{IsAccepted}

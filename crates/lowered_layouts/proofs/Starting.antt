@@ -8,7 +8,7 @@ use Rattle.std.proofs.lemmas.List.FromFn.{length-range_with_len, get_or-map-rang
 use Rattle.lisa_tree.specs.Descriptions.{DescriptionTree}
 use Rattle.lisa_engine.specs.State.{State}
 use Rattle.lisa_engine.specs.Shape.{IsFitting}
-use Rattle.description_names.specs.Resources.{stages, fields}
+use Rattle.lisa_tree.specs.Resources.{stages, fields}
 use Rattle.machine_parts.specs.Parts.{pins_of, registers_of}
 use Rattle.step_program.specs.Programs.{Program}
 use Rattle.step_program.specs.Effects.{begun}

@@ -8,7 +8,7 @@ use Rattle.std.proofs.lemmas.Option.{same_Some}
 use Rattle.lisa_tree.specs.declared.tokens.Shape.{Shape}
 use Rattle.lisa_tree.specs.Descriptions.{DescriptionTree}
 use Rattle.lisa_engine.specs.declared.parts.Item.{Item}
-use Rattle.description_names.specs.Resources.{stages, fields}
+use Rattle.lisa_tree.specs.Resources.{stages, fields}
 use Rattle.machine_parts.specs.Parts.{registers_of}
 use Rattle.activation_trees.specs.declared.parts.Occurrence.{Occurrence}
 use Rattle.activation_trees.specs.Unfolding.{occurrences}

@@ -2,7 +2,7 @@
 use Rattle.std.specs.Prelude.{ℕ, zero, suc, List, length, map}
 use Rattle.std.specs.List.{flat_map, range_with_len}
 use Rattle.lisa_tree.specs.Descriptions.{DescriptionTree}
-use Rattle.description_names.specs.Resources.{fields}
+use Rattle.lisa_tree.specs.Resources.{fields}
 use Rattle.step_program.specs.Programs.{Expr, Const, Before, Temp, Choose, ToItem, Move}
 use Rattle.step_pieces.specs.Pieces.{Builder, always}
 use Rattle.lowered_time.specs.Pieces.{steps, given}

@@ -2,7 +2,7 @@
 use Rattle.std.specs.Prelude.{ℕ, ◌≡◌, ◌↔◌, ◌<◌, ◌≤◌, true, false, cond, List, [], Option, Some, length, slice_index, slice_index_or}
 use Rattle.lisa_tree.specs.Descriptions.{DescriptionTree}
 use Rattle.lisa_machine.specs.Verdicts.{IsAccepted}
-use Rattle.description_names.specs.Resources.{stages}
+use Rattle.lisa_tree.specs.Resources.{stages}
 use Rattle.lisa_engine.specs.Memory.{Memory}
 use Rattle.lisa_engine.specs.Shape.{IsFitting}
 use Rattle.lisa_engine.specs.State.{State}

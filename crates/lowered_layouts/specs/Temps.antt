@@ -3,7 +3,7 @@
 use Rattle.std.specs.Prelude.{ℕ, suc, ◌+◌, ◌-◌, ◌*◌, List, [], ◌∷◌, ◌++◌, length, replicate}
 use Rattle.std.specs.List.{flat_map, range_with_len}
 use Rattle.lisa_tree.specs.Descriptions.{DescriptionTree}
-use Rattle.description_names.specs.Resources.{stages, fields}
+use Rattle.lisa_tree.specs.Resources.{stages, fields}
 use Rattle.lisa_meaning.specs.Cores.{core_of}
 use Rattle.lowered_time.specs.Building.{time_temps}
 use Rattle.lowered_resources.specs.Places.{Lasting, Written, Out, Stall, Flush, field_width}

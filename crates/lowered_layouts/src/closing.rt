@@ -1,7 +1,7 @@
 //! The steps that close the boundaries as an edge ends.
 
 ghost use Rattle.std.specs.Prelude.{◌≡◌, ◌<◌, ◌+◌, ◌∷◌, [], length, IfOk, OnOk};
-ghost use Rattle.description_names.specs.Resources.{stages};
+ghost use Rattle.lisa_tree.specs.Resources.{stages};
 ghost use Rattle.step_program.specs.Programs.{Const, Choose, ToItem, expr_tree};
 ghost use Rattle.step_pieces.specs.Pieces.{always};
 ghost use Rattle.step_pieces.specs.Drafts.{leaf_tree};

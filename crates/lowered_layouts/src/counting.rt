@@ -3,7 +3,7 @@
 
 ghost use Rattle.std.specs.Prelude.{◌≡◌, length, map};
 ghost use Rattle.lisa_tree.specs.Descriptions.{resource_tree};
-ghost use Rattle.description_names.specs.Resources.{stages_in, fields_in};
+ghost use Rattle.lisa_tree.specs.Resources.{stages_in, fields_in};
 
 use lisa_tree::Resource;
 

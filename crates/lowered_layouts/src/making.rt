@@ -3,7 +3,7 @@
 ghost use Rattle.std.specs.Prelude.{◌≡◌, ◌+◌, ◌-◌, ◌*◌, length, IfOk};
 ghost use Rattle.indexmap.specs.IndexMap.{get};
 ghost use Rattle.lisa_tree.specs.Descriptions.{description_tree};
-ghost use Rattle.description_names.specs.Resources as resources;
+ghost use Rattle.lisa_tree.specs.Resources as resources;
 ghost use Rattle.item_layouts.specs.Layouts.{place_of};
 ghost use Rattle.lisa_forms.specs.Parts.{AreFormsOf};
 ghost use Rattle.lisa_meaning.specs.States.{layout_of};

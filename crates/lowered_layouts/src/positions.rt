@@ -2,7 +2,7 @@
 
 ghost use Rattle.std.specs.Prelude.{◌≡◌, length};
 ghost use Rattle.indexmap.specs.IndexMap.{get};
-ghost use Rattle.description_names.specs.Resources as resources;
+ghost use Rattle.lisa_tree.specs.Resources as resources;
 ghost use Rattle.item_layouts.specs.Layouts.{place_of};
 ghost use Rattle.lisa_meaning.specs.States.{layout_of};
 ghost use Rattle.scene_paths.specs.Lookups.{tree_of};

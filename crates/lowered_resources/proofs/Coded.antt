@@ -9,7 +9,7 @@ use Rattle.lisa_tree.specs.declared.descriptions.RegisterWord.{RegisterWord}
 use Rattle.lisa_tree.specs.Descriptions as trees
 use Rattle.lisa_tree.specs.Descriptions.{ResourceTree, DescriptionTree}
 use Rattle.lisa_machine.specs.Verdicts.{IsAccepted}
-use Rattle.description_promises.specs.Resolving.{IsWidth, FitsResource}
+use Rattle.lisa_machine.specs.Resolving.{IsWidth, FitsResource}
 use Rattle.machine_parts.specs.Parts.{arrays_of}
 use Rattle.lisa_meaning.specs.Values.{register_place, pin_place, named_array, shape_at}
 use Rattle.scene_paths.specs.declared.array.Array.{Array}

@@ -5,14 +5,14 @@ use Rattle.std.specs.Map.{lookup}
 use Rattle.lisa_tree.specs.declared.tokens.Shape.{Shape}
 use Rattle.lisa_tree.specs.Descriptions as trees
 use Rattle.lisa_tree.specs.Descriptions.{ResourceTree, DescriptionTree}
-use Rattle.description_names.specs.declared.declared.Meaning.{Meaning}
-use Rattle.description_names.specs.declared.declared.Meaning.TheVariants as meanings
-use Rattle.description_names.specs.Same.{same_name}
-use Rattle.description_names.specs.Resources.{stage_at}
-use Rattle.description_names.specs.Operations.{own_stage}
-use Rattle.description_names.specs.Meanings.{meaning}
+use Rattle.lisa_tree.specs.declared.declared.Meaning.{Meaning}
+use Rattle.lisa_tree.specs.declared.declared.Meaning.TheVariants as meanings
+use Rattle.lisa_tree.specs.Same.{same_name}
+use Rattle.lisa_tree.specs.Resources.{stage_at}
+use Rattle.lisa_tree.specs.Operations.{own_stage}
+use Rattle.lisa_tree.specs.Meanings.{meaning}
 use Rattle.lisa_machine.specs.Verdicts.{IsAccepted}
-use Rattle.description_promises.specs.Resolving.{FitsResource}
+use Rattle.lisa_machine.specs.Resolving.{FitsResource}
 use Rattle.machine_parts.specs.Parts.{item, pin_in, register_in}
 use Rattle.step_program.specs.Programs.{Program, Before}
 use Rattle.lisa_meaning.specs.Values.{Array, register_place, pin_place, named_array, field_place, shape_at, stage_before}

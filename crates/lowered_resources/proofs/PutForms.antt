@@ -7,13 +7,13 @@ use Rattle.lisa_tree.specs.Expressions as exprs
 use Rattle.lisa_tree.specs.Expressions.{ExprTree}
 use Rattle.lisa_tree.specs.Descriptions as trees
 use Rattle.lisa_tree.specs.Descriptions.{ResourceTree, DescriptionTree}
-use Rattle.description_names.specs.declared.declared.Meaning.{Meaning}
-use Rattle.description_names.specs.declared.declared.Meaning.TheVariants as meanings
-use Rattle.description_names.specs.Same.{same_name}
-use Rattle.description_names.specs.Operations.{own_stage}
-use Rattle.description_names.specs.Meanings.{meaning}
+use Rattle.lisa_tree.specs.declared.declared.Meaning.{Meaning}
+use Rattle.lisa_tree.specs.declared.declared.Meaning.TheVariants as meanings
+use Rattle.lisa_tree.specs.Same.{same_name}
+use Rattle.lisa_tree.specs.Operations.{own_stage}
+use Rattle.lisa_tree.specs.Meanings.{meaning}
 use Rattle.lisa_machine.specs.Verdicts.{IsAccepted}
-use Rattle.description_promises.specs.Resolving.{FitsResource}
+use Rattle.lisa_machine.specs.Resolving.{FitsResource}
 use Rattle.machine_parts.specs.Parts.{item, register_in}
 use Rattle.step_program.specs.Programs.{Program, Expr, Aim, ToItem, ToTemp, ToCell, Move}
 use Rattle.step_program.specs.WellFormed.{IsWidth, IsAimed}

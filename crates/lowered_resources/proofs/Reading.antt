@@ -9,21 +9,21 @@ use Rattle.lisa_tree.specs.Descriptions as trees
 use Rattle.lisa_tree.specs.Descriptions.{ResourceTree, DescriptionTree}
 use Rattle.lisa_engine.specs.declared.parts.ArrayItem.{ArrayItem}
 use Rattle.lisa_engine.specs.Shape.{AreCells}
-use Rattle.description_names.specs.declared.declared.Meaning.{Meaning}
-use Rattle.description_names.specs.declared.declared.Meaning.TheVariants as meanings
-use Rattle.description_names.specs.Same.{same_name}
-use Rattle.description_names.specs.Resources.{stage_at}
-use Rattle.description_names.specs.Operations.{own_stage}
-use Rattle.description_names.specs.Meanings.{meaning}
+use Rattle.lisa_tree.specs.declared.declared.Meaning.{Meaning}
+use Rattle.lisa_tree.specs.declared.declared.Meaning.TheVariants as meanings
+use Rattle.lisa_tree.specs.Same.{same_name}
+use Rattle.lisa_tree.specs.Resources.{stage_at}
+use Rattle.lisa_tree.specs.Operations.{own_stage}
+use Rattle.lisa_tree.specs.Meanings.{meaning}
 use Rattle.lisa_machine.specs.Verdicts.{IsAccepted}
-use Rattle.description_promises.proofs.Sound.{sound}
+use Rattle.lisa_machine.proofs.Sound.{sound}
 use Rattle.machine_parts.specs.Parts.{item, arrays_of, pin_in, register_in, registers_of}
 use Rattle.step_program.specs.Programs.{Program, Before}
 use Rattle.step_program.specs.Effects as steps
 use Rattle.typed_values.specs.Words.{TypedWord, truth}
 use Rattle.typed_values.specs.Effects.{Locals}
 use Rattle.typed_values.specs.Laws.{IsFit}
-use Rattle.reset_values.specs.Effects.{local_or}
+use Rattle.typed_values.specs.ResetEffects.{local_or}
 use Rattle.lisa_meaning.specs.Scenes.{Scene, running}
 use Rattle.lisa_meaning.specs.Moments.{Moment, bare, field_at}
 use Rattle.lisa_meaning.specs.Values.{Array, Below, register_place, pin_place, resource_value, element_value, named_array, field_place, shape_at, shaped_field, boundary_value, stage_before, meant_value}

@@ -9,17 +9,17 @@ use Rattle.lisa_tree.specs.Descriptions as trees
 use Rattle.lisa_tree.specs.Descriptions.{ResourceTree, OperationTree, DescriptionTree}
 use Rattle.lisa_engine.specs.declared.parts.Item.{Item}
 use Rattle.lisa_engine.specs.declared.parts.ArrayItem.{ArrayItem}
-use Rattle.description_names.specs.declared.declared.Meaning.{Meaning}
-use Rattle.description_names.specs.declared.declared.Meaning.TheVariants as meanings
-use Rattle.description_names.specs.Same.{same_name}
-use Rattle.description_names.specs.Resources.{stages, fields, fields_in, stage_at}
-use Rattle.description_names.specs.Operations.{operation_at, own_stage}
-use Rattle.description_names.specs.Meanings.{meaning}
+use Rattle.lisa_tree.specs.declared.declared.Meaning.{Meaning}
+use Rattle.lisa_tree.specs.declared.declared.Meaning.TheVariants as meanings
+use Rattle.lisa_tree.specs.Same.{same_name}
+use Rattle.lisa_tree.specs.Resources.{stages, fields, fields_in, stage_at}
+use Rattle.lisa_tree.specs.Operations.{operation_at, own_stage}
+use Rattle.lisa_tree.specs.Meanings.{meaning}
 use Rattle.lisa_machine.specs.Verdicts.{IsAccepted}
-use Rattle.description_promises.specs.Resolving.{IsWidth, IsDepth, FitsResource}
-use Rattle.description_promises.proofs.Decoding.{position_there}
-use Rattle.description_promises.proofs.Resolved.{resource_fits}
-use Rattle.description_promises.proofs.Sound.{sound}
+use Rattle.lisa_machine.specs.Resolving.{IsWidth, IsDepth, FitsResource}
+use Rattle.lisa_machine.proofs.Decoding.{position_there}
+use Rattle.lisa_machine.proofs.Resolved.{resource_fits}
+use Rattle.lisa_machine.proofs.Sound.{sound}
 use Rattle.machine_parts.specs.Parts.{array, array_in, arrays_of, pins_of, registers_of}
 use Rattle.step_program.specs.Programs.{Program}
 use Rattle.step_program.specs.Effects.{item_width, pin_width, array_width, array_depth}

@@ -6,12 +6,12 @@ use Rattle.lisa_words.specs.declared.words.Kind.{Kind}
 use Rattle.lisa_tree.specs.Expressions as exprs
 use Rattle.lisa_tree.specs.Expressions.{ExprTree}
 use Rattle.lisa_tree.specs.Descriptions.{DescriptionTree}
-use Rattle.description_names.specs.declared.declared.Meaning.TheVariants as meanings
-use Rattle.description_names.specs.Same.{same_name}
-use Rattle.description_names.specs.Meanings.{meaning}
+use Rattle.lisa_tree.specs.declared.declared.Meaning.TheVariants as meanings
+use Rattle.lisa_tree.specs.Same.{same_name}
+use Rattle.lisa_tree.specs.Meanings.{meaning}
 use Rattle.lisa_machine.specs.Verdicts.{IsAccepted}
-use Rattle.description_names.specs.Operations.{own_stage}
-use Rattle.description_names.specs.Resources.{stage_at}
+use Rattle.lisa_tree.specs.Operations.{own_stage}
+use Rattle.lisa_tree.specs.Resources.{stage_at}
 use Rattle.step_program.specs.Programs.{Program, Expr}
 use Rattle.step_program.specs.Effects as steps
 use Rattle.typed_values.specs.Words.{TypedWord}

@@ -5,12 +5,12 @@ use Rattle.lisa_words.specs.declared.words.Kind.TheVariants.{Unsigned}
 use Rattle.lisa_tree.specs.declared.tokens.Shape.{Shape}
 use Rattle.lisa_tree.specs.Descriptions as trees
 use Rattle.lisa_tree.specs.Descriptions.{ResourceTree, DescriptionTree}
-use Rattle.description_names.specs.declared.declared.Meaning.{Meaning}
-use Rattle.description_names.specs.declared.declared.Meaning.TheVariants as meanings
-use Rattle.description_names.specs.Same.{same_name}
-use Rattle.description_names.specs.Resources.{stage_at}
-use Rattle.description_names.specs.Operations.{own_stage}
-use Rattle.description_names.specs.Meanings.{meaning}
+use Rattle.lisa_tree.specs.declared.declared.Meaning.{Meaning}
+use Rattle.lisa_tree.specs.declared.declared.Meaning.TheVariants as meanings
+use Rattle.lisa_tree.specs.Same.{same_name}
+use Rattle.lisa_tree.specs.Resources.{stage_at}
+use Rattle.lisa_tree.specs.Operations.{own_stage}
+use Rattle.lisa_tree.specs.Meanings.{meaning}
 use Rattle.description_types.specs.Shapes.{digit_count}
 use Rattle.step_program.specs.Programs.{Expr, Const, Now, Before, Pin}
 use Rattle.lisa_meaning.specs.Values.{Array, register_place, pin_place, named_array, field_place, shape_at, stage_before}

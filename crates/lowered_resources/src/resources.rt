@@ -1,6 +1,6 @@
 //! What the names of an operation's expressions stand for.
 ghost use Rattle.std.specs.Prelude.{◌≡◌, ◌≤◌, ◌<◌, ◌^◌, true, None, Some, IfOk, length, slice_get};
-ghost use Rattle.description_names.specs.Meanings.{meaning};
+ghost use Rattle.lisa_tree.specs.Meanings.{meaning};
 ghost use Rattle.lisa_meaning.specs.Values.{stage_before};
 ghost use Rattle.scene_paths.specs.Lookups.{array_of, tree_of};
 ghost use Rattle.step_pieces.specs.Drafts.{leaf_tree};
@@ -11,8 +11,7 @@ ghost use Rattle.lowered_resources.specs.Reading.{Known, absent, boundary_operan
 
 use crate::indexes::index_width;
 use crate::sites::Placing;
-use description_names::Meaning;
-use lisa_tree::{BoundaryField, Resource, Shape};
+use lisa_tree::{BoundaryField, Meaning, Resource, Shape};
 use lisa_words::{Kind, Name, NoMemory, Word};
 use lowered_statements::Locals;
 use lowered_values::{ArraySource, Names, Source};

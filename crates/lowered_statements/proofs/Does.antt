@@ -12,7 +12,7 @@ use Rattle.lisa_tree.specs.declared.tokens.Shape.{Shape}
 use Rattle.lisa_tree.specs.Expressions.{ExprTree}
 use Rattle.lisa_tree.specs.Statements as stmts
 use Rattle.lisa_tree.specs.Statements.{HeadTree, StmtTree, StmtTrees}
-use Rattle.description_names.specs.Same.{same_name}
+use Rattle.lisa_tree.specs.Same.{same_name}
 use Rattle.description_places.specs.Literals.{literal}
 use Rattle.shape_checks.specs.declared.bounds.Bounds.{Bounds}
 use Rattle.shape_checks.specs.Bounds.{where_typed, bounds_with, limit_of, step_of, bounds_of, turns}

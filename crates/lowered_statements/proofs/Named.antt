@@ -1,7 +1,7 @@
 -- Locals by their names.
 use Rattle.std.proofs.Common.{◌≡◌, ◌<◌, ◌+◌, ◌∙◌, ℕ, suc, Bool, true, false, cond, List, ◌∷◌, Option, None, Some, length, map, get_or, drop, drop-cons, add-one, sym, ap}
 use Rattle.std.specs.Map.{lookup}
-use Rattle.description_names.specs.Same.{same_name}
+use Rattle.lisa_tree.specs.Same.{same_name}
 use Rattle.lowered_statements.specs.declared.scopes.Entry.{Entry}
 use Rattle.lowered_statements.specs.Scopes.{Local}
 use Rattle.lowered_statements.specs.Code.{entry_of, local_of}

@@ -2,7 +2,7 @@
 use Rattle.std.specs.Prelude.{◌≡◌, ◌≢◌, ℕ, ◌+◌, ◌<◌, ◌≤◌, false, List, [], ◌∷◌, ◌++◌, map, length, slice_index, ⊤}
 use Rattle.lisa_words.specs.declared.words.Kind.{Kind}
 use Rattle.lisa_tree.specs.declared.tokens.Shape.{Shape}
-use Rattle.description_names.specs.Same.{same_name}
+use Rattle.lisa_tree.specs.Same.{same_name}
 use Rattle.step_program.specs.Programs.{Program, Temp}
 use Rattle.step_program.specs.WellFormed.{IsWidth}
 use Rattle.lowered_values.specs.Operands.{Operand, operand_of}

@@ -1,7 +1,7 @@
 //! Locals and their temps.
 ghost use Rattle.std.specs.Prelude.{◌≡◌, [], OnOk, length, option_map, take};
 ghost use Rattle.std.specs.Map.{lookup};
-ghost use Rattle.description_names.specs.Same.{same_name};
+ghost use Rattle.lisa_tree.specs.Same.{same_name};
 ghost use Rattle.lowered_values.specs.Code.{plain};
 ghost use Rattle.lowered_statements.specs.Scopes.{entered, local_operand};
 ghost use Rattle.lowered_statements.specs.Code.{local_of, scope_of};

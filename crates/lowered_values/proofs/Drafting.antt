@@ -3,7 +3,7 @@ use Rattle.std.proofs.Common.{◌≡◌, ℕ, ◌+◌, List, [], ◌∷◌, ◌+
 use Rattle.std.proofs.lemmas.List.{append_assoc}
 use Rattle.lisa_tree.specs.Expressions as exprs
 use Rattle.lisa_tree.specs.Expressions.{ExprTree}
-use Rattle.operators.specs.declared.binary.Operator.{Operator}
+use Rattle.lisa_words.specs.declared.binary.Operator.{Operator}
 use Rattle.description_places.specs.Literals.{literal}
 use Rattle.step_program.specs.Programs.{Expr, Temp, Move}
 use Rattle.step_pieces.specs.Pieces.{Piece, behind, top, held, set_temp}

@@ -6,8 +6,8 @@ use Rattle.std.proofs.lemmas.Nat.{pow_pos}
 use Rattle.std.proofs.Math.Nat.{pow-le-pow_right}
 use Rattle.lisa_words.specs.declared.words.Kind.{Kind}
 use Rattle.lisa_words.specs.declared.words.Kind.TheVariants.{Unsigned, Signed}
-use Rattle.operators.specs.declared.binary.Operator.{Operator}
-use Rattle.operators.specs.declared.binary.Operator.TheVariants as operators
+use Rattle.lisa_words.specs.declared.binary.Operator.{Operator}
+use Rattle.lisa_words.specs.declared.binary.Operator.TheVariants as operators
 use Rattle.lisa_tree.specs.declared.tokens.Shape.{Shape}
 use Rattle.description_types.specs.Shapes.{joined_kind}
 use Rattle.step_program.specs.declared.expressions.OneOp.TheVariants.{Not, Cut, Widen}

@@ -6,8 +6,8 @@ use Rattle.lisa_words.specs.declared.words.Kind.{Kind}
 use Rattle.lisa_words.specs.declared.words.Kind.TheVariants.{Unsigned, Signed}
 use Rattle.lisa_words.specs.Words.{word_not, word_shl, word_shr, word_less, word_add, word_sub, word_mul, reduced}
 use Rattle.lisa_words.proofs.WordLaws.{reduced-lt, reduced-meant}
-use Rattle.operators.specs.declared.binary.Operator.{Operator}
-use Rattle.operators.specs.declared.binary.Operator.TheVariants as operators
+use Rattle.lisa_words.specs.declared.binary.Operator.{Operator}
+use Rattle.lisa_words.specs.declared.binary.Operator.TheVariants as operators
 use Rattle.lisa_tree.specs.declared.tokens.Base.TheVariants as bases
 use Rattle.lisa_tree.specs.declared.tokens.Shape.{Shape}
 use Rattle.lisa_tree.specs.Expressions as exprs

@@ -9,7 +9,7 @@ use Rattle.std.proofs.lemmas.List.{get_or-map, length-append, length-map}
 use Rattle.std.proofs.lemmas.Option.{slice_get-map, slice_get-get_or, slice_get_past, get_or_from_slice_get}
 use Rattle.lisa_tree.specs.Descriptions.{DescriptionTree}
 use Rattle.description_tables.proofs.Lists.{one_more}
-use Rattle.description_promises.proofs.Entries.{get_left, get_right}
+use Rattle.lisa_machine.proofs.Entries.{get_left, get_right}
 use Rattle.stage_checks.specs.Graphs.{names_in}
 use Rattle.activation_trees.specs.declared.parts.Occurrence.{Occurrence}
 use Rattle.activation_trees.specs.Activators.{HasActivator, IsChild}

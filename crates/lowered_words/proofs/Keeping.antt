@@ -6,8 +6,8 @@ use Rattle.std.specs.Option.{option_and_then}
 use Rattle.std.proofs.lemmas.Bool.{eq-eqb}
 use Rattle.std.proofs.lemmas.Option.{slice_get_past, slice_get_read, slice_get_within}
 use Rattle.lisa_tree.specs.Descriptions.{DescriptionTree}
-use Rattle.description_names.specs.Operations.{is_alias}
-use Rattle.description_names.specs.Same.{same_name}
+use Rattle.lisa_tree.specs.Operations.{is_alias}
+use Rattle.lisa_tree.specs.Same.{same_name}
 use Rattle.lisa_machine.specs.Verdicts.{IsAccepted}
 use Rattle.instruction_trees.specs.Trees.{In, here, there, Done, is_plain}
 use Rattle.instruction_trees.specs.Trees as plain

@@ -11,13 +11,13 @@ use Rattle.lisa_tree.specs.declared.descriptions.CodingItem.{CodingItem}
 use Rattle.lisa_tree.specs.declared.descriptions.CodingItem.TheVariants as items
 use Rattle.lisa_tree.specs.Descriptions as trees
 use Rattle.lisa_tree.specs.Descriptions.{CodingTree, DescriptionTree}
-use Rattle.description_names.specs.Operations.{coding_in, sections_at}
-use Rattle.description_names.specs.Same.{same_name}
+use Rattle.lisa_tree.specs.Operations.{coding_in, sections_at}
+use Rattle.lisa_tree.specs.Same.{same_name}
 use Rattle.lisa_machine.specs.Verdicts.{IsAccepted}
-use Rattle.description_promises.specs.Codings.{FitsItem}
-use Rattle.description_promises.proofs.Sound.{sound}
-use Rattle.description_promises.proofs.Standing.{coding_stand}
-use Rattle.description_promises.proofs.Fitting.{coding_fits}
+use Rattle.lisa_machine.specs.Codings.{FitsItem}
+use Rattle.lisa_machine.proofs.Sound.{sound}
+use Rattle.lisa_machine.proofs.Standing.{coding_stand}
+use Rattle.lisa_machine.proofs.Fitting.{coding_fits}
 use Rattle.instruction_trees.specs.Trees.{Item, Fixed, Free, Field, Child, Done, Pass, Value, Choose, Form, In, here, there, coding, placed, slice}
 use Rattle.instruction_trees.specs.Values.{own_values}
 use Rattle.coding_tables.specs.Codings.{digit_item, pattern_digits, items_of, coding_table}

@@ -6,7 +6,7 @@ use Rattle.std.proofs.lemmas.Bool.{cond_both}
 use Rattle.std.proofs.lemmas.List.{get_or-set_other, get_or-replicate, length-map, length-replicate, length-set}
 use Rattle.std.proofs.lemmas.List.Elements.{All-from_recursion}
 use Rattle.lisa_tree.specs.Descriptions.{DescriptionTree}
-use Rattle.description_names.specs.Operations.{is_alias}
+use Rattle.lisa_tree.specs.Operations.{is_alias}
 use Rattle.instruction_trees.specs.Bits.{Frame, mask, pattern, mask_bit, mask_bits, pattern_bit, pattern_bits}
 use Rattle.instruction_trees.specs.Trees.{Form, In, here, there, is_plain}
 use Rattle.instruction_trees.proofs.Numbers.{value_lt}

@@ -9,7 +9,7 @@ use Rattle.std.proofs.lemmas.List.{length-append}
 use Rattle.std.proofs.lemmas.List.Quantifiers.{position-Some}
 use Rattle.std.proofs.lemmas.Option.{same_Some, slice_get_within, slice_get-get_or, slice_get_read}
 use Rattle.lisa_tree.specs.Descriptions.{DescriptionTree}
-use Rattle.description_promises.proofs.Entries.{Split, in_first, in_second, split}
+use Rattle.lisa_machine.proofs.Entries.{Split, in_first, in_second, split}
 use Rattle.instruction_forms.specs.declared.form.Form.{Form}
 use Rattle.instruction_forms.specs.declared.form.Form.TheViews.{out-Form}
 use Rattle.instruction_forms.specs.Trees.{FormTree, FormTrees, form_tree}

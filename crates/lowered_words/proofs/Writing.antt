@@ -5,7 +5,7 @@ use Rattle.std.proofs.lemmas.List.{take_more, get_or-map, length-map}
 use Rattle.std.proofs.lemmas.List.Concat.{flat_map-append}
 use Rattle.std.proofs.lemmas.List.Elements.{filter_more}
 use Rattle.lisa_tree.specs.Descriptions.{DescriptionTree}
-use Rattle.description_names.specs.Operations.{is_alias}
+use Rattle.lisa_tree.specs.Operations.{is_alias}
 use Rattle.instruction_trees.specs.Bits.{Frame, mask, pattern, mask_bit}
 use Rattle.instruction_trees.specs.Trees.{Done, In, is_plain}
 use Rattle.instruction_trees.specs.Trees as plain
@@ -22,7 +22,7 @@ use Rattle.form_patterns.specs.Instructions.{instruction_frames, instruction_pla
 use Rattle.form_patterns.proofs.Views.{trees, tree_is}
 use Rattle.form_patterns.proofs.Filling.{fit_at}
 use Rattle.lisa_forms.specs.Choosing.{operation_of}
-use Rattle.lisa_coding.specs.Rows.{frame_pattern, instruction_patterns}
+use Rattle.lisa_forms.specs.Rows.{frame_pattern, instruction_patterns}
 use Rattle.step_program.specs.Programs.{Expr, Const, Move}
 use Rattle.step_pieces.specs.declared.drafts.Draft.{Draft}
 use Rattle.step_pieces.specs.Pieces.{behind, top, set_temp}

@@ -11,7 +11,7 @@ use Rattle.instruction_forms.specs.declared.form.Field.{Field}
 use Rattle.instruction_forms.specs.declared.form.Form.{Form}
 use Rattle.instruction_forms.specs.Trees.{form_tree}
 use Rattle.pattern_tables.specs.declared.bit_pattern.BitPattern.{BitPattern}
-use Rattle.lisa_coding.specs.Rows.{instruction_patterns}
+use Rattle.lisa_forms.specs.Rows.{instruction_patterns}
 use Rattle.lowered_words.specs.declared.links.Link.{Link}
 use Rattle.lowered_words.specs.declared.way_at.Chosen.{Chosen}
 use Rattle.lowered_words.specs.Ways.{Way, Whole, Child, all_ways, way_place}

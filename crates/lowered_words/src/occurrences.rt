@@ -3,7 +3,7 @@
 ghost use Rattle.std.specs.Prelude.{◌≡◌, ◌<◌, ℕ, Option, IfOk, length, option_map, position, slice_get};
 ghost use Rattle.lisa_tree.specs.Descriptions.{DescriptionTree};
 ghost use Rattle.stage_checks.specs.Graphs.{names_in};
-ghost use Rattle.description_names.specs.Same.{same_name};
+ghost use Rattle.lisa_tree.specs.Same.{same_name};
 ghost use Rattle.activation_trees.specs.Unfolding.{occurrences};
 ghost use Rattle.activation_trees.specs.Places.{ArePlaces};
 ghost use Rattle.lisa_forms.specs.Choosing.{child_names, child_place};
@@ -16,8 +16,7 @@ ghost use Rattle.lowered_words.specs.Kept.{HasWays, HasChoices, AreChoices, plac
 use crate::table::Table;
 use crate::way_at::Chosen;
 use activation_trees::{Occurrence, activating_names, places};
-use description_names::Names;
-use lisa_tree::{CodingItem, CodingPart};
+use lisa_tree::{CodingItem, CodingPart, Names};
 use lisa_words::{Name, NoMemory};
 use scene_paths::Described;
 use std::alloc::Global;

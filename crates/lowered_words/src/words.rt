@@ -12,7 +12,7 @@ use scene_paths::Described;
 /// occurrence past the root is chosen. No look-up takes memory, and none goes over all ways or forms.
 #[derive(Drop)]
 pub struct Words<'a> {
-    pub(crate) described: &'a Described<'a>,
+    pub described: &'a Described<'a>,
     pub(crate) table: Table<'a>,
     pub(crate) patterns: Vec<BitPattern>,
     pub(crate) choices: Vec<Option<Chosen>>,

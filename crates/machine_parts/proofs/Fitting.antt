@@ -8,9 +8,9 @@ use Rattle.lisa_tree.specs.Descriptions.{ResourceTree, DescriptionTree}
 use Rattle.lisa_engine.specs.declared.parts.Item.{Item}
 use Rattle.lisa_engine.specs.Shape.{IsFitting}
 use Rattle.typed_values.specs.Words.{TypedWord, word_width}
-use Rattle.reset_values.specs.Effects.{reset_moment}
-use Rattle.reset_values.specs.Laws.{IsWithin, first_width, HaveTypes}
-use Rattle.reset_values.proofs.Kept.{reset_keeps}
+use Rattle.typed_values.specs.ResetEffects.{reset_moment}
+use Rattle.typed_values.specs.ResetLaws.{IsWithin, first_width, HaveTypes}
+use Rattle.typed_values.proofs.Kept.{reset_keeps}
 use Rattle.machine_parts.specs.Parts.{item, register_in, register_bits, registers_of, first_values}
 use Rattle.machine_parts.specs.Laws.{HasWidth, HaveWidths}
 

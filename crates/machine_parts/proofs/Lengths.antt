@@ -4,9 +4,9 @@ use Rattle.std.specs.Prelude.{filter_map, zip}
 use Rattle.lisa_tree.specs.Descriptions as trees
 use Rattle.lisa_tree.specs.Descriptions.{ResourceTree, DescriptionTree}
 use Rattle.typed_values.specs.Words.{TypedWord}
-use Rattle.reset_values.specs.Effects.{reset_moment}
-use Rattle.reset_values.specs.Laws.{width_of, first_width}
-use Rattle.reset_values.proofs.Kept.{reset_keeps}
+use Rattle.typed_values.specs.ResetEffects.{reset_moment}
+use Rattle.typed_values.specs.ResetLaws.{width_of, first_width}
+use Rattle.typed_values.proofs.Kept.{reset_keeps}
 use Rattle.machine_parts.specs.Parts.{array_in, memory_in, register_in, register_bits, arrays_of, memories_of, registers_of, first_values}
 
 told : (rs : List ResourceTree) → length (filter_map memory_in rs) ≡ length (filter_map array_in rs)

@@ -6,10 +6,10 @@ use Rattle.lisa_tree.specs.Descriptions as trees
 use Rattle.lisa_tree.specs.Descriptions.{ResourceTree, DescriptionTree}
 use Rattle.lisa_engine.specs.declared.parts.Item.{Item}
 use Rattle.lisa_engine.specs.declared.parts.ArrayItem.{ArrayItem}
-use Rattle.description_names.specs.Operations.{number_of, behavior_in, sections_at}
+use Rattle.lisa_tree.specs.Operations.{number_of, behavior_in, sections_at}
 use Rattle.typed_values.specs.Words.{TypedWord}
-use Rattle.reset_values.specs.Counts.{statements_count}
-use Rattle.reset_values.specs.Effects.{reset_moment}
+use Rattle.typed_values.specs.Counts.{statements_count}
+use Rattle.typed_values.specs.ResetEffects.{reset_moment}
 
 abbrev pub item : Shape → List ℕ → Item
 item shape name = record { name = name; width = shape.width }

@@ -5,13 +5,11 @@ ghost use Rattle.lisa_tree.specs.Descriptions.{resource_tree};
 ghost use Rattle.typed_values.specs.Words.{typed_word};
 ghost use Rattle.machine_parts.specs.Parts.{register_bits, first_values, reset_count};
 
-use description_names::{Names, behavior};
 use description_types::sections;
-use lisa_tree::Resource;
+use lisa_tree::{Names, Resource, behavior};
 use lisa_words::{Name, NoMemory};
-use reset_values::{count_statements, reset_values};
 use std::alloc::Global;
-use typed_values::Value;
+use typed_values::{Value, count_statements, reset_values};
 
 // The bits of a resource's value, where it is a register that is no array.
 fn register_bits(resource: &Resource, value: &Value) -> Option<u64>

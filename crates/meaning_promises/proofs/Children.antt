@@ -4,20 +4,20 @@ use Rattle.std.specs.Prelude.{slice_get, option_map}
 use Rattle.std.proofs.lemmas.Bool.{eq-eqb, eqb-true}
 use Rattle.lisa_tree.specs.Descriptions as trees
 use Rattle.lisa_tree.specs.Descriptions.{CodingTree, DescriptionTree}
-use Rattle.description_names.specs.declared.declared.What.{What}
-use Rattle.description_names.specs.declared.declared.What.TheVariants as whats
-use Rattle.description_names.specs.Operations.{sections_at, coding_in, is_alias}
-use Rattle.description_names.specs.Declarations.{Entry, entries, declared_at, what_at, plain_at, alternatives_at, is_reference}
-use Rattle.description_names.specs.Paths.{Operation, Choosing, Declaring, leads}
+use Rattle.lisa_tree.specs.declared.declared.What.{What}
+use Rattle.lisa_tree.specs.declared.declared.What.TheVariants as whats
+use Rattle.lisa_tree.specs.Operations.{sections_at, coding_in, is_alias}
+use Rattle.lisa_tree.specs.Declarations.{Entry, entries, declared_at, what_at, plain_at, alternatives_at, is_reference}
+use Rattle.lisa_tree.specs.Paths.{Operation, Choosing, Declaring, leads}
 use Rattle.graph_paths.specs.Paths.{is_in}
 use Rattle.coded_names.specs.Codings.{in_coding, names_instructions, is_coding}
 use Rattle.coding_checks.specs.Widths as widths
 use Rattle.stage_checks.specs.Running as running
-use Rattle.description_promises.specs.Ranks.{Ranks}
-use Rattle.description_promises.specs.Soundness.{IsSound}
-use Rattle.description_promises.proofs.Choosing.{group_left, instance_left}
-use Rattle.description_promises.proofs.Chosen.{in_here, plain_listed}
-use Rattle.description_promises.proofs.Named.{what_is}
+use Rattle.lisa_machine.specs.Ranks.{Ranks}
+use Rattle.lisa_machine.specs.Soundness.{IsSound}
+use Rattle.lisa_machine.proofs.Choosing.{group_left, instance_left}
+use Rattle.lisa_machine.proofs.Chosen.{in_here, plain_listed}
+use Rattle.lisa_machine.proofs.Named.{what_is}
 use Rattle.meant_declarations.specs.Meant.{MayMean, itself, higher}
 use Rattle.use_promises.specs.Meant.{ChoosesFrom}
 use Rattle.use_promises.specs.Using.{MayRun}

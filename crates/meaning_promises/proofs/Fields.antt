@@ -9,11 +9,11 @@ use Rattle.lisa_words.specs.declared.words.Kind.TheVariants as kinds
 use Rattle.lisa_tree.specs.declared.tokens.Shape.{Shape}
 use Rattle.lisa_tree.specs.Descriptions as trees
 use Rattle.lisa_tree.specs.Descriptions.{ResourceTree, DescriptionTree}
-use Rattle.description_names.specs.declared.declared.Meaning.{Meaning}
-use Rattle.description_names.specs.declared.declared.Meaning.TheVariants as meanings
-use Rattle.description_names.specs.Same.{same_name}
-use Rattle.description_names.specs.Resources.{fields, shape_in, field_shape}
-use Rattle.description_names.specs.Operations.{sections_at, coding_in, syntax_in}
+use Rattle.lisa_tree.specs.declared.declared.Meaning.{Meaning}
+use Rattle.lisa_tree.specs.declared.declared.Meaning.TheVariants as meanings
+use Rattle.lisa_tree.specs.Same.{same_name}
+use Rattle.lisa_tree.specs.Resources.{fields, shape_in, field_shape}
+use Rattle.lisa_tree.specs.Operations.{sections_at, coding_in, syntax_in}
 use Rattle.description_types.specs.Codings.{kind_or_unsigned}
 use Rattle.description_types.specs.Shapes.{shape_of}
 use Rattle.description_types.specs.Types.{word_shape, element_shape, meant_element}

@@ -12,15 +12,15 @@ use Rattle.lisa_tree.specs.Descriptions.{ResourceTree, DescriptionTree}
 use Rattle.lisa_engine.specs.declared.parts.Item.{Item}
 use Rattle.lisa_engine.specs.declared.parts.ArrayItem.{ArrayItem}
 use Rattle.lisa_engine.specs.Shape.{IsFitting, AreCells}
-use Rattle.description_names.specs.declared.declared.Meaning.{Meaning}
-use Rattle.description_names.specs.declared.declared.Meaning.TheVariants as meanings
-use Rattle.description_names.specs.Same.{same_name}
-use Rattle.description_names.specs.Resources.{stage_at, fields, fields_in}
-use Rattle.description_names.specs.Operations.{sections_at, expression_in, own_stage}
-use Rattle.description_names.specs.Meanings.{meaning}
-use Rattle.description_promises.specs.Resolving.{IsWidth, IsDepth, FitsResource}
-use Rattle.description_promises.specs.Soundness.{IsSound}
-use Rattle.description_promises.proofs.Resolved.{resource_fits}
+use Rattle.lisa_tree.specs.declared.declared.Meaning.{Meaning}
+use Rattle.lisa_tree.specs.declared.declared.Meaning.TheVariants as meanings
+use Rattle.lisa_tree.specs.Same.{same_name}
+use Rattle.lisa_tree.specs.Resources.{stage_at, fields, fields_in}
+use Rattle.lisa_tree.specs.Operations.{sections_at, expression_in, own_stage}
+use Rattle.lisa_tree.specs.Meanings.{meaning}
+use Rattle.lisa_machine.specs.Resolving.{IsWidth, IsDepth, FitsResource}
+use Rattle.lisa_machine.specs.Soundness.{IsSound}
+use Rattle.lisa_machine.proofs.Resolved.{resource_fits}
 use Rattle.machine_parts.specs.Parts.{item, array, array_in, arrays_of, pin_in, pins_of, register_in, registers_of}
 use Rattle.instruction_forms.specs.declared.form.Field.{Field}
 use Rattle.instruction_forms.specs.Trees.{FormTree}
@@ -30,11 +30,11 @@ use Rattle.typed_values.specs.Words.{TypedWord, truth}
 use Rattle.typed_values.specs.Effects.{Locals}
 use Rattle.typed_values.specs.Laws.{IsFit, ReadsFit, HasNumbers}
 use Rattle.typed_values.proofs.Fitting.{value_fits}
-use Rattle.reset_values.specs.Effects.{local_or}
+use Rattle.typed_values.specs.ResetEffects.{local_or}
 use Rattle.graph_paths.specs.Paths.{is_in}
 use Rattle.coded_names.specs.Codings.{names_instructions}
-use Rattle.description_names.specs.Operations.{coding_in}
-use Rattle.description_names.specs.Declarations.{is_reference}
+use Rattle.lisa_tree.specs.Operations.{coding_in}
+use Rattle.lisa_tree.specs.Declarations.{is_reference}
 use Rattle.activation_trees.specs.Starting.{plain_named}
 use Rattle.lisa_meaning.specs.Scenes.{Link, link, Scene, running, declared, is_label, home, part_at, child_part, chosen, onto, child_at_home}
 use Rattle.lisa_meaning.specs.Moments.{Moment, bare, field_at}

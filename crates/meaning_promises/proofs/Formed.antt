@@ -10,9 +10,9 @@ use Rattle.lisa_tree.specs.declared.descriptions.CodingItem.{CodingItem}
 use Rattle.lisa_tree.specs.declared.descriptions.CodingItem.TheVariants as items
 use Rattle.lisa_tree.specs.Descriptions as trees
 use Rattle.lisa_tree.specs.Descriptions.{CodingTree, DescriptionTree}
-use Rattle.description_names.specs.Same.{same_name}
-use Rattle.description_names.specs.Operations.{sections_at, coding_in, is_alias}
-use Rattle.description_promises.proofs.Decoding.{position_there}
+use Rattle.lisa_tree.specs.Same.{same_name}
+use Rattle.lisa_tree.specs.Operations.{sections_at, coding_in, is_alias}
+use Rattle.lisa_machine.proofs.Decoding.{position_there}
 use Rattle.coded_names.specs.Codings.{pattern_width, items_width, field_width, items_child, in_coding, names_instructions, is_coding}
 use Rattle.instruction_trees.specs.Trees.{Item, Fixed, Free, Table, In, Tree, Done, Pass, Value, Choose, Form, Fits, AnyValue, coding, size, placed, is_plain}
 use Rattle.instruction_trees.specs.Values.{own_values}

@@ -6,10 +6,10 @@ use Rattle.description_places.specs.declared.sites.Region.{Region}
 use Rattle.description_places.specs.Scopes.{Scope, local_named}
 use Rattle.description_places.specs.Places as places
 use Rattle.description_places.specs.Places.{at}
-use Rattle.description_names.specs.Declarations.{Entry, entries, declared_at}
+use Rattle.lisa_tree.specs.Declarations.{Entry, entries, declared_at}
 use Rattle.description_graph.proofs.Hits.{found}
-use Rattle.description_promises.specs.Freedom.{Stands}
-use Rattle.description_promises.specs.Soundness.{IsSound}
+use Rattle.lisa_machine.specs.Freedom.{Stands}
+use Rattle.lisa_machine.specs.Soundness.{IsSound}
 use Rattle.meant_declarations.specs.Meant.{MayMean}
 use Rattle.use_promises.specs.Using.{IsChildEntry, ChildrenMayRun, IsCallable}
 use Rattle.use_promises.proofs.Used.{call_fits, reads_run, writes_run}

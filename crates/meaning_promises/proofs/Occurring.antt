@@ -6,14 +6,14 @@ use Rattle.std.proofs.lemmas.List.{get_or-map, length-map}
 use Rattle.std.proofs.lemmas.Option.{same_Some}
 use Rattle.lisa_tree.specs.Descriptions as trees
 use Rattle.lisa_tree.specs.Descriptions.{CodingTree, DescriptionTree}
-use Rattle.description_names.specs.Operations.{number_of, sections_at, coding_in, is_root, is_alias}
+use Rattle.lisa_tree.specs.Operations.{number_of, sections_at, coding_in, is_root, is_alias}
 use Rattle.graph_paths.specs.Paths.{is_in}
 use Rattle.coded_names.specs.Codings.{in_coding, names_instructions, is_coding}
 use Rattle.stage_checks.specs.Controls.{main_name}
-use Rattle.description_promises.specs.Running.{FitsMain}
-use Rattle.description_promises.specs.Soundness.{IsSound}
-use Rattle.description_promises.proofs.Chosen.{plain_listed}
-use Rattle.description_promises.proofs.Decoding.{off_left, off_right}
+use Rattle.lisa_machine.specs.Running.{FitsMain}
+use Rattle.lisa_machine.specs.Soundness.{IsSound}
+use Rattle.lisa_machine.proofs.Chosen.{plain_listed}
+use Rattle.lisa_machine.proofs.Decoding.{off_left, off_right}
 use Rattle.use_promises.proofs.Used.{coded_there}
 use Rattle.activation_trees.specs.declared.parts.Occurrence.{Occurrence}
 use Rattle.activation_trees.specs.Starting.{Activated, activated, plain_named}

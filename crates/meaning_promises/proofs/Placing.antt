@@ -15,15 +15,15 @@ use Rattle.description_places.specs.declared.sites.Region.TheVariants as regions
 use Rattle.description_places.specs.Scopes.{Scope, local_named}
 use Rattle.description_places.specs.Places as places
 use Rattle.description_places.specs.Places.{at, uses, targets}
-use Rattle.description_names.specs.declared.declared.Meaning.{Meaning}
-use Rattle.description_names.specs.declared.declared.Meaning.TheVariants as meanings
-use Rattle.description_names.specs.declared.declared.What.{What}
-use Rattle.description_names.specs.declared.declared.What.TheVariants as whats
-use Rattle.description_names.specs.Same.{same_name}
-use Rattle.description_names.specs.Resources.{resource_at}
-use Rattle.description_names.specs.Declarations.{Entry, entries, declared_at, what_at}
-use Rattle.description_names.specs.Meanings.{meaning, meaning_of}
-use Rattle.description_names.specs.Paths.{entry_node}
+use Rattle.lisa_tree.specs.declared.declared.Meaning.{Meaning}
+use Rattle.lisa_tree.specs.declared.declared.Meaning.TheVariants as meanings
+use Rattle.lisa_tree.specs.declared.declared.What.{What}
+use Rattle.lisa_tree.specs.declared.declared.What.TheVariants as whats
+use Rattle.lisa_tree.specs.Same.{same_name}
+use Rattle.lisa_tree.specs.Resources.{resource_at}
+use Rattle.lisa_tree.specs.Declarations.{Entry, entries, declared_at, what_at}
+use Rattle.lisa_tree.specs.Meanings.{meaning, meaning_of}
+use Rattle.lisa_tree.specs.Paths.{entry_node}
 use Rattle.description_graph.proofs.Hits.{found}
 use Rattle.description_graph.proofs.Nodes.{alternatives_below}
 use Rattle.description_types.specs.declared.values.Assignable.{Assignable}
@@ -36,16 +36,16 @@ use Rattle.description_types.specs.Steady.{assignables_steady}
 use Rattle.description_types.specs.Tables.{unfit}
 use Rattle.description_types.specs.Types.{typed, word_shape, element_shape, meant_type, or_meant_type, meant_element, or_meant_element, type_of, element_type}
 use Rattle.stage_checks.specs.Resets.{is_scalar}
-use Rattle.description_promises.specs.Assigning.{IsPlace, register, element, declared}
-use Rattle.description_promises.specs.Freedom.{Stands, AllStand}
-use Rattle.description_promises.specs.Resolving.{IsArray, IsOutput, writes_local, writes_register, writes_value, Writable, IsDepth, FitsResource}
-use Rattle.description_promises.specs.Soundness.{IsSound}
-use Rattle.description_promises.proofs.Assigned.{written, child_yes, reference_yes, operation_yes}
-use Rattle.description_promises.proofs.Chosen.{plain_listed}
-use Rattle.description_promises.proofs.Named.{what_is}
-use Rattle.description_promises.proofs.Resolved.{read_element, written_element, writes_output, writable, resource_fits}
-use Rattle.description_promises.proofs.Standing.{expression_stand}
-use Rattle.description_promises.proofs.Settling.{entry_is}
+use Rattle.lisa_machine.specs.Assigning.{IsPlace, register, element, declared}
+use Rattle.lisa_machine.specs.Freedom.{Stands, AllStand}
+use Rattle.lisa_machine.specs.Resolving.{IsArray, IsOutput, writes_local, writes_register, writes_value, Writable, IsDepth, FitsResource}
+use Rattle.lisa_machine.specs.Soundness.{IsSound}
+use Rattle.lisa_machine.proofs.Assigned.{written, child_yes, reference_yes, operation_yes}
+use Rattle.lisa_machine.proofs.Chosen.{plain_listed}
+use Rattle.lisa_machine.proofs.Named.{what_is}
+use Rattle.lisa_machine.proofs.Resolved.{read_element, written_element, writes_output, writable, resource_fits}
+use Rattle.lisa_machine.proofs.Standing.{expression_stand}
+use Rattle.lisa_machine.proofs.Settling.{entry_is}
 use Rattle.meant_declarations.specs.Meant.{MayMean, itself, higher}
 use Rattle.use_promises.specs.Meant.{ChoosesFrom}
 use Rattle.use_promises.specs.Using.{IsChildEntry, ChildrenMayRun}

@@ -13,14 +13,14 @@ use Rattle.description_places.specs.declared.sites.Region.TheVariants as regions
 use Rattle.description_places.specs.Scopes.{Scope, local_named}
 use Rattle.description_places.specs.Places as places
 use Rattle.description_places.specs.Places.{at, uses}
-use Rattle.description_names.specs.declared.declared.What.{What}
-use Rattle.description_names.specs.declared.declared.What.TheVariants as whats
-use Rattle.description_names.specs.Same.{same_name}
-use Rattle.description_names.specs.Resources.{stage_at, resource_at, field_shape}
-use Rattle.description_names.specs.Operations.{sections_at, coding_in, syntax_in, expression_in, own_stage}
-use Rattle.description_names.specs.Declarations.{Entry, entries, declared_at, what_at, plain_at}
-use Rattle.description_names.specs.Meanings.{meaning, meaning_of}
-use Rattle.description_names.specs.Paths.{Operation, entry_node}
+use Rattle.lisa_tree.specs.declared.declared.What.{What}
+use Rattle.lisa_tree.specs.declared.declared.What.TheVariants as whats
+use Rattle.lisa_tree.specs.Same.{same_name}
+use Rattle.lisa_tree.specs.Resources.{stage_at, resource_at, field_shape}
+use Rattle.lisa_tree.specs.Operations.{sections_at, coding_in, syntax_in, expression_in, own_stage}
+use Rattle.lisa_tree.specs.Declarations.{Entry, entries, declared_at, what_at, plain_at}
+use Rattle.lisa_tree.specs.Meanings.{meaning, meaning_of}
+use Rattle.lisa_tree.specs.Paths.{Operation, entry_node}
 use Rattle.description_graph.proofs.Hits.{found}
 use Rattle.graph_paths.specs.Paths.{is_in}
 use Rattle.coded_names.specs.Codings.{field_width, number_kind}
@@ -29,13 +29,13 @@ use Rattle.description_types.specs.declared.values.TypeOf.TheVariants as types
 use Rattle.description_types.specs.Codings.{kind_or_unsigned}
 use Rattle.description_types.specs.Shapes.{shape_of}
 use Rattle.description_types.specs.Types.{Types, typed, meant_type, or_meant_type, or_meant_element, name_type, element_type, type_of}
-use Rattle.description_promises.specs.Codings.{IsInput}
-use Rattle.description_promises.specs.Freedom.{Stands, AllStand}
-use Rattle.description_promises.specs.Soundness.{IsSound}
-use Rattle.description_promises.proofs.Named.{what_is}
-use Rattle.description_promises.proofs.Resolved.{reads_input, no_output_read, reads_boundary, cast_fits}
-use Rattle.description_promises.proofs.Standing.{expression_stand}
-use Rattle.description_promises.proofs.Typing.{child_types, reference_types, operation_typed}
+use Rattle.lisa_machine.specs.Codings.{IsInput}
+use Rattle.lisa_machine.specs.Freedom.{Stands, AllStand}
+use Rattle.lisa_machine.specs.Soundness.{IsSound}
+use Rattle.lisa_machine.proofs.Named.{what_is}
+use Rattle.lisa_machine.proofs.Resolved.{reads_input, no_output_read, reads_boundary, cast_fits}
+use Rattle.lisa_machine.proofs.Standing.{expression_stand}
+use Rattle.lisa_machine.proofs.Typing.{child_types, reference_types, operation_typed}
 use Rattle.meant_declarations.specs.Meant.{MayMean, itself, higher}
 use Rattle.use_promises.specs.Meant.{ChoosesFrom}
 use Rattle.use_promises.specs.Valued.{IsField}
@@ -45,7 +45,7 @@ use Rattle.use_promises.proofs.Used.{reads_run}
 use Rattle.description_sizes.specs.Texts.{levels}
 use Rattle.instruction_forms.specs.Trees.{FormTree}
 use Rattle.typed_values.specs.Words.{TypedWord}
-use Rattle.reset_values.specs.Effects.{local_or}
+use Rattle.typed_values.specs.ResetEffects.{local_or}
 use Rattle.lisa_meaning.specs.Scenes.{Link, Scene, first_operation, home, declared, is_label, child_at_home}
 use Rattle.lisa_meaning.specs.Moments.{Moment, bare}
 use Rattle.lisa_meaning.specs.Values.{Below, named_array, element_value, stage_before, field_place, boundary_value, label_value, value_below, child_value, declared_value, meant_value, reader, value_within, reader_of, value_of}

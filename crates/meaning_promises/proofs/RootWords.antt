@@ -11,18 +11,18 @@ use Rattle.lisa_tree.specs.Expressions.{ExprTree}
 use Rattle.lisa_tree.specs.Descriptions as trees
 use Rattle.lisa_tree.specs.Descriptions.{ResourceTree, CodingTree, DescriptionTree}
 use Rattle.description_places.specs.Places.{coding_places}
-use Rattle.description_names.specs.declared.declared.Meaning.TheVariants as meanings
-use Rattle.description_names.specs.Resources.{resource_at, field_shape}
-use Rattle.description_names.specs.Operations.{sections_at, coding_in, own_stage}
-use Rattle.description_names.specs.Meanings.{meaning, meaning_of}
-use Rattle.description_names.specs.Paths.{choice_node}
+use Rattle.lisa_tree.specs.declared.declared.Meaning.TheVariants as meanings
+use Rattle.lisa_tree.specs.Resources.{resource_at, field_shape}
+use Rattle.lisa_tree.specs.Operations.{sections_at, coding_in, own_stage}
+use Rattle.lisa_tree.specs.Meanings.{meaning, meaning_of}
+use Rattle.lisa_tree.specs.Paths.{choice_node}
 use Rattle.stage_checks.specs.Resets.{is_scalar}
-use Rattle.description_promises.specs.Codings.{FitsWord, FitsCoding, IsScalar, IsInput}
-use Rattle.description_promises.specs.Soundness.{IsSound}
-use Rattle.description_promises.proofs.Among.{free_places}
-use Rattle.description_promises.proofs.Decoding.{off_right, or_left}
-use Rattle.description_promises.proofs.Fitting.{coding_fits}
-use Rattle.description_promises.proofs.Standing.{coding_stand}
+use Rattle.lisa_machine.specs.Codings.{FitsWord, FitsCoding, IsScalar, IsInput}
+use Rattle.lisa_machine.specs.Soundness.{IsSound}
+use Rattle.lisa_machine.proofs.Among.{free_places}
+use Rattle.lisa_machine.proofs.Decoding.{off_right, or_left}
+use Rattle.lisa_machine.proofs.Fitting.{coding_fits}
+use Rattle.lisa_machine.proofs.Standing.{coding_stand}
 use Rattle.coding_checks.specs.Widths.{choice_named, choice_width, child_width}
 use Rattle.coding_checks.specs.Uneven.{register_width, place_width, are_apart, child_uneven, root_uneven, uneven_fault, group_width, IsFirstGroupWidth}
 use Rattle.coding_tables.specs.Instructions.{Root, root, root_group, root_from, first_root, choice_of_root}

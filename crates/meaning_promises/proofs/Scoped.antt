@@ -13,8 +13,8 @@ use Rattle.description_places.specs.declared.sites.Region.TheVariants as regions
 use Rattle.description_places.specs.Scopes.{Scope, local_named, entered}
 use Rattle.description_places.specs.Places as places
 use Rattle.description_places.specs.Places.{At, at, uses, head_places, with_counted, after, all_places}
-use Rattle.description_promises.specs.Freedom.{Stands, AllStand}
-use Rattle.description_promises.proofs.Among.{among_left, among_right}
+use Rattle.lisa_machine.specs.Freedom.{Stands, AllStand}
+use Rattle.lisa_machine.proofs.Among.{among_left, among_right}
 use Rattle.shape_checks.specs.declared.bounds.Bounds.{Bounds}
 use Rattle.shape_checks.specs.Bounds.{bounds_of, turns}
 use Rattle.typed_values.specs.Words.{is_zero}

@@ -13,17 +13,17 @@ use Rattle.description_places.specs.declared.sites.Region.TheVariants as regions
 use Rattle.description_places.specs.Scopes.{Scope, entered}
 use Rattle.description_places.specs.Places as places
 use Rattle.description_places.specs.Places.{at, with_counted, after, all_places}
-use Rattle.description_names.specs.declared.declared.Meaning.{Meaning}
-use Rattle.description_names.specs.declared.declared.Meaning.TheVariants as meanings
-use Rattle.description_names.specs.Same.{same_name}
-use Rattle.description_names.specs.Resources.{stage_at}
-use Rattle.description_names.specs.Operations.{own_stage}
-use Rattle.description_names.specs.Meanings.{meaning}
-use Rattle.description_promises.specs.Freedom.{AllStand}
-use Rattle.description_promises.specs.Resolving.{IsWidth}
-use Rattle.description_promises.specs.Soundness.{IsSound}
-use Rattle.description_promises.proofs.Distinct.{local_fresh, counter_fresh}
-use Rattle.description_promises.proofs.Resolved.{local_wide, counter_wide}
+use Rattle.lisa_tree.specs.declared.declared.Meaning.{Meaning}
+use Rattle.lisa_tree.specs.declared.declared.Meaning.TheVariants as meanings
+use Rattle.lisa_tree.specs.Same.{same_name}
+use Rattle.lisa_tree.specs.Resources.{stage_at}
+use Rattle.lisa_tree.specs.Operations.{own_stage}
+use Rattle.lisa_tree.specs.Meanings.{meaning}
+use Rattle.lisa_machine.specs.Freedom.{AllStand}
+use Rattle.lisa_machine.specs.Resolving.{IsWidth}
+use Rattle.lisa_machine.specs.Soundness.{IsSound}
+use Rattle.lisa_machine.proofs.Distinct.{local_fresh, counter_fresh}
+use Rattle.lisa_machine.proofs.Resolved.{local_wide, counter_wide}
 use Rattle.use_promises.proofs.Counted.{counter_holds}
 use Rattle.lisa_words.specs.declared.words.Kind.TheVariants as kinds
 use Rattle.typed_values.specs.Words.{TypedWord, number_value}

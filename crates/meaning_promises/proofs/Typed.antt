@@ -4,8 +4,8 @@ use Rattle.std.proofs.lemmas.Bool.Decides.{nat_tests}
 use Rattle.lisa_words.specs.declared.words.Kind.{Kind}
 use Rattle.lisa_words.specs.declared.words.Kind.TheVariants as kinds
 use Rattle.lisa_tree.specs.declared.tokens.Shape.{Shape}
-use Rattle.operators.specs.declared.binary.Operator.{Operator}
-use Rattle.operators.specs.declared.binary.Operator.TheVariants as operators
+use Rattle.lisa_words.specs.declared.binary.Operator.{Operator}
+use Rattle.lisa_words.specs.declared.binary.Operator.TheVariants as operators
 use Rattle.lisa_tree.specs.Expressions as exprs
 use Rattle.lisa_tree.specs.Expressions.{ExprTree}
 use Rattle.lisa_tree.specs.Descriptions.{DescriptionTree}
@@ -16,9 +16,9 @@ use Rattle.description_places.specs.Places as places
 use Rattle.description_places.specs.Places.{at, uses}
 use Rattle.description_types.specs.Shapes.{bit, number_shape, joined_kind, joined, beside, paired}
 use Rattle.description_types.specs.Types.{Types, two_type, type_of}
-use Rattle.description_promises.specs.Freedom.{Stands, AllStand}
-use Rattle.description_promises.specs.Resolving.{IsWidth}
-use Rattle.description_promises.proofs.Among.{among_left, among_right}
+use Rattle.lisa_machine.specs.Freedom.{Stands, AllStand}
+use Rattle.lisa_machine.specs.Resolving.{IsWidth}
+use Rattle.lisa_machine.proofs.Among.{among_left, among_right}
 use Rattle.typed_values.specs.Words.{TypedWord, typed, word_width, as_shape, zero_of, truth, number_value}
 use Rattle.typed_values.specs.Operators.{operand}
 use Rattle.typed_values.specs.Expressions.{Reader, made_of, value}

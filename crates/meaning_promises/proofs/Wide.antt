@@ -7,12 +7,12 @@ use Rattle.lisa_tree.specs.declared.descriptions.CodingItem.{CodingItem}
 use Rattle.lisa_tree.specs.declared.descriptions.CodingItem.TheVariants as items
 use Rattle.lisa_tree.specs.Descriptions as trees
 use Rattle.lisa_tree.specs.Descriptions.{CodingTree, DescriptionTree}
-use Rattle.description_names.specs.Operations.{sections_at, coding_in}
-use Rattle.description_promises.specs.Codings.{FitsItem}
-use Rattle.description_promises.specs.Resolving.{IsWidth}
-use Rattle.description_promises.specs.Soundness.{IsSound}
-use Rattle.description_promises.proofs.Fitting.{coding_fits}
-use Rattle.description_promises.proofs.Standing.{coding_stand}
+use Rattle.lisa_tree.specs.Operations.{sections_at, coding_in}
+use Rattle.lisa_machine.specs.Codings.{FitsItem}
+use Rattle.lisa_machine.specs.Resolving.{IsWidth}
+use Rattle.lisa_machine.specs.Soundness.{IsSound}
+use Rattle.lisa_machine.proofs.Fitting.{coding_fits}
+use Rattle.lisa_machine.proofs.Standing.{coding_stand}
 use Rattle.instruction_trees.specs.Trees.{Item, Done, Pass, Value, Choose, Form, Fits, AnyValue, coding, placed}
 use Rattle.instruction_trees.specs.Values.{own_values}
 use Rattle.coding_tables.specs.Codings.{pattern_digits, items_of, coding_table}

@@ -1,7 +1,7 @@
 -- What parts of an instruction operations are.
 use Rattle.std.specs.Prelude.{ℕ, ◌≡◌, true, false, Option, None, Some}
 use Rattle.lisa_tree.specs.Descriptions.{DescriptionTree}
-use Rattle.description_names.specs.Operations.{sections_at, coding_in, is_alias}
+use Rattle.lisa_tree.specs.Operations.{sections_at, coding_in, is_alias}
 use Rattle.coded_names.specs.Codings.{is_coding}
 use Rattle.instruction_trees.specs.Trees.{Form, Fits, AnyValue, coding, is_plain}
 use Rattle.coding_tables.specs.Codings.{coding_table}

@@ -1,7 +1,7 @@
 -- Scenes in which something runs.
 use Rattle.std.specs.Prelude.{ℕ, ◌≡◌, true, List, [], ◌∷◌, Some}
 use Rattle.lisa_tree.specs.Descriptions.{DescriptionTree}
-use Rattle.description_names.specs.Operations.{number_of}
+use Rattle.lisa_tree.specs.Operations.{number_of}
 use Rattle.graph_paths.specs.Paths.{is_in}
 use Rattle.stage_checks.specs.Controls.{main_name}
 use Rattle.activation_trees.specs.Starting.{plain_named}

@@ -5,10 +5,10 @@ use Rattle.lisa_tree.specs.Descriptions.{DescriptionTree}
 use Rattle.description_places.specs.declared.sites.Region.{Region}
 use Rattle.description_places.specs.Scopes.{Scope}
 use Rattle.description_places.specs.Places.{at, Reads, ReadsElement, ReadsInput, ReadsOutput, ReadsBoundary}
-use Rattle.description_names.specs.Resources.{field_shape}
+use Rattle.lisa_tree.specs.Resources.{field_shape}
 use Rattle.description_types.specs.Shapes.{bit}
 use Rattle.description_types.specs.Types.{Types, name_type, element_type}
-use Rattle.description_promises.specs.Freedom.{Stands}
+use Rattle.lisa_machine.specs.Freedom.{Stands}
 use Rattle.typed_values.specs.Words.{TypedWord}
 use Rattle.typed_values.specs.Expressions.{Reader}
 

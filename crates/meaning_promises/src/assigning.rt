@@ -11,7 +11,7 @@ ghost use Rattle.description_places.specs.Scopes.{Scope};
 ghost use Rattle.description_types.specs.Tables.{Known, AreKinds};
 ghost use Rattle.description_types.specs.Types.{type_of};
 ghost use Rattle.lisa_machine.specs.Verdicts.{IsAccepted};
-ghost use Rattle.description_promises.specs.Freedom.{AllStand};
+ghost use Rattle.lisa_machine.specs.Freedom.{AllStand};
 ghost use Rattle.description_sizes.specs.Texts.{levels};
 ghost use Rattle.typed_values.specs.Effects.{whole};
 ghost use Rattle.lisa_meaning.specs.Effects.{put_within};

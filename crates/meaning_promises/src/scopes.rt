@@ -6,7 +6,7 @@ ghost use Rattle.lisa_tree.specs.Descriptions.{DescriptionTree};
 ghost use Rattle.description_places.specs.Places.{places, all_places, after};
 ghost use Rattle.description_places.specs.Scopes.{Scope};
 ghost use Rattle.lisa_machine.specs.Verdicts.{IsAccepted};
-ghost use Rattle.description_promises.specs.Freedom.{AllStand};
+ghost use Rattle.lisa_machine.specs.Freedom.{AllStand};
 ghost use Rattle.typed_values.specs.Effects.{effect, effects};
 ghost use Rattle.lisa_meaning.specs.Moments.{Moment};
 ghost use Rattle.lisa_meaning.specs.Scenes.{Scene, running};

@@ -9,7 +9,7 @@ ghost use Rattle.description_places.specs.Scopes.{Scope};
 ghost use Rattle.description_types.specs.Tables.{Known, AreKinds};
 ghost use Rattle.description_types.specs.Types.{Types, type_of};
 ghost use Rattle.lisa_machine.specs.Verdicts.{IsAccepted};
-ghost use Rattle.description_promises.specs.Freedom.{AllStand};
+ghost use Rattle.lisa_machine.specs.Freedom.{AllStand};
 ghost use Rattle.typed_values.specs.Expressions.{Reader, value};
 ghost use Rattle.lisa_meaning.specs.Moments.{Moment};
 ghost use Rattle.lisa_meaning.specs.Scenes.{Scene, running};

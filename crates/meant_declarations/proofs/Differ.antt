@@ -8,8 +8,8 @@ use Rattle.std.specs.Option.{is_some}
 use Rattle.std.proofs.lemmas.Bool.{cases_Bool, or_cases, eq-eqb, eqb-true}
 use Rattle.std.proofs.lemmas.Option.{slice_get_within}
 use Rattle.lisa_tree.specs.Descriptions.{DescriptionTree}
-use Rattle.description_names.specs.Declarations.{Entry, entries}
-use Rattle.description_names.specs.Paths.{refers}
+use Rattle.lisa_tree.specs.Declarations.{Entry, entries}
+use Rattle.lisa_tree.specs.Paths.{refers}
 use Rattle.graph_paths.specs.Paths.{is_in, saw}
 use Rattle.meant_declarations.specs.Meant.{MayMean, itself, higher, IsFound, Differ}
 use Rattle.meant_declarations.specs.Meanings.{direct_meanings, here, onward, SomeLedTo}

@@ -9,10 +9,10 @@ use Rattle.std.proofs.lemmas.Bool.Decides.{nat_tests}
 use Rattle.std.proofs.lemmas.Option.{slice_get_past}
 use Rattle.std.proofs.lemmas.List.Folds.{list_any-append}
 use Rattle.lisa_tree.specs.Descriptions.{DescriptionTree}
-use Rattle.description_names.specs.declared.declared.What.{What}
-use Rattle.description_names.specs.declared.declared.What.TheVariants as whats
-use Rattle.description_names.specs.Same.{same_name}
-use Rattle.description_names.specs.Declarations.{Entry, entries, declared_at, what_at, is_reference, above}
+use Rattle.lisa_tree.specs.declared.declared.What.{What}
+use Rattle.lisa_tree.specs.declared.declared.What.TheVariants as whats
+use Rattle.lisa_tree.specs.Same.{same_name}
+use Rattle.lisa_tree.specs.Declarations.{Entry, entries, declared_at, what_at, is_reference, above}
 use Rattle.graph_paths.specs.Paths.{targets, is_in, AreNodes}
 use Rattle.meant_declarations.specs.Meanings.{declared_by, direct_meanings}
 use Rattle.meant_declarations.specs.Walks.{is_declaration}

@@ -3,10 +3,10 @@ use Rattle.std.proofs.Common.{◌≡◌, ◌↔◌, ◌<◌, ◌&&◌, ℕ, List
 use Rattle.std.specs.Prelude.{slice_get}
 use Rattle.std.proofs.lemmas.Option.{slice_get_within}
 use Rattle.lisa_tree.specs.Descriptions.{DescriptionTree}
-use Rattle.description_names.specs.declared.declared.What.{What}
-use Rattle.description_names.specs.declared.declared.What.TheVariants as whats
-use Rattle.description_names.specs.Declarations.{Entry, entries, what_at}
-use Rattle.description_names.specs.Paths.{refers}
+use Rattle.lisa_tree.specs.declared.declared.What.{What}
+use Rattle.lisa_tree.specs.declared.declared.What.TheVariants as whats
+use Rattle.lisa_tree.specs.Declarations.{Entry, entries, what_at}
+use Rattle.lisa_tree.specs.Paths.{refers}
 use Rattle.std.specs.Option.{is_some}
 use Rattle.graph_paths.specs.Paths.{is_in, saw, AreNodes}
 use Rattle.graph_paths.proofs.Long.{within}

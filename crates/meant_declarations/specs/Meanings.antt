@@ -3,7 +3,7 @@ use Rattle.std.specs.Prelude.{◌≡◌, ◌<◌, ℕ, true, List, [], ◌∷◌
 use Rattle.std.specs.Option.{option_to_list}
 use Rattle.std.specs.Global.{Vec}
 use Rattle.lisa_tree.specs.Descriptions.{DescriptionTree}
-use Rattle.description_names.specs.Declarations.{entries, declared_at, what_at, is_reference, owner_at, entry_name_at, above}
+use Rattle.lisa_tree.specs.Declarations.{entries, declared_at, what_at, is_reference, owner_at, entry_name_at, above}
 use Rattle.graph_paths.specs.Paths.{targets, is_in}
 
 -- what operations declare by a name, as far as they do

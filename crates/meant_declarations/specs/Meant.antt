@@ -1,9 +1,9 @@
 -- Which declarations a declared name may mean.
 use Rattle.std.specs.Prelude.{◌≡◌, ℕ, Bool, true, false, List, Option, None, Some, slice_get}
 use Rattle.lisa_tree.specs.Descriptions.{DescriptionTree}
-use Rattle.description_names.specs.declared.declared.What.TheVariants as whats
-use Rattle.description_names.specs.Declarations.{Entry, entries, declared_at, above}
-use Rattle.description_names.specs.Paths.{refers}
+use Rattle.lisa_tree.specs.declared.declared.What.TheVariants as whats
+use Rattle.lisa_tree.specs.Declarations.{Entry, entries, declared_at, above}
+use Rattle.lisa_tree.specs.Paths.{refers}
 use Rattle.graph_paths.specs.Paths.{is_in, saw}
 
 -- A declared name may mean itself where it is no reference. A reference may mean what an operation above its own declares by its name, and

@@ -2,8 +2,8 @@
 use Rattle.std.specs.Prelude.{◌≡◌, ◌<◌, ℕ, Bool, true, false, List, Option, None, Some, cond, not, length}
 use Rattle.std.specs.Option.{is_some}
 use Rattle.std.specs.Global.{Vec}
-use Rattle.description_names.specs.declared.declared.What.{What}
-use Rattle.description_names.specs.declared.declared.What.TheVariants as whats
+use Rattle.lisa_tree.specs.declared.declared.What.{What}
+use Rattle.lisa_tree.specs.declared.declared.What.TheVariants as whats
 use Rattle.graph_paths.specs.Paths.{Leads, is_in, saw}
 use Rattle.least_fixed_points.specs.Settles.{entry}
 

@@ -2,12 +2,12 @@
 
 ghost use Rattle.std.specs.Prelude.{◌≡◌, ◌++◌, ℕ, IfOk, OnOk, length};
 ghost use Rattle.std.specs.Option.{option_to_list};
-ghost use Rattle.description_names.specs.Declarations.{entries, is_reference, declared_at};
+ghost use Rattle.lisa_tree.specs.Declarations.{entries, is_reference, declared_at};
 ghost use Rattle.graph_paths.specs.Paths.{targets};
 ghost use Rattle.meant_declarations.specs.Meanings.{declared_by, direct_meanings};
 ghost use Rattle.meant_declarations.specs.Walks.{is_declaration};
 
-use description_names::{Names, What};
+use lisa_tree::{Names, What};
 use lisa_words::Name;
 use std::alloc::{AllocError, Global};
 

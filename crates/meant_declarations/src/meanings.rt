@@ -1,7 +1,7 @@
 //! What holds of the declarations that a declared name may mean.
 
 ghost use Rattle.std.specs.Prelude.{◌≡◌, ◌<◌, ◌↔◌, ◌&&◌, ℕ, true, length, IfOk};
-ghost use Rattle.description_names.specs.Declarations.{entries, what_at};
+ghost use Rattle.lisa_tree.specs.Declarations.{entries, what_at};
 ghost use Rattle.graph_paths.specs.Paths.{saw, targets};
 ghost use Rattle.least_fixed_points.specs.Settles.{entry};
 ghost use Rattle.meant_declarations.specs.Meant.{IsFound, Differ};
@@ -11,8 +11,8 @@ ghost use Rattle.meant_declarations.specs.Walks.{is_declaration};
 use crate::differing::{found_values, mixed};
 use crate::directly::{all_direct_meanings, is_declaration};
 use crate::walking::{are_some, is_marked, origins};
-use description_names::Names;
 use graph_paths::{reversed, row};
+use lisa_tree::Names;
 use lisa_words::NoMemory;
 use std::alloc::{AllocError, Global};
 use std::marker::Model;

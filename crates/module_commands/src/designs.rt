@@ -27,8 +27,8 @@ fn unread(fault: VerilogFault) -> End
     }
 }
 
-// The module that bytes spell.
-fn module_of(alloc: Global, bytes: &[u8]) -> Result<Module, End>
+/// The module that bytes spell.
+pub fn module_of(alloc: Global, bytes: &[u8]) -> Result<Module, End>
     requires { length bytes.now < 2 ^ 32 }
     ensures finds { Finds module_tree (VAccepts bytes.now) (IsUnreadModule bytes.now) result }
     ensures clockable { IfOk result (λ m. IsClockable (module_tree m)) }

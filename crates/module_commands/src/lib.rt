@@ -8,3 +8,4 @@ mod designs;
 mod parts;
 
 pub use clocking::do_with_module;
+pub use designs::module_of;

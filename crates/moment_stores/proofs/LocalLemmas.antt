@@ -5,7 +5,7 @@ use Rattle.std.specs.Prelude.{Some, None}
 use Rattle.std.specs.Map.{lookup}
 use Rattle.std.specs.List.{take-map, drop-map}
 use Rattle.std.proofs.lemmas.List.{take-append-drop, map-set, map-append, drop-take, take-take, take-set-le, drop-append-le}
-use Rattle.description_names.specs.Same.{same_name}
+use Rattle.lisa_tree.specs.Same.{same_name}
 use Rattle.typed_values.specs.Words.{TypedWord, typed_word}
 use Rattle.typed_values.specs.Effects.{Locals, local_put}
 use Rattle.moment_stores.specs.declared.locals.Local.{Local}

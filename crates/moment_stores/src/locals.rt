@@ -2,7 +2,7 @@
 ghost use Rattle.std.specs.Prelude.{◌≡◌, ◌<◌, ◌≤◌, ◌+◌, [], ℕ, true, false, IfOk, IsSome, drop, length, option_map, slice_index_or, take};
 ghost use Rattle.std.specs.Vec.{vec_len, vec_capacity};
 ghost use Rattle.std.specs.Map.{lookup};
-ghost use Rattle.description_names.specs.Same.{same_name};
+ghost use Rattle.lisa_tree.specs.Same.{same_name};
 ghost use Rattle.typed_values.specs.Words.{typed_word};
 ghost use Rattle.typed_values.specs.Effects.{local_put};
 ghost use Rattle.moment_stores.specs.declared.locals.Local.{Local};

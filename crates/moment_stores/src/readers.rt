@@ -2,8 +2,8 @@
 ghost use Rattle.std.specs.Prelude.{◌≡◌, ◌<◌, ◌-◌, [], All, option_map, slice_index_or};
 ghost use Rattle.std.specs.Map.{lookup};
 ghost use Rattle.lisa_tree.specs.Descriptions.{description_tree};
-ghost use Rattle.description_names.specs.Resources.{stages};
-ghost use Rattle.description_names.specs.Same.{same_name};
+ghost use Rattle.lisa_tree.specs.Resources.{stages};
+ghost use Rattle.lisa_tree.specs.Same.{same_name};
 ghost use Rattle.typed_values.specs.Words.{typed_word};
 ghost use Rattle.lisa_meaning.specs.Moments.{field_at};
 ghost use Rattle.moment_stores.specs.Fitting.{MomentFits};

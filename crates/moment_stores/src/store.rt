@@ -4,7 +4,7 @@ ghost use Rattle.std.specs.Vec.{vec_len};
 ghost use Rattle.lisa_tree.specs.Descriptions.{description_tree};
 ghost use Rattle.lisa_engine.specs.Images.{first_cells};
 ghost use Rattle.lisa_engine.specs.Shape.{AreCells, IsFitting};
-ghost use Rattle.description_names.specs.Resources.{stages, fields};
+ghost use Rattle.lisa_tree.specs.Resources.{stages, fields};
 ghost use Rattle.machine_parts.specs.Parts.{arrays_of, pins_of, registers_of, first_values};
 ghost use Rattle.moment_stores.specs.Rows.{rows};
 ghost use Rattle.moment_stores.specs.Fitting.{FieldsFit, OutsFit};

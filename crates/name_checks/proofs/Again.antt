@@ -2,7 +2,7 @@
 use Rattle.std.proofs.Common.{◌≡◌, ◌<◌, ◌+◌, ℕ, suc, Bool, true, false, List, [], ◌∷◌, ◌++◌, length, map, get_or, drop, drop-cons, Some, cond, ◌||◌, refl, ap, sym, ◌∙◌, add-one}
 use Rattle.std.specs.List.{list_any}
 use Rattle.lisa_tree.specs.declared.tokens.Shape.{Shape}
-use Rattle.description_names.specs.Same.{same_name}
+use Rattle.lisa_tree.specs.Same.{same_name}
 use Rattle.name_checks.specs.Doubled.{again_in, field_names}
 
 pub any_of_map : {X Y : Type 0} (f : X → Y) (test : Y → Bool) (xs : List X) → list_any (λ x. test (f x)) xs ≡ list_any test (map f xs)

@@ -11,10 +11,10 @@ use Rattle.description_places.specs.declared.sites.Region.{Region}
 use Rattle.description_places.specs.declared.sites.Region.TheVariants as regions
 use Rattle.description_places.specs.Scopes.{Scope, local_named}
 use Rattle.description_places.specs.Places.{Condition, Resource, Head, Section, Declared, Alternatives, Local, Counts}
-use Rattle.description_names.specs.Same.{same_name}
-use Rattle.description_names.specs.Resources.{resource_at, is_pipe}
-use Rattle.description_names.specs.Operations.{number_of, name_at}
-use Rattle.description_names.specs.Declarations.{declared_at, entries_before}
+use Rattle.lisa_tree.specs.Same.{same_name}
+use Rattle.lisa_tree.specs.Resources.{resource_at, is_pipe}
+use Rattle.lisa_tree.specs.Operations.{number_of, name_at}
+use Rattle.lisa_tree.specs.Declarations.{declared_at, entries_before}
 
 abbrev pub duplicate_fault : Bool → List ℕ → Option DescFault
 duplicate_fault doubled n = cond doubled (Some (faults.Duplicate n)) None

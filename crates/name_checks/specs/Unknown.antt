@@ -12,14 +12,14 @@ use Rattle.lisa_tree.specs.Descriptions.{ResourceTree, DescriptionTree}
 use Rattle.description_places.specs.Scopes.{Scope, local_named}
 use Rattle.description_places.specs.Places as places
 use Rattle.description_places.specs.Places.{Condition}
-use Rattle.description_names.specs.declared.declared.What.{What}
-use Rattle.description_names.specs.declared.declared.Meaning.{Meaning}
-use Rattle.description_names.specs.declared.declared.Meaning.TheVariants as meanings
-use Rattle.description_names.specs.Same.{same_name}
-use Rattle.description_names.specs.Resources.{resource_at, stage_at, field_shape, is_pipeline}
-use Rattle.description_names.specs.Operations.{number_of, name_at}
-use Rattle.description_names.specs.Declarations.{declared_at, what_at, is_reference, above}
-use Rattle.description_names.specs.Meanings.{meaning}
+use Rattle.lisa_tree.specs.declared.declared.What.{What}
+use Rattle.lisa_tree.specs.declared.declared.Meaning.{Meaning}
+use Rattle.lisa_tree.specs.declared.declared.Meaning.TheVariants as meanings
+use Rattle.lisa_tree.specs.Same.{same_name}
+use Rattle.lisa_tree.specs.Resources.{resource_at, stage_at, field_shape, is_pipeline}
+use Rattle.lisa_tree.specs.Operations.{number_of, name_at}
+use Rattle.lisa_tree.specs.Declarations.{declared_at, what_at, is_reference, above}
+use Rattle.lisa_tree.specs.Meanings.{meaning}
 
 abbrev pub unknown_fault : (operation : List ℕ) → Bool → List ℕ → Option DescFault
 unknown_fault operation found n = cond found None (Some (faults.Unknown operation n))

@@ -3,15 +3,14 @@
 ghost use Rattle.std.specs.Prelude.{◌≡◌, ◌||◌, List, ℕ, Bool, map, take, IfOk};
 ghost use Rattle.lisa_tree.specs.Statements.{head_tree};
 ghost use Rattle.lisa_tree.specs.Descriptions.{resource_tree, section_tree};
-ghost use Rattle.description_names.specs.Resources.{is_pipe};
+ghost use Rattle.lisa_tree.specs.Resources.{is_pipe};
 ghost use Rattle.name_checks.specs.Doubled.{duplicate_fault, named_fault, resource_fault, section_fault, is_head_taken, head_fault, is_declared_before, declared_fault, local_fault, counter_fault, duplicate, is_fields};
 ghost use Rattle.std.specs.List.{list_any};
 
 use crate::lookups::{is_earlier, is_taken, name_at};
 use crate::repeats::{fields_fault, front, has_fields, has_pipe, has_section, list_fault};
-use description_names::Names;
 use description_places::{Condition, Region, Scope, Site};
-use lisa_tree::{DescFault, Description, ForHead, Resource, Section};
+use lisa_tree::{DescFault, Description, ForHead, Names, Resource, Section};
 use lisa_words::{Name, NoMemory};
 use std::alloc::Global;
 

@@ -7,9 +7,8 @@ ghost use Rattle.name_checks.specs.Unknown.{unknown};
 
 use crate::doubled::Doubled;
 use crate::unknown::Unknown;
-use description_names::Names;
 use description_places::first_fault;
-use lisa_tree::DescFault;
+use lisa_tree::{DescFault, Names};
 use lisa_words::NoMemory;
 use std::alloc::Global;
 

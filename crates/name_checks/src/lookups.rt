@@ -2,14 +2,13 @@
 
 ghost use Rattle.std.specs.Prelude.{◌≡◌, IfOk};
 ghost use Rattle.lisa_tree.specs.Descriptions.{description_tree};
-ghost use Rattle.description_names.specs.Resources.{is_pipe_at, is_pipeline};
-ghost use Rattle.description_names.specs.Operations.{name_at};
+ghost use Rattle.lisa_tree.specs.Resources.{is_pipe_at, is_pipeline};
+ghost use Rattle.lisa_tree.specs.Operations.{name_at};
 ghost use Rattle.name_checks.specs.Doubled.{earlier, is_taken};
 ghost use Rattle.name_checks.specs.Unknown.{is_something, stands, is_known, is_stage, is_main};
 
-use description_names::{Meaning, Names};
 use description_places::Scope;
-use lisa_tree::{Description, Resource};
+use lisa_tree::{Description, Meaning, Names, Resource};
 use lisa_words::{Name, NoMemory};
 use std::alloc::Global;
 

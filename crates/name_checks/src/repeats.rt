@@ -3,8 +3,8 @@
 ghost use Rattle.std.specs.Prelude.{◌≡◌, [], ◌∷◌, ◌++◌, false, take, map, option_copied, IfOk, length};
 ghost use Rattle.std.specs.List.{list_any};
 ghost use Rattle.lisa_tree.specs.Descriptions.{resource_tree, section_tree};
-ghost use Rattle.description_names.specs.Same.{same_name};
-ghost use Rattle.description_names.specs.Resources.{is_pipe};
+ghost use Rattle.lisa_tree.specs.Same.{same_name};
+ghost use Rattle.lisa_tree.specs.Resources.{is_pipe};
 ghost use Rattle.name_checks.specs.Doubled.{again_in, field_names, is_fields, is_of, list_fault};
 
 use description_places::Region;

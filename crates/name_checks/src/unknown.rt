@@ -5,14 +5,13 @@ ghost use Rattle.std.specs.List.{list_any};
 ghost use Rattle.lisa_tree.specs.Expressions.{expr_tree};
 ghost use Rattle.lisa_tree.specs.Statements.{head_tree};
 ghost use Rattle.lisa_tree.specs.Descriptions.{resource_tree, operation_tree};
-ghost use Rattle.description_names.specs.Operations.{name_at};
-ghost use Rattle.description_names.specs.Declarations.{declared_at, is_reference};
+ghost use Rattle.lisa_tree.specs.Operations.{name_at};
+ghost use Rattle.lisa_tree.specs.Declarations.{declared_at, is_reference};
 ghost use Rattle.name_checks.specs.Unknown.{unknown_fault, pipe_unknown, resource_unknown, head_unknown, operation_unknown, alternatives_unknown, lacks, is_loose, what_of, reference_unknown, part_unknown, register_unknown, root_unknown, name_unknown, field_unknown, stage_unknown, control_unknown, behind_unknown, boundary_unknown, counter_unknown, stands, unknown};
 
 use crate::lookups::{is_known, is_main, is_stage, name_at, stands};
-use description_names::{Names, What};
 use description_places::{Condition, Region, Scope, Site};
-use lisa_tree::{BoundaryField, DescFault, Expr, ForHead, Operation, Resource};
+use lisa_tree::{BoundaryField, DescFault, Expr, ForHead, Names, Operation, Resource, What};
 use lisa_words::{Name, NoMemory};
 use std::alloc::Global;
 

@@ -8,9 +8,8 @@ ghost use Rattle.netlist_wires.specs.Wiring.{operator_of, named, body_tree, wire
 ghost use Rattle.netlist_build.specs.Assembled.{IsWord, HasWords, IsWrite, actions_then, puts};
 
 use lisa_engine::{ArrayItem, Item};
-use lisa_words::{Name, NoMemory, Word, decimal};
+use lisa_words::{Name, NoMemory, Operator, Word, decimal};
 use netlist_wires::keys::{Body, Flat, Key, Write};
-use operators::Operator;
 use std::alloc::{AllocError, Global};
 use step_program::{StepProgram, TwoOp};
 use verilog_text::{Action, Member, VExpr, VOne};

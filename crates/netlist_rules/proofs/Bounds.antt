@@ -9,8 +9,8 @@ use Rattle.std.proofs.Math.Nat.{pow-le-pow_right}
 use Rattle.lisa_engine.specs.Images.{IsDepth}
 use Rattle.lisa_engine.specs.declared.parts.Item.{Item}
 use Rattle.lisa_engine.specs.declared.parts.ArrayItem.{ArrayItem}
-use Rattle.operators.specs.Operators.{level_of}
-use Rattle.operators.specs.declared.binary.Operator.{Operator}
+use Rattle.lisa_words.specs.Operators.{level_of}
+use Rattle.lisa_words.specs.declared.binary.Operator.{Operator}
 use Rattle.verilog_text.specs.declared.tokens.VKeyword.TheVariants as words
 use Rattle.verilog_text.specs.declared.tokens.VSign.TheVariants as signs
 use Rattle.verilog_text.specs.declared.expressions.VOne.TheVariants as vones

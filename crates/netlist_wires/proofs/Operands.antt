@@ -5,7 +5,7 @@ use Rattle.std.proofs.lemmas.Bool.{cond_both, eqb-true, eqb-false}
 use Rattle.std.proofs.lemmas.List.{get_or-set_same, get_or-set_other}
 use Rattle.std.proofs.Math.Nat.{mod-eq_of_lt, max-eq_left}
 use Rattle.lisa_words.specs.Words.{word_not}
-use Rattle.operators.specs.declared.binary.Operator.TheVariants as operators
+use Rattle.lisa_words.specs.declared.binary.Operator.TheVariants as operators
 use Rattle.verilog_text.specs.Values.{Widths, Env, truth, is_true, operate, left_length, right_length, v_width, v_value, assigned, self_value}
 use Rattle.verilog_text.specs.Values as values
 use Rattle.step_program.specs.declared.expressions.OneOp.TheVariants.{Not}

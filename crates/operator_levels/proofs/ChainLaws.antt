@@ -1,9 +1,9 @@
 -- Joining operands one by one groups them by levels.
 use Rattle.std.proofs.Common.{◌≡◌, ℕ, suc, ◌≤◌, List, [], ◌∷◌, ◌++◌, Some, option_and_then, refl, sym, ap, subst, ◌∙◌, append_assoc, arith, max}
 use Rattle.std.proofs.lemmas.List.{append-nil}
-use Rattle.operators.specs.declared.binary.Operator.{Operator}
-use Rattle.operators.specs.Operators.{level_of}
-use Rattle.operators.specs.Levels.{Level, operand, pair, tighter}
+use Rattle.lisa_words.specs.declared.binary.Operator.{Operator}
+use Rattle.lisa_words.specs.Operators.{level_of}
+use Rattle.lisa_words.specs.Levels.{Level, operand, pair, tighter}
 use Rattle.operator_levels.specs.Stacks.{Stack, pushed}
 use Rattle.operator_levels.specs.Chains.{Item, Operand, Between, items, IsOperand, IsGrouped, run}
 use Rattle.operator_levels.proofs.StackLaws.{level_range, IsLooser, looser_up, pushed_stays, pushed_pops, finished_pops, and_then_some, Waits, nothing, pushed_waits, finished_spelled}

@@ -1,9 +1,9 @@
 -- What joining does, for any way of spelling by levels.
 use Rattle.std.proofs.Common.{◌≡◌, ℕ, zero, suc, ◌<◌, ◌≤◌, Bool, true, false, cond, ltb, List, [], ◌∷◌, ◌++◌, Option, Some, None, option_and_then, refl, sym, ap, subst, ◌∙◌, append_assoc, arith, inl, inr, max}
 use Rattle.std.proofs.lemmas.Bool.{cases_lt, ltb-true, lt-ltb, le-ltb}
-use Rattle.operators.specs.declared.binary.Operator.{Operator}
-use Rattle.operators.specs.declared.binary.Operator.TheVariants as operators
-use Rattle.operators.specs.Operators.{level_of}
+use Rattle.lisa_words.specs.declared.binary.Operator.{Operator}
+use Rattle.lisa_words.specs.declared.binary.Operator.TheVariants as operators
+use Rattle.lisa_words.specs.Operators.{level_of}
 use Rattle.operator_levels.specs.Stacks.{Stack, joined_before, pushed, finished}
 
 pub level_range : (o : Operator) → (1 ≤ level_of o) × (level_of o ≤ 10)

@@ -1,7 +1,7 @@
 -- Operands with operators between them, and the trees that they may be grouped to.
 use Rattle.std.specs.Prelude.{◌≡◌, ℕ, List, [], ◌∷◌, Option, option_and_then}
-use Rattle.operators.specs.declared.binary.Operator.{Operator}
-use Rattle.operators.specs.Levels.{Level}
+use Rattle.lisa_words.specs.declared.binary.Operator.{Operator}
+use Rattle.lisa_words.specs.Levels.{Level}
 use Rattle.operator_levels.specs.Stacks.{Stack, pushed, finished}
 
 pub data Item (Tree : Type 0) : Type 0 where

@@ -1,7 +1,7 @@
 -- Operands that wait for what stands behind their operator.
 use Rattle.std.specs.Prelude.{◌≡◌, ℕ, List, [], ◌∷◌, map, reverse, Option, Some, None, option_and_then, nat_lt, if◌then◌else◌, Result, Ok, Err}
-use Rattle.operators.specs.declared.binary.Operator.{Operator}
-use Rattle.operators.specs.Operators.{level_of}
+use Rattle.lisa_words.specs.declared.binary.Operator.{Operator}
+use Rattle.lisa_words.specs.Operators.{level_of}
 use Rattle.operator_levels.specs.declared.operands.Waiting.{Waiting}
 use Rattle.operator_levels.specs.declared.operands.Operands.{Operands}
 use Rattle.operator_levels.specs.declared.operands.JoinFault.{JoinFault}

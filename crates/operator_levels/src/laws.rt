@@ -1,7 +1,7 @@
 //! What joining operands one by one comes to.
 
 ghost use Rattle.std.specs.Prelude.{◌≡◌, ◌≤◌, ℕ, List, [], Some};
-ghost use Rattle.operators.specs.declared.binary.Operator.{Operator};
+ghost use Rattle.lisa_words.specs.declared.binary.Operator.{Operator};
 ghost use Rattle.operator_levels.specs.Chains.{items, IsGrouped, run};
 
 use crate::operands::Joined;

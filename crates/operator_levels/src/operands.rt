@@ -1,13 +1,12 @@
 //! Operands that wait for what stands behind their operator.
 
 ghost use Rattle.std.specs.Prelude.{◌≡◌, ◌<◌, ◌≤◌, ◌^◌, ℕ, suc, max, [], IfOk};
-ghost use Rattle.operators.specs.declared.binary.Operator.{Operator};
+ghost use Rattle.lisa_words.specs.declared.binary.Operator.{Operator};
 ghost use Rattle.operator_levels.specs.declared.operands.JoinFault.TheVariants.{NoMemory as NoRoom};
-ghost use Rattle.operators.specs.Operators.{level_of};
+ghost use Rattle.lisa_words.specs.Operators.{level_of};
 ghost use Rattle.operator_levels.specs.Stacks.{stack_of, stack_in, joined_before, pushed, finished, JoinGives};
 
-use lisa_words::NoMemory;
-use operators::{Operator, level};
+use lisa_words::{NoMemory, Operator, level};
 use std::alloc::{AllocError, AllocFailed, Global};
 
 /// A tree that two trees and an operator make.

@@ -8,7 +8,7 @@ use Rattle.std.proofs.lemmas.List.{get_or-set_same, get_or-set_other, length-set
 use Rattle.std.proofs.lemmas.List.FromFn.{length-map-range_with_len, get_or-map-range_with_len}
 use Rattle.std.proofs.Math.Seq.{map-set_same}
 use Rattle.lisa_tree.specs.Descriptions.{DescriptionTree}
-use Rattle.description_names.specs.Resources.{stages, fields}
+use Rattle.lisa_tree.specs.Resources.{stages, fields}
 use Rattle.item_layouts.specs.declared.place.ItemPlace.{ItemPlace}
 use Rattle.item_layouts.specs.declared.place.ItemPlace.TheVariants.{Register, Field}
 use Rattle.item_layouts.specs.Layouts.{ItemValues, HasPlace, item_places}

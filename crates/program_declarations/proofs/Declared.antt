@@ -8,11 +8,11 @@ use Rattle.lisa_tree.specs.Descriptions.{DescriptionTree}
 use Rattle.lisa_engine.specs.declared.parts.Item.{Item}
 use Rattle.lisa_engine.specs.declared.parts.ArrayItem.{ArrayItem}
 use Rattle.lisa_engine.specs.Shape.{HaveWidths, HaveDistinctNames}
-use Rattle.description_names.specs.Resources.{stages, fields}
+use Rattle.lisa_tree.specs.Resources.{stages, fields}
 use Rattle.machine_parts.specs.Parts.{arrays_of, pins_of, registers_of}
 use Rattle.lisa_machine.specs.Verdicts.{IsAccepted}
 use Rattle.lisa_machine.specs.Machines.{IsSpelled}
-use Rattle.description_promises.proofs.Sound.{sound}
+use Rattle.lisa_machine.proofs.Sound.{sound}
 use Rattle.use_promises.specs.Showing.{FitsArray, FitsShown, shown_names}
 use Rattle.use_promises.proofs.Shown.{shown_fits}
 use Rattle.spelled_promises.specs.Trees.{IsWellFormed}

@@ -8,7 +8,7 @@ use Rattle.lisa_tree.specs.Descriptions as trees
 use Rattle.lisa_tree.specs.Descriptions.{ResourceTree}
 use Rattle.lisa_engine.specs.Images as images
 use Rattle.lisa_engine.specs.declared.parts.ArrayItem.{ArrayItem}
-use Rattle.description_promises.specs.Resolving.{IsDepth}
+use Rattle.lisa_machine.specs.Resolving.{IsDepth}
 use Rattle.description_sizes.specs.Cells.{depth_in}
 use Rattle.machine_parts.specs.Parts.{array_in}
 

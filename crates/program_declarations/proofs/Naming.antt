@@ -5,7 +5,7 @@ use Rattle.std.specs.List.{AllByRecursion, list_all}
 use Rattle.std.proofs.lemmas.Bool.Decides.{nat_tests}
 use Rattle.std.proofs.lemmas.Fmt.{decimal_by_steps}
 use Rattle.std.proofs.lemmas.List.Elements.{All-from_recursion, recursion_from_All}
-use Rattle.text_scan.specs.Bytes.{is_word}
+use Rattle.lisa_words.specs.Bytes.{is_word}
 use Rattle.spelled_promises.specs.Words.{IsName}
 use Rattle.step_program.specs.WellFormed.{IsGraphic, IsDigit, IsWireName, IsFreeName}
 use Rattle.program_declarations.proofs.Apart.{each_append}

@@ -7,8 +7,8 @@ use Rattle.lisa_tree.specs.Descriptions as trees
 use Rattle.lisa_tree.specs.Descriptions.{ResourceTree, OperationTree, DescriptionTree}
 use Rattle.lisa_engine.specs.declared.parts.Item.{Item}
 use Rattle.lisa_engine.specs.declared.parts.ArrayItem.{ArrayItem}
-use Rattle.description_names.specs.Resources.{stages, stages_in, fields, fields_in}
-use Rattle.description_names.specs.Operations.{name_at, operation_at}
+use Rattle.lisa_tree.specs.Resources.{stages, stages_in, fields, fields_in}
+use Rattle.lisa_tree.specs.Operations.{name_at, operation_at}
 use Rattle.machine_parts.specs.Parts.{array_in, pin_in, register_in, registers_of}
 use Rattle.spelled_promises.specs.Words.{IsName}
 use Rattle.spelled_promises.specs.Trees.{IsWellFormed, IsWellFormedResource, IsWellFormedOperation}

@@ -4,7 +4,7 @@ use Rattle.std.specs.Prelude.{filter_map, slice_get, option_map}
 use Rattle.std.specs.List.{cons_option}
 use Rattle.std.specs.Option.{option_and_then}
 use Rattle.lisa_tree.specs.Descriptions.{DescriptionTree}
-use Rattle.description_names.specs.Declarations.{is_reference}
+use Rattle.lisa_tree.specs.Declarations.{is_reference}
 use Rattle.instruction_forms.specs.Trees.{FormTree}
 use Rattle.activation_trees.specs.declared.parts.Occurrence.{Occurrence}
 use Rattle.activation_trees.specs.Activators.{HasActivator, IsChild}

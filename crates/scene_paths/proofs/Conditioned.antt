@@ -9,7 +9,7 @@ use Rattle.lisa_tree.specs.declared.expressions.Expr.{Expr}
 use Rattle.lisa_tree.specs.declared.descriptions.Operation.{Operation}
 use Rattle.lisa_tree.specs.Descriptions.{SectionTree, OperationTree, DescriptionTree, operation_tree}
 use Rattle.lisa_tree.specs.Expressions.{ExprTree, expr_tree}
-use Rattle.description_names.specs.Operations.{activation_in, sections_at}
+use Rattle.lisa_tree.specs.Operations.{activation_in, sections_at}
 use Rattle.description_tables.proofs.Lists.{one_more}
 use Rattle.lisa_meaning.specs.Cores.{conditions_in}
 use Rattle.scene_paths.specs.Conditions.{conditions_of, all_conditions, expressions_of, rows_of}

@@ -17,8 +17,8 @@ use Rattle.lisa_forms.specs.declared.forms.Forms.{Forms}
 use Rattle.lisa_forms.specs.Parts.{AreFormsOf}
 use Rattle.lisa_forms.specs.Choosing.{numbered_form, Stands, Chooses}
 use Rattle.lisa_meaning.specs.Cores.{chooses}
-use Rattle.lisa_coding.specs.declared.coding.Coding.{Coding}
-use Rattle.lisa_coding.specs.Parts.{IsCodingOf, IsDecodedAs}
+use Rattle.lisa_forms.specs.declared.coding.Coding.{Coding}
+use Rattle.lisa_forms.specs.Codings.{IsCodingOf, IsDecodedAs}
 use Rattle.lisa_meaning.specs.Scenes.{form_with, instruction_with, occurrence_part}
 use Rattle.lisa_meaning.specs.Standings.{standing}
 use Rattle.lisa_meaning.proofs.Words.{decoded_once}

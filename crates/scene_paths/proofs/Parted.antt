@@ -3,7 +3,7 @@ use Rattle.std.proofs.Common.{◌≡◌, ◌<◌, ◌+◌, ◌∙◌, ℕ, zero,
 use Rattle.std.specs.Prelude.{find, slice_get, option_map}
 use Rattle.std.specs.List.{All}
 use Rattle.std.proofs.lemmas.Option.{same_Some}
-use Rattle.description_names.specs.Same.{same_name}
+use Rattle.lisa_tree.specs.Same.{same_name}
 use Rattle.description_tables.proofs.Lists.{one_more}
 use Rattle.instruction_forms.specs.declared.form.Field.{Field}
 use Rattle.instruction_forms.specs.declared.form.Form.{Form}

@@ -4,7 +4,7 @@ use Rattle.std.specs.Prelude.{option_map}
 use Rattle.std.specs.Option.{option_or}
 use Rattle.lisa_tree.specs.Descriptions as trees
 use Rattle.lisa_tree.specs.Descriptions.{CodingTree, DescriptionTree}
-use Rattle.description_names.specs.Operations.{coding_in, sections_at, is_root}
+use Rattle.lisa_tree.specs.Operations.{coding_in, sections_at, is_root}
 use Rattle.coding_tables.specs.Instructions.{Root, root, root_group, root_at, root_from}
 
 module _ (d : DescriptionTree) (o : ℕ) where

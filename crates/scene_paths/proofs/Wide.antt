@@ -9,12 +9,12 @@ use Rattle.lisa_tree.specs.declared.descriptions.CodingItem.{CodingItem}
 use Rattle.lisa_tree.specs.declared.descriptions.CodingItem.TheVariants as items
 use Rattle.lisa_tree.specs.Descriptions as trees
 use Rattle.lisa_tree.specs.Descriptions.{CodingTree, DescriptionTree}
-use Rattle.description_names.specs.Operations.{coding_in, sections_at}
+use Rattle.lisa_tree.specs.Operations.{coding_in, sections_at}
 use Rattle.lisa_machine.specs.Verdicts.{IsAccepted}
-use Rattle.description_promises.specs.Codings.{FitsCoding, FitsItem}
-use Rattle.description_promises.proofs.Sound.{sound}
-use Rattle.description_promises.proofs.Standing.{coding_stand}
-use Rattle.description_promises.proofs.Fitting.{coding_fits}
+use Rattle.lisa_machine.specs.Codings.{FitsCoding, FitsItem}
+use Rattle.lisa_machine.proofs.Sound.{sound}
+use Rattle.lisa_machine.proofs.Standing.{coding_stand}
+use Rattle.lisa_machine.proofs.Fitting.{coding_fits}
 use Rattle.instruction_trees.specs.Trees.{Table, Item, Fixed, Free, Field, Child, Tree, Done, Pass, Value, Choose, coding, size, placed}
 use Rattle.instruction_trees.specs.Values.{own_values, inner_values, values, StandsBelow}
 use Rattle.coding_tables.specs.Codings.{digit_item, pattern_digits, items_of, coding_table}
@@ -30,10 +30,10 @@ use Rattle.form_patterns.proofs.Placing.{place_of, whole_places}
 use Rattle.form_patterns.proofs.Filling.{fit_at}
 use Rattle.form_patterns.proofs.Rowed.{row_is}
 use Rattle.lisa_forms.specs.Choosing.{tree_at, child_at, Stands, whole, child, other, further}
-use Rattle.lisa_coding.specs.declared.coding.Coding.{Coding}
-use Rattle.lisa_coding.specs.Parts.{IsCodingOf}
-use Rattle.lisa_coding.proofs.Formed.{patterns_counted}
-use Rattle.lisa_coding.proofs.Fielded.{rows_inside}
+use Rattle.lisa_forms.specs.declared.coding.Coding.{Coding}
+use Rattle.lisa_forms.specs.Codings.{IsCodingOf}
+use Rattle.lisa_forms.proofs.Patterned.{patterns_counted}
+use Rattle.lisa_forms.proofs.Fielded.{rows_inside}
 use Rattle.scene_paths.specs.Spans.{IsField, HasFields}
 
 -- ---- parts of lists

@@ -10,12 +10,12 @@ use Rattle.lisa_tree.specs.declared.descriptions.RegisterWord.{RegisterWord}
 use Rattle.lisa_engine.specs.declared.parts.Item.{Item}
 use Rattle.lisa_engine.specs.declared.parts.ArrayItem.{ArrayItem}
 use Rattle.lisa_engine.specs.Shape.{IsFitting}
-use Rattle.description_names.specs.Resources.{fields_in}
+use Rattle.lisa_tree.specs.Resources.{fields_in}
 use Rattle.machine_parts.specs.Parts.{array, item, array_in, arrays_of, pin_in, pins_of, register_in, registers_of}
 use Rattle.lisa_machine.specs.Verdicts.{IsAccepted}
-use Rattle.description_promises.specs.Resolving.{IsWidth, FitsResource}
-use Rattle.description_promises.proofs.Sound.{sound}
-use Rattle.description_promises.proofs.Resolved.{resource_fits}
+use Rattle.lisa_machine.specs.Resolving.{IsWidth, FitsResource}
+use Rattle.lisa_machine.proofs.Sound.{sound}
+use Rattle.lisa_machine.proofs.Resolved.{resource_fits}
 use Rattle.lisa_meaning.specs.Values as values
 use Rattle.scene_paths.specs.declared.array.Array.{Array}
 use Rattle.scene_paths.specs.declared.array.ArrayType.{ArrayType}

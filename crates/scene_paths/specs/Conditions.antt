@@ -5,7 +5,7 @@ use Rattle.std.specs.Global.{Vec}
 use Rattle.lisa_tree.specs.declared.expressions.Expr.{Expr}
 use Rattle.lisa_tree.specs.Expressions.{ExprTree, expr_tree}
 use Rattle.lisa_tree.specs.Descriptions.{OperationTree}
-use Rattle.description_names.specs.Operations.{activation_in}
+use Rattle.lisa_tree.specs.Operations.{activation_in}
 use Rattle.lisa_meaning.specs.Cores.{conditions_in}
 
 abbrev pub expressions_of : List (Bor Expr) → List ExprTree

@@ -3,14 +3,14 @@ use Rattle.std.specs.Prelude.{ℕ, ◌≡◌, List, Option, option_map}
 use Rattle.lisa_tree.specs.declared.tokens.Shape.{Shape}
 use Rattle.lisa_tree.specs.Expressions.{ExprTree}
 use Rattle.lisa_tree.specs.Descriptions.{DescriptionTree}
-use Rattle.description_names.specs.Resources as resources
+use Rattle.lisa_tree.specs.Resources as resources
 use Rattle.description_sizes.specs.Texts as texts
 use Rattle.coding_tables.specs.Instructions.{first_root}
 use Rattle.lisa_machine.specs.Verdicts.{IsAccepted}
 use Rattle.lisa_forms.specs.declared.forms.Forms.{Forms}
 use Rattle.lisa_forms.specs.Parts.{AreFormsOf}
-use Rattle.lisa_coding.specs.declared.coding.Coding.{Coding}
-use Rattle.lisa_coding.specs.Parts.{IsCodingOf}
+use Rattle.lisa_forms.specs.declared.coding.Coding.{Coding}
+use Rattle.lisa_forms.specs.Codings.{IsCodingOf}
 use Rattle.lisa_meaning.specs.Values.{field_place}
 use Rattle.scene_paths.specs.declared.before.Before.{Before}
 use Rattle.scene_paths.specs.Places.{ArePlaces}

@@ -10,8 +10,7 @@ ghost use Rattle.scene_paths.specs.Lookups.{tree_of, array_of, array_type};
 
 use crate::array::{Array, ArrayType};
 use crate::described::Described;
-use description_names::Meaning;
-use lisa_tree::Resource;
+use lisa_tree::{Meaning, Resource};
 use lisa_words::Name;
 
 // The type and the depth of an array.

@@ -4,12 +4,11 @@ ghost use Rattle.std.specs.Prelude.{◌≡◌, ◌++◌, [], IfOk, OnOk, map, op
 ghost use Rattle.lisa_tree.specs.Expressions.{expr_tree};
 ghost use Rattle.lisa_tree.specs.Activations.{act_tree, act_trees};
 ghost use Rattle.lisa_tree.specs.Descriptions.{operation_tree, section_tree};
-ghost use Rattle.description_names.specs.Operations.{activation_in};
+ghost use Rattle.lisa_tree.specs.Operations.{activation_in};
 ghost use Rattle.lisa_meaning.specs.Cores.{conditions_in, item_conditions, items_conditions};
 ghost use Rattle.scene_paths.specs.Conditions.{all_conditions, expressions_of, rows_of};
 
-use description_names::activation;
-use lisa_tree::{Act, Expr, Operation, Section};
+use lisa_tree::{Act, Expr, Operation, Section, activation};
 use std::alloc::{AllocError, Global};
 
 // Adds the conditions of an item.

@@ -3,8 +3,7 @@
 use crate::before::Before;
 use description_tables::Tables;
 use indexmap::IndexMap;
-use lisa_coding::Coding;
-use lisa_forms::Forms;
+use lisa_forms::{Coding, Forms};
 use lisa_tree::{Expr, Shape};
 use lisa_words::Name;
 use std::marker::Model;
@@ -32,7 +31,7 @@ impl<'a> Model for Described<'a> {
     ghost use Rattle.lisa_tree.specs.contracts.expressions.Expr as expression;
     ghost use Rattle.lisa_tree.specs.contracts.statements.Stmt as statement;
     ghost use Rattle.lisa_tree.specs.Descriptions.{description_tree};
-    ghost use Rattle.description_names.specs.Same.{same_name};
+    ghost use Rattle.lisa_tree.specs.Same.{same_name};
     ghost use Rattle.scene_paths.specs.Conditions.{rows_of};
     ghost use Rattle.scene_paths.specs.Kept.{IsKept};
 

@@ -5,16 +5,16 @@ ghost use Rattle.indexmap.specs.IndexMap.{get};
 ghost use Rattle.lisa_tree.specs.Expressions.{expr_tree};
 ghost use Rattle.lisa_tree.specs.Statements.{stmt_trees};
 ghost use Rattle.lisa_tree.specs.Descriptions.{coding_tree, description_tree, resource_tree};
-ghost use Rattle.description_names.specs.Same.{same_name};
-ghost use Rattle.description_names.specs.Resources.{fields, stage_at};
-ghost use Rattle.description_names.specs.Operations.{sections_at, activation_in, behavior_in, coding_in, expression_in, is_root, own_stage};
-ghost use Rattle.description_names.specs.Meanings.{meaning};
-ghost use Rattle.description_names.specs.Paths.{node_count};
+ghost use Rattle.lisa_tree.specs.Same.{same_name};
+ghost use Rattle.lisa_tree.specs.Resources.{fields, stage_at};
+ghost use Rattle.lisa_tree.specs.Operations.{sections_at, activation_in, behavior_in, coding_in, expression_in, is_root, own_stage};
+ghost use Rattle.lisa_tree.specs.Meanings.{meaning};
+ghost use Rattle.lisa_tree.specs.Paths.{node_count};
 ghost use Rattle.description_sizes.specs.Texts.{levels};
 ghost use Rattle.coding_tables.specs.Instructions.{first_root};
 ghost use Rattle.lisa_machine.specs.Verdicts.{IsAccepted};
 ghost use Rattle.lisa_forms.specs.Parts.{AreFormsOf};
-ghost use Rattle.lisa_coding.specs.Parts.{IsCodingOf};
+ghost use Rattle.lisa_forms.specs.Codings.{IsCodingOf};
 ghost use Rattle.activation_trees.specs.Starting.{plain_named};
 ghost use Rattle.lisa_meaning.specs.Scenes.{declared};
 ghost use Rattle.lisa_meaning.specs.Values.{register_place, array_place, pin_place, field_place, shape_at};
@@ -27,14 +27,15 @@ use crate::before::{Before, places};
 use crate::conditions::{condition_at, conditions};
 use crate::described::Described;
 use crate::fields::{boundary_fields, field_places, shape_at};
-use description_names::{Meaning, Names, What, behavior, coding, expression};
 use description_tables::Tables;
 use description_types::{is_root, operation_count, resource, sections};
 use indexmap::IndexMap;
-use lisa_coding::Coding;
-use lisa_forms::Forms;
+use lisa_forms::{Coding, Forms};
 use lisa_machine::Machine;
-use lisa_tree::{CodingPart, Description, Expr, Resource, Shape, Stmt};
+use lisa_tree::{
+    CodingPart, Description, Expr, Meaning, Names, Resource, Shape, Stmt, What, behavior, coding,
+    expression,
+};
 use lisa_words::{Name, NoMemory};
 use std::alloc::Global;
 

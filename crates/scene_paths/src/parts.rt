@@ -1,7 +1,7 @@
 //! What parts of instructions' forms hold.
 
 ghost use Rattle.std.specs.Prelude.{◌≡◌, ◌≤◌, ◌<◌, ◌+◌, ◌^◌, Some, find, option_map};
-ghost use Rattle.description_names.specs.Same.{same_name};
+ghost use Rattle.lisa_tree.specs.Same.{same_name};
 ghost use Rattle.instruction_forms.specs.Trees.{form_tree};
 ghost use Rattle.lisa_forms.specs.Choosing.{child_at, operation_of};
 ghost use Rattle.typed_values.specs.Words.{typed_word};

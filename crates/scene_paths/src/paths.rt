@@ -2,8 +2,8 @@
 
 ghost use Rattle.std.specs.Prelude.{◌≡◌, option_map, position};
 ghost use Rattle.graph_paths.specs.Paths.{is_in};
-ghost use Rattle.description_names.specs.Same.{same_name};
-ghost use Rattle.description_names.specs.Declarations.{is_reference};
+ghost use Rattle.lisa_tree.specs.Same.{same_name};
+ghost use Rattle.lisa_tree.specs.Declarations.{is_reference};
 ghost use Rattle.activation_trees.specs.Starting.{plain_named};
 ghost use Rattle.lisa_forms.specs.Choosing.{child_names, child_place};
 ghost use Rattle.lisa_meaning.specs.Scenes.{child_at_home, child_part, chosen, declared, first_operation, home, onto, part_at};
@@ -16,8 +16,7 @@ use crate::described::Described;
 use crate::part::Part;
 use crate::sight::Sight;
 use coded_names::names_instructions;
-use description_names::What;
-use lisa_tree::{CodingItem, CodingPart};
+use lisa_tree::{CodingItem, CodingPart, What};
 use lisa_words::Name;
 
 /// An operation where it runs, and the part of the instruction's form that it is.

@@ -9,7 +9,7 @@ use Rattle.lisa_tree.specs.declared.faults.DescFault.TheVariants as faults
 use Rattle.lisa_tree.specs.Statements.{HeadTree}
 use Rattle.lisa_tree.specs.Descriptions as trees
 use Rattle.lisa_tree.specs.Descriptions.{ResourceTree, DescriptionTree}
-use Rattle.description_names.specs.Operations.{name_at}
+use Rattle.lisa_tree.specs.Operations.{name_at}
 use Rattle.description_places.specs.Places.{Condition, Resource, Field, Casts, Local, Loops, Counts}
 use Rattle.shape_checks.specs.declared.bounds.Bounds.{Bounds}
 use Rattle.shape_checks.specs.Bounds.{bounds_of, turns, holds_values}

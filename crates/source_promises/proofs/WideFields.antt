@@ -5,7 +5,7 @@ use Rattle.lisa_tree.specs.declared.descriptions.CodingItem.{CodingItem}
 use Rattle.lisa_tree.specs.declared.descriptions.CodingItem.TheVariants as items
 use Rattle.lisa_tree.specs.Descriptions as trees
 use Rattle.lisa_tree.specs.Descriptions.{CodingTree, DescriptionTree}
-use Rattle.description_names.specs.Operations.{coding_in, sections_at}
+use Rattle.lisa_tree.specs.Operations.{coding_in, sections_at}
 use Rattle.lisa_machine.specs.Verdicts.{IsAccepted}
 use Rattle.instruction_trees.specs.Trees.{Item, Fixed, Free, Field, Child, Table, coding, Tree, Done, Pass, Value, Choose, Form, Fits, AnyValue, placed, size}
 use Rattle.instruction_trees.specs.Values.{own_values, inner_values, values}
@@ -13,11 +13,11 @@ use Rattle.coding_tables.specs.Codings.{digit_item, pattern_digits, items_of, co
 use Rattle.coding_tables.specs.Instructions.{instruction_items}
 use Rattle.coding_tables.proofs.Levels as levels
 use Rattle.form_patterns.specs.Instructions.{field_places}
-use Rattle.description_promises.specs.Codings.{FitsItem}
-use Rattle.description_promises.specs.Soundness.{IsSound}
-use Rattle.description_promises.proofs.Fitting.{coding_fits}
-use Rattle.description_promises.proofs.Sound.{sound}
-use Rattle.description_promises.proofs.Standing.{coding_stand}
+use Rattle.lisa_machine.specs.Codings.{FitsItem}
+use Rattle.lisa_machine.specs.Soundness.{IsSound}
+use Rattle.lisa_machine.proofs.Fitting.{coding_fits}
+use Rattle.lisa_machine.proofs.Sound.{sound}
+use Rattle.lisa_machine.proofs.Standing.{coding_stand}
 
 -- each field has some bit
 abbrev HasBits : List Item → Type 0

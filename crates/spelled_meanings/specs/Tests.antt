@@ -2,7 +2,7 @@
 use Rattle.std.specs.Prelude.{ℕ, ◌≡◌, Some, slice_get}
 use Rattle.lisa_tree.specs.Expressions.{ExprTree}
 use Rattle.lisa_tree.specs.Descriptions.{DescriptionTree}
-use Rattle.description_names.specs.Operations.{sections_at, activation_in}
+use Rattle.lisa_tree.specs.Operations.{sections_at, activation_in}
 use Rattle.typed_values.specs.Laws.{HasNumbers}
 use Rattle.lisa_meaning.specs.Cores.{conditions_in}
 

@@ -8,7 +8,7 @@ use Rattle.lisa_tree.specs.Statements.{StmtTrees}
 use Rattle.lisa_tree.specs.Activations.{ActTrees}
 use Rattle.lisa_tree.specs.Descriptions as trees
 use Rattle.lisa_tree.specs.Descriptions.{CodingTree, SectionTree, OperationTree, DescriptionTree}
-use Rattle.description_names.specs.Operations.{operation_at, sections_at, declares_in, coding_in, syntax_in, behavior_in, expression_in, activation_in}
+use Rattle.lisa_tree.specs.Operations.{operation_at, sections_at, declares_in, coding_in, syntax_in, behavior_in, expression_in, activation_in}
 use Rattle.spelled_promises.specs.Trees.{IsWellFormed, IsWellFormedExpr, IsWellFormedStmts, IsWellFormedActs, IsWellFormedDeclare, IsWellFormedCoding, IsWellFormedSyntax, IsWellFormedSection, IsWellFormedOperation}
 
 pub one_of : {A : Type 0} (P : A → Type 0) (all : List A) (k : ℕ) (a : A) → AllByRecursion P all → slice_get all k ≡ Some a → P a

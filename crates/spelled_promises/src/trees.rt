@@ -8,7 +8,7 @@ ghost use Rattle.lisa_tree.specs.Statements.{StmtTrees};
 ghost use Rattle.lisa_tree.specs.Activations.{ActTrees};
 ghost use Rattle.lisa_tree.specs.Descriptions.{ResourceTree, CodingTree, OperationTree, DescriptionTree};
 ghost use Rattle.lisa_tree.specs.Texts.{SpellsText};
-ghost use Rattle.description_names.specs.Operations.{operation_at, sections_at, declares_in, coding_in, syntax_in, behavior_in, expression_in, activation_in};
+ghost use Rattle.lisa_tree.specs.Operations.{operation_at, sections_at, declares_in, coding_in, syntax_in, behavior_in, expression_in, activation_in};
 ghost use Rattle.spelled_promises.specs.Trees.{IsWellFormed, IsWellFormedExpr, IsWellFormedStmts, IsWellFormedActs, IsWellFormedResource, IsWellFormedDeclare, IsWellFormedCoding, IsWellFormedSyntax, IsWellFormedOperation};
 
 /// In a description that is spelled each name has from 1 to 64 bytes, a letter or `_` first, and is no reserved word and no type; each

@@ -6,10 +6,10 @@ use Rattle.std.proofs.lemmas.Bool.{cases_Bool, eqb-true, or_cases, ltb-false, le
 use Rattle.std.proofs.lemmas.Option.{slice_get_past}
 use Rattle.std.proofs.lemmas.List.Quantifiers.{position-Some}
 use Rattle.lisa_tree.specs.Descriptions.{OperationTree, DescriptionTree}
-use Rattle.description_names.specs.Same.{same_name}
-use Rattle.description_names.specs.Declarations.{Choice, choices, alternatives_at, plain_at}
-use Rattle.description_names.specs.Operations.{number_of, numbers_of, is_alias, own_stage, operation_at}
-use Rattle.description_names.specs.Resources.{stages, stage_at}
+use Rattle.lisa_tree.specs.Same.{same_name}
+use Rattle.lisa_tree.specs.Declarations.{Choice, choices, alternatives_at, plain_at}
+use Rattle.lisa_tree.specs.Operations.{number_of, numbers_of, is_alias, own_stage, operation_at}
+use Rattle.lisa_tree.specs.Resources.{stages, stage_at}
 use Rattle.graph_paths.specs.Paths.{is_in}
 use Rattle.stage_checks.specs.Running.{named_choices}
 use Rattle.stage_checks.specs.Graphs.{node_count, nodes_of, row_at}

@@ -10,7 +10,7 @@ use Rattle.lisa_tree.specs.declared.descriptions.Act.TheVariants as acts
 use Rattle.lisa_tree.proofs.Views.{act_tree-Choose, act_tree-ChooseElse}
 use Rattle.lisa_tree.specs.Activations.{Then, act_tree, act_trees}
 use Rattle.lisa_tree.specs.Descriptions.{DescriptionTree}
-use Rattle.description_names.specs.Declarations.{choices}
+use Rattle.lisa_tree.specs.Declarations.{choices}
 use Rattle.graph_paths.specs.Paths.{targets, is_in, saw}
 use Rattle.graph_paths.proofs.Long.{within}
 use Rattle.graph_paths.proofs.Search.{saw_below}

@@ -4,8 +4,8 @@ use Rattle.std.specs.Option.{option_or, is_some}
 use Rattle.std.specs.Global.{Vec}
 use Rattle.std.proofs.lemmas.Bool.{cases_Bool, eqb-true, eq-eqb, or_cases, ltb-true, ltb-false, lt-ltb, le-ltb}
 use Rattle.lisa_tree.specs.Descriptions.{DescriptionTree}
-use Rattle.description_names.specs.Declarations.{choices, plain_at}
-use Rattle.description_names.specs.Operations.{number_of, own_stage}
+use Rattle.lisa_tree.specs.Declarations.{choices, plain_at}
+use Rattle.lisa_tree.specs.Operations.{number_of, own_stage}
 use Rattle.graph_paths.specs.Paths.{is_in, targets, Leads, Reaches, edge, more, AreNodes, saw}
 use Rattle.graph_paths.proofs.Search.{saw_below}
 use Rattle.stage_checks.specs.Controls.{main_name}

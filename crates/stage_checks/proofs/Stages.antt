@@ -3,13 +3,13 @@ use Rattle.std.proofs.Common.{◌≡◌, ℕ, suc, zero, ◌+◌, ◌<◌, ◌�
 use Rattle.std.specs.List.{list_any}
 use Rattle.std.proofs.Math.Dec.{eqb-suc-suc, eqb-suc-zero}
 use Rattle.lisa_tree.specs.Descriptions.{DescriptionTree}
-use Rattle.description_names.specs.Operations.{own_stage}
+use Rattle.lisa_tree.specs.Operations.{own_stage}
 use Rattle.graph_paths.specs.Paths.{saw}
 use Rattle.stage_checks.specs.Controls.{is_before}
 use Rattle.stage_checks.specs.Spreading.{entry}
 use Rattle.stage_checks.specs.Backward.{first_before, IsEarliest, any_late}
 use Rattle.std.proofs.lemmas.Bool.{cases_Bool, cases_eq, eq-eqb, ne_eqb, ltb-true, ltb-false}
-use Rattle.description_names.specs.Declarations.{choices, plain_at}
+use Rattle.lisa_tree.specs.Declarations.{choices, plain_at}
 use Rattle.graph_paths.proofs.Seen.{saw_past}
 use Rattle.stage_checks.proofs.Tables.{entry_push, entry_past}
 use Rattle.stage_checks.proofs.Nodes.{plain_past}

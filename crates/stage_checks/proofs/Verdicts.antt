@@ -3,7 +3,7 @@ use Rattle.std.proofs.Common.{◌≡◌, ◌∙◌, ap, ℕ, Bool, Option, not, 
 use Rattle.std.specs.Option.{is_some}
 use Rattle.lisa_tree.specs.Descriptions.{DescriptionTree}
 use Rattle.description_places.specs.Places.{first, description_places}
-use Rattle.description_names.specs.Operations.{number_of}
+use Rattle.lisa_tree.specs.Operations.{number_of}
 use Rattle.stage_checks.specs.Controls.{main_name}
 use Rattle.stage_checks.specs.Closing.{closes_well}
 use Rattle.stage_checks.specs.Backward.{main_fits, skipping, bad_main}

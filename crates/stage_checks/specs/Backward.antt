@@ -6,8 +6,8 @@ use Rattle.lisa_tree.specs.Descriptions.{OperationTree, DescriptionTree}
 use Rattle.lisa_tree.specs.declared.faults.DescFault.{DescFault}
 use Rattle.lisa_tree.specs.declared.faults.DescFault.TheVariants as faults
 use Rattle.description_places.specs.Places.{Starts, Condition, first, description_places}
-use Rattle.description_names.specs.Declarations.{plain_at}
-use Rattle.description_names.specs.Operations.{number_of, operation_at, coding_in, name_at, own_stage}
+use Rattle.lisa_tree.specs.Declarations.{plain_at}
+use Rattle.lisa_tree.specs.Operations.{number_of, operation_at, coding_in, name_at, own_stage}
 use Rattle.stage_checks.specs.Controls.{main_name, is_before}
 use Rattle.stage_checks.specs.Closing.{closes_well}
 use Rattle.stage_checks.specs.Running.{started, AreLatest, AreFree}

@@ -5,7 +5,7 @@ use Rattle.lisa_tree.specs.Statements as stmts
 use Rattle.lisa_tree.specs.Statements.{StmtTree, StmtTrees}
 use Rattle.lisa_tree.specs.Descriptions as trees
 use Rattle.lisa_tree.specs.Descriptions.{SectionTree, OperationTree, DescriptionTree}
-use Rattle.description_names.specs.Same.{same_name}
+use Rattle.lisa_tree.specs.Same.{same_name}
 use Rattle.stage_checks.specs.Controls.{main_name}
 
 -- an `execute` or a `shift`

@@ -5,7 +5,7 @@ use Rattle.std.specs.Option.{is_some, option_or}
 use Rattle.std.specs.Global.{Vec}
 use Rattle.std.specs.Borrow.{Bor}
 use Rattle.lisa_tree.specs.Descriptions.{DescriptionTree}
-use Rattle.description_names.specs.Declarations.{choices, plain_at}
+use Rattle.lisa_tree.specs.Declarations.{choices, plain_at}
 use Rattle.graph_paths.specs.Paths.{is_in, targets, Leads, Reaches}
 use Rattle.stage_checks.specs.Running.{named_choices}
 

@@ -9,11 +9,11 @@ use Rattle.lisa_tree.specs.declared.faults.DescFault.TheVariants as faults
 use Rattle.description_places.specs.Scopes.{Scope, local_named}
 use Rattle.description_places.specs.Places as places
 use Rattle.description_places.specs.Places.{Place, Condition}
-use Rattle.description_names.specs.declared.declared.Meaning.{Meaning}
-use Rattle.description_names.specs.declared.declared.Meaning.TheVariants as meanings
-use Rattle.description_names.specs.Same.{same_name}
-use Rattle.description_names.specs.Operations.{name_at}
-use Rattle.description_names.specs.Meanings.{meaning}
+use Rattle.lisa_tree.specs.declared.declared.Meaning.{Meaning}
+use Rattle.lisa_tree.specs.declared.declared.Meaning.TheVariants as meanings
+use Rattle.lisa_tree.specs.Same.{same_name}
+use Rattle.lisa_tree.specs.Operations.{name_at}
+use Rattle.lisa_tree.specs.Meanings.{meaning}
 use Rattle.stage_checks.specs.Controls.{reset_name}
 
 -- a register that is no array

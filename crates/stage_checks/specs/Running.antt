@@ -4,10 +4,10 @@ use Rattle.std.specs.Option.{option_or, option_to_list}
 use Rattle.lisa_tree.specs.Activations as acts
 use Rattle.lisa_tree.specs.Activations.{ActTree, ActTrees}
 use Rattle.lisa_tree.specs.Descriptions.{DescriptionTree}
-use Rattle.description_names.specs.declared.declared.What.{What}
-use Rattle.description_names.specs.declared.declared.What.TheVariants as whats
-use Rattle.description_names.specs.Declarations.{declared_at, what_at, plain_at}
-use Rattle.description_names.specs.Operations.{number_of, sections_at, activation_in, own_stage}
+use Rattle.lisa_tree.specs.declared.declared.What.{What}
+use Rattle.lisa_tree.specs.declared.declared.What.TheVariants as whats
+use Rattle.lisa_tree.specs.Declarations.{declared_at, what_at, plain_at}
+use Rattle.lisa_tree.specs.Operations.{number_of, sections_at, activation_in, own_stage}
 use Rattle.graph_paths.specs.Paths.{is_in}
 use Rattle.stage_checks.specs.Controls.{main_name}
 

@@ -5,14 +5,13 @@ ghost use Rattle.std.specs.Prelude.{◌≡◌, ℕ, ◌+◌, ◌<◌, ◌^◌, �
 ghost use Rattle.std.specs.Option.{option_to_list};
 ghost use Rattle.lisa_tree.specs.Activations.{act_tree, act_trees};
 ghost use Rattle.lisa_tree.specs.Descriptions.{operation_tree};
-ghost use Rattle.description_names.specs.Operations.{activation_in};
-ghost use Rattle.description_names.specs.Declarations.{choices, plain_at};
+ghost use Rattle.lisa_tree.specs.Operations.{activation_in};
+ghost use Rattle.lisa_tree.specs.Declarations.{choices, plain_at};
 ghost use Rattle.stage_checks.specs.Running.{started, choice_of, act_names, acts_names, activation_names, choices_named, named_choices};
 ghost use Rattle.stage_checks.specs.Graphs.{node_count, nodes_of, row_at, IsGraph, names_in};
 
 use crate::look_ups::{operation_at, operation_count};
-use description_names::{Names, What, activation};
-use lisa_tree::{Act, Operation};
+use lisa_tree::{Act, Names, Operation, What, activation};
 use lisa_words::Name;
 use std::alloc::{AllocError, Global};
 

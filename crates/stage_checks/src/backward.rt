@@ -1,7 +1,7 @@
 //! Activations of earlier stages.
 
 ghost use Rattle.std.specs.Prelude.{◌≡◌, ℕ, Option, IfOk, ◌||◌};
-ghost use Rattle.description_names.specs.Declarations.{plain_at};
+ghost use Rattle.lisa_tree.specs.Declarations.{plain_at};
 ghost use Rattle.stage_checks.specs.Controls.{is_before};
 ghost use Rattle.stage_checks.specs.Spreading.{entry};
 ghost use Rattle.stage_checks.specs.Backward.{plain_of, first_before, goes_back, backward, IsEarliest};
@@ -9,9 +9,8 @@ ghost use Rattle.stage_checks.specs.Backward.{plain_of, first_before, goes_back,
 use crate::activations::started;
 use crate::controls::is_before;
 use crate::look_ups::name_at;
-use description_names::Names;
 use description_places::{Condition, Region, Scope, Site};
-use lisa_tree::DescFault;
+use lisa_tree::{DescFault, Names};
 use lisa_words::NoMemory;
 use std::alloc::{AllocError, Global};
 

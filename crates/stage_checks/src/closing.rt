@@ -1,5 +1,5 @@
 //! Where `execute` and `shift` stand.
-#![tactic(auto, using(crate::proofs::Items::one_statement, crate::proofs::Items::one_operation, description_names::proofs::Lists::one_section))]
+#![tactic(auto, using(crate::proofs::Items::one_statement, crate::proofs::Items::one_operation, lisa_tree::proofs::Lists::one_section))]
 
 ghost use Rattle.std.specs.Prelude.{◌≡◌};
 ghost use Rattle.lisa_tree.specs.Statements.{stmt_tree, stmt_trees};

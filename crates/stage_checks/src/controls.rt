@@ -1,13 +1,12 @@
 //! Stalls and flushes of stages.
 
 ghost use Rattle.std.specs.Prelude.{◌≡◌, ℕ, Option, IfOk};
-ghost use Rattle.description_names.specs.Operations.{name_at};
+ghost use Rattle.lisa_tree.specs.Operations.{name_at};
 ghost use Rattle.stage_checks.specs.Controls.{is_before, may_control, refusal, control};
 
 use crate::look_ups::{is_named_main, name_at};
-use description_names::Names;
 use description_places::{Condition, Region, Scope, Site};
-use lisa_tree::DescFault;
+use lisa_tree::{DescFault, Names};
 use lisa_words::{Name, NoMemory};
 use std::alloc::Global;
 

@@ -14,9 +14,8 @@ use crate::controls::Controls;
 use crate::mains::{Skipping, late_choices, main_fits};
 use crate::resets::Resets;
 use crate::running::{free_operations, latest_stages, main_at};
-use description_names::Names;
 use description_places::first_fault;
-use lisa_tree::DescFault;
+use lisa_tree::{DescFault, Names};
 use lisa_words::NoMemory;
 use std::alloc::Global;
 

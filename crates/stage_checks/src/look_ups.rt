@@ -2,12 +2,11 @@
 
 ghost use Rattle.std.specs.Prelude.{◌≡◌, IfOk, slice_get, option_map, length};
 ghost use Rattle.lisa_tree.specs.Descriptions.{operation_tree, resource_tree};
-ghost use Rattle.description_names.specs.Same.{same_name};
-ghost use Rattle.description_names.specs.Operations.{name_at, operation_at};
+ghost use Rattle.lisa_tree.specs.Same.{same_name};
+ghost use Rattle.lisa_tree.specs.Operations.{name_at, operation_at};
 ghost use Rattle.stage_checks.specs.Controls.{main_name, reset_name};
 
-use description_names::Names;
-use lisa_tree::{Operation, Resource};
+use lisa_tree::{Names, Operation, Resource};
 use lisa_words::{Name, NoMemory};
 use std::alloc::Global;
 

@@ -2,7 +2,7 @@
 
 ghost use Rattle.std.specs.Prelude.{◌≡◌, ℕ, Option, IfOk};
 ghost use Rattle.lisa_tree.specs.Descriptions.{operation_tree};
-ghost use Rattle.description_names.specs.Declarations.{plain_at};
+ghost use Rattle.lisa_tree.specs.Declarations.{plain_at};
 ghost use Rattle.graph_paths.specs.Paths.{saw};
 ghost use Rattle.stage_checks.specs.Backward.{any_late, plain_of, skipping, is_plain, main_fits};
 
@@ -10,9 +10,8 @@ use crate::activations::started;
 use crate::controls::is_before;
 use crate::look_ups::operation_at;
 use crate::running::is_reached;
-use description_names::{Names, coding};
 use description_places::{Condition, Region, Scope, Site};
-use lisa_tree::{DescFault, Operation};
+use lisa_tree::{DescFault, Names, Operation, coding};
 use lisa_words::NoMemory;
 use std::alloc::{AllocError, Global};
 

@@ -6,9 +6,8 @@ ghost use Rattle.description_places.specs.Places.{place_of};
 ghost use Rattle.stage_checks.specs.Resets.{is_scalar, may_use, is_behavior, has_more, goes_beyond, bad_reset};
 
 use crate::look_ups::{is_named_reset, resource_at};
-use description_names::{Meaning, Names};
 use description_places::{Condition, Region, Scope, Site};
-use lisa_tree::{DescFault, Operation, Resource, Section};
+use lisa_tree::{DescFault, Meaning, Names, Operation, Resource, Section};
 use lisa_words::{Name, NoMemory};
 
 // Whether a resource is a register that is no array.
@@ -42,7 +41,7 @@ fn is_behavior(section: &Section) -> bool
 }
 
 // Whether an operation has a stage, or a section that is no behaviour.
-#[tactic(auto, using(description_names::proofs::Lists::one_section))]
+#[tactic(auto, using(lisa_tree::proofs::Lists::one_section))]
 fn has_more(operation: &Operation) -> bool
     ensures { result ≡ has_more (operation_tree operation.now) }
 {

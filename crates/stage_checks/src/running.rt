@@ -2,8 +2,8 @@
 
 ghost use Rattle.std.specs.Prelude.{◌≡◌, ℕ, ◌<◌, length, IfOk, OnOk, ◌||◌, ◌&&◌, not, nat_eq, ◌↔◌, true, false};
 ghost use Rattle.std.specs.Option.{is_some};
-ghost use Rattle.description_names.specs.Operations.{number_of, own_stage};
-ghost use Rattle.description_names.specs.Resources.{stages};
+ghost use Rattle.lisa_tree.specs.Operations.{number_of, own_stage};
+ghost use Rattle.lisa_tree.specs.Resources.{stages};
 ghost use Rattle.graph_paths.specs.Paths.{AreNodes, is_in, saw, targets};
 ghost use Rattle.stage_checks.specs.Controls.{main_name};
 ghost use Rattle.stage_checks.specs.Spreading.{entry};
@@ -12,9 +12,8 @@ ghost use Rattle.stage_checks.specs.Graphs.{AreInner, IsFrom, is_stage};
 
 use crate::activations::graph;
 use crate::spreading::greatest;
-use description_names::Names;
 use graph_paths::{reached_from, row};
-use lisa_tree::Resource;
+use lisa_tree::{Names, Resource};
 use lisa_words::{Name, NoMemory};
 use std::alloc::{AllocError, Global};
 

@@ -2,7 +2,7 @@
 
 ghost use Rattle.std.specs.Prelude.{◌≡◌, ◌<◌, ◌^◌, length, IfOk};
 ghost use Rattle.lisa_tree.specs.Descriptions.{description_tree};
-ghost use Rattle.description_names.specs.Resources.{stages, fields};
+ghost use Rattle.lisa_tree.specs.Resources.{stages, fields};
 ghost use Rattle.machine_parts.specs.Parts.{registers_of};
 ghost use Rattle.activation_trees.specs.Unfolding.{occurrences};
 ghost use Rattle.activation_trees.specs.Items.{root_stage, has_bit};

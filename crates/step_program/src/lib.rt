@@ -2,6 +2,7 @@
 #![tactic(auto)]
 
 mod expressions;
+mod faults;
 mod fitting;
 mod forming;
 pub mod laws;
@@ -9,5 +10,6 @@ mod naming;
 mod programs;
 
 pub use expressions::{OneOp, StepExpr, TwoOp};
+pub use faults::LowerFault;
 pub use forming::well_formed;
 pub use programs::{Step, StepProgram, Target};

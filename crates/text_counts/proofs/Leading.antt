@@ -7,10 +7,10 @@ use Rattle.std.proofs.lemmas.Bool.{and_parts, eqb-true, eq-eqb}
 use Rattle.std.proofs.lemmas.Option.{same_Some, slice_get_within}
 use Rattle.lisa_tree.specs.Descriptions.{DescriptionTree}
 use Rattle.graph_paths.specs.Paths.{targets, is_in, Leads}
-use Rattle.description_names.specs.declared.declared.What.{What}
-use Rattle.description_names.specs.declared.declared.What.TheVariants as whats
-use Rattle.description_names.specs.Declarations.{Entry, entries, what_at, declared_at, above, plain_at}
-use Rattle.description_names.specs.Paths.{Choosing, Declaring, leads, node_at, node_count, entry_node}
+use Rattle.lisa_tree.specs.declared.declared.What.{What}
+use Rattle.lisa_tree.specs.declared.declared.What.TheVariants as whats
+use Rattle.lisa_tree.specs.Declarations.{Entry, entries, what_at, declared_at, above, plain_at}
+use Rattle.lisa_tree.specs.Paths.{Choosing, Declaring, leads, node_at, node_count, entry_node}
 use Rattle.description_graph.specs.Graph.{IsGraph, first_entry, is_at}
 use Rattle.description_graph.proofs.Nodes.{at_entry}
 use Rattle.description_graph.proofs.Meant.{meant_below}

@@ -8,10 +8,10 @@ use Rattle.lisa_tree.specs.Descriptions.{DescriptionTree}
 use Rattle.graph_paths.specs.Paths.{targets, is_in, saw, Leads, Reaches, edge, more}
 use Rattle.graph_paths.proofs.Long.{within}
 use Rattle.graph_paths.proofs.Listed.{all_of}
-use Rattle.description_names.specs.declared.declared.What.{What}
-use Rattle.description_names.specs.declared.declared.What.TheVariants as whats
-use Rattle.description_names.specs.Declarations.{entries, what_at, plain_at}
-use Rattle.description_names.specs.Paths.{Choosing, Declaring, leads, node_count, entry_node}
+use Rattle.lisa_tree.specs.declared.declared.What.{What}
+use Rattle.lisa_tree.specs.declared.declared.What.TheVariants as whats
+use Rattle.lisa_tree.specs.Declarations.{entries, what_at, plain_at}
+use Rattle.lisa_tree.specs.Paths.{Choosing, Declaring, leads, node_count, entry_node}
 use Rattle.description_graph.specs.Graph.{IsGraph, first_entry}
 use Rattle.text_counts.specs.References.{MayMean, chosen, referenced, chosen_by}
 use Rattle.text_counts.specs.Gathering.{IsGathered, is_ready, ready_at, is_node_ready, gathered_at, gathered, Source, AreSources, late_row}

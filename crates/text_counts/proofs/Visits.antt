@@ -8,8 +8,8 @@ use Rattle.std.proofs.lemmas.List.{length-set}
 use Rattle.lisa_tree.specs.Descriptions.{DescriptionTree}
 use Rattle.graph_paths.specs.Paths.{targets, is_in, saw}
 use Rattle.graph_paths.proofs.Seen.{saw-set}
-use Rattle.description_names.specs.declared.declared.What.TheVariants as whats
-use Rattle.description_names.specs.Declarations.{entries, what_at}
+use Rattle.lisa_tree.specs.declared.declared.What.TheVariants as whats
+use Rattle.lisa_tree.specs.Declarations.{entries, what_at}
 use Rattle.text_counts.specs.References.{MayMean, AreMeanings}
 use Rattle.text_counts.specs.Gathering.{IsGathered}
 use Rattle.text_counts.proofs.Leading.{declared}

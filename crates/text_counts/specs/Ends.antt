@@ -2,8 +2,8 @@
 use Rattle.std.proofs.Common.{◌≡◌, ℕ, ◌-◌, ◌≤◌, List, Option, None, Bool, false, cond, nat_lt, length, refl, ap, ◌∙◌, arith}
 use Rattle.std.proofs.lemmas.Option.{slice_get_past}
 use Rattle.lisa_tree.specs.Descriptions.{DescriptionTree}
-use Rattle.description_names.specs.Declarations.{entries, choices, what_at}
-use Rattle.description_names.specs.Paths.{Operation, Choosing, Declaring, node_count}
+use Rattle.lisa_tree.specs.Declarations.{entries, choices, what_at}
+use Rattle.lisa_tree.specs.Paths.{Operation, Choosing, Declaring, node_count}
 use Rattle.text_counts.specs.Sums.{Counts}
 use Rattle.text_counts.specs.Steps.{Counting, entry_count, node_count_of, follows}
 

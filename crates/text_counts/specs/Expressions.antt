@@ -3,10 +3,10 @@ use Rattle.std.specs.Prelude.{ℕ, List, [], ◌∷◌, Option, None, Some}
 use Rattle.lisa_tree.specs.Expressions as exprs
 use Rattle.lisa_tree.specs.Expressions.{ExprTree}
 use Rattle.lisa_tree.specs.Descriptions.{DescriptionTree}
-use Rattle.description_names.specs.declared.declared.What.{What}
-use Rattle.description_names.specs.declared.declared.What.TheVariants as whats
-use Rattle.description_names.specs.Declarations.{declared_at, what_at}
-use Rattle.description_names.specs.Paths.{choice_node, entry_node}
+use Rattle.lisa_tree.specs.declared.declared.What.{What}
+use Rattle.lisa_tree.specs.declared.declared.What.TheVariants as whats
+use Rattle.lisa_tree.specs.Declarations.{declared_at, what_at}
+use Rattle.lisa_tree.specs.Paths.{choice_node, entry_node}
 use Rattle.text_counts.specs.Sums.{Counts, plus, one_more, sum_of}
 
 -- ---- where what a name chooses among is counted: at its choice for a group or an instance, else at the reference

@@ -5,11 +5,11 @@ use Rattle.lisa_tree.specs.Expressions.{ExprTree}
 use Rattle.lisa_tree.specs.Statements as stmts
 use Rattle.lisa_tree.specs.Statements.{StmtTree, StmtTrees}
 use Rattle.lisa_tree.specs.Descriptions.{DescriptionTree}
-use Rattle.description_names.specs.declared.declared.What.{What}
-use Rattle.description_names.specs.declared.declared.What.TheVariants as whats
-use Rattle.description_names.specs.Operations.{sections_at, behavior_in, expression_in}
-use Rattle.description_names.specs.Declarations.{what_at, plain_at}
-use Rattle.description_names.specs.Paths.{Node, Operation, Choosing, Declaring, node_at}
+use Rattle.lisa_tree.specs.declared.declared.What.{What}
+use Rattle.lisa_tree.specs.declared.declared.What.TheVariants as whats
+use Rattle.lisa_tree.specs.Operations.{sections_at, behavior_in, expression_in}
+use Rattle.lisa_tree.specs.Declarations.{what_at, plain_at}
+use Rattle.lisa_tree.specs.Paths.{Node, Operation, Choosing, Declaring, node_at}
 use Rattle.least_fixed_points.specs.Settles.{IsWithin, IsMonotone}
 use Rattle.text_counts.specs.Sums.{Counts, plus, one_more, times, sum_of}
 use Rattle.text_counts.specs.Expressions.{counted_of, known_or, read_nodes, name_nodes, expression_nodes, own_nodes}

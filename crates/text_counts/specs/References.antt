@@ -3,10 +3,10 @@ use Rattle.std.specs.Prelude.{ℕ, ◌≡◌, ◌↔◌, true, List, [], Option,
 use Rattle.std.specs.List.Sorted.{IsStrictlyIncreasing}
 use Rattle.lisa_tree.specs.Descriptions.{DescriptionTree}
 use Rattle.graph_paths.specs.Paths.{is_in}
-use Rattle.description_names.specs.declared.declared.What.{What}
-use Rattle.description_names.specs.declared.declared.What.TheVariants as whats
-use Rattle.description_names.specs.Declarations.{what_at, plain_at}
-use Rattle.description_names.specs.Paths.{Choosing, Declaring, leads}
+use Rattle.lisa_tree.specs.declared.declared.What.{What}
+use Rattle.lisa_tree.specs.declared.declared.What.TheVariants as whats
+use Rattle.lisa_tree.specs.Declarations.{what_at, plain_at}
+use Rattle.lisa_tree.specs.Paths.{Choosing, Declaring, leads}
 
 -- A declared name, by its number, may choose an operation, no alias: an alternative of its own group or instance, or, for a reference,
 -- what some declaration of its name by an operation above its own may choose.

@@ -2,11 +2,11 @@
 use Rattle.std.specs.Prelude.{ℕ, ◌≡◌, List, Option, None, Some, option_map}
 use Rattle.std.specs.Borrow.{Bor}
 use Rattle.lisa_tree.specs.Descriptions.{DescriptionTree}
-use Rattle.description_names.specs.declared.declared.What.{What}
-use Rattle.description_names.specs.declared.declared.What.TheVariants as whats
-use Rattle.description_names.specs.Operations.{sections_at, behavior_in, expression_in}
-use Rattle.description_names.specs.Declarations.{what_at, plain_at}
-use Rattle.description_names.specs.Paths.{Node, Operation, Choosing, Declaring, node_at}
+use Rattle.lisa_tree.specs.declared.declared.What.{What}
+use Rattle.lisa_tree.specs.declared.declared.What.TheVariants as whats
+use Rattle.lisa_tree.specs.Operations.{sections_at, behavior_in, expression_in}
+use Rattle.lisa_tree.specs.Declarations.{what_at, plain_at}
+use Rattle.lisa_tree.specs.Paths.{Node, Operation, Choosing, Declaring, node_at}
 use Rattle.least_fixed_points.specs.Settles.{entry, IsWithin}
 use Rattle.text_counts.specs.Sums.{Counts, sum_of}
 use Rattle.text_counts.specs.Expressions.{read_nodes, own_nodes}

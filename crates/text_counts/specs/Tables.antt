@@ -2,7 +2,7 @@
 use Rattle.std.specs.Prelude.{ℕ, ◌≡◌, ◌<◌, ◌↔◌, List, length, Option, Some}
 use Rattle.std.specs.Global.{Vec}
 use Rattle.lisa_tree.specs.Descriptions.{DescriptionTree}
-use Rattle.description_names.specs.Operations.{sections_at, activation_in}
+use Rattle.lisa_tree.specs.Operations.{sections_at, activation_in}
 use Rattle.graph_paths.specs.Paths.{targets}
 use Rattle.least_fixed_points.specs.Settles.{entry, Settles}
 use Rattle.text_counts.specs.Sums.{Counts, plus}

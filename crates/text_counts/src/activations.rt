@@ -3,14 +3,13 @@
 ghost use Rattle.std.specs.Prelude.{◌≡◌, option_map};
 ghost use Rattle.lisa_tree.specs.Activations.{act_tree, act_trees};
 ghost use Rattle.least_fixed_points.specs.Settles.{entry};
-ghost use Rattle.description_names.specs.Operations.{sections_at, activation_in};
+ghost use Rattle.lisa_tree.specs.Operations.{sections_at, activation_in};
 ghost use Rattle.text_counts.specs.Activations.{item_nodes, items_nodes, activation_nodes};
 
 use crate::expressions::expression_nodes;
 use crate::sums::{one_more, plus};
-use description_names::{Names, activation};
 use description_types::sections;
-use lisa_tree::Act;
+use lisa_tree::{Act, Names, activation};
 
 // What an item counts, by what is known of the expressions of operations.
 #[cycle(items)]

@@ -5,14 +5,14 @@ ghost use Rattle.std.specs.List.{list_all};
 ghost use Rattle.std.specs.List.Sorted.{IsStrictlyIncreasing};
 ghost use Rattle.lisa_tree.specs.Descriptions.{DescriptionTree};
 ghost use Rattle.graph_paths.specs.Paths.{targets, is_in, saw, Reaches, AreNodes};
-ghost use Rattle.description_names.specs.declared.declared.What.TheVariants as whats;
-ghost use Rattle.description_names.specs.Declarations.{entries, what_at};
+ghost use Rattle.lisa_tree.specs.declared.declared.What.TheVariants as whats;
+ghost use Rattle.lisa_tree.specs.Declarations.{entries, what_at};
 ghost use Rattle.description_graph.specs.Graph.{IsGraph, first_entry};
 ghost use Rattle.text_counts.specs.References.{MayMean, chosen_by};
 ghost use Rattle.text_counts.specs.Gathering.{IsGathered, is_node_ready, gathered_at, gathered, AreSources, late_row};
 
-use description_names::{Names, What};
 use graph_paths::{reached_from, row};
+use lisa_tree::{Names, What};
 use std::alloc::{AllocError, Global};
 
 /// A description's graph, and where its declared names begin among the nodes.

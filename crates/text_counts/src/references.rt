@@ -4,14 +4,14 @@ ghost use Rattle.std.specs.Prelude.{◌≡◌, ◌<◌, ◌-◌, ℕ, List, [], 
 ghost use Rattle.std.specs.Global.{Vec};
 ghost use Rattle.graph_paths.specs.Paths.{targets, saw};
 ghost use Rattle.graph_paths.specs.Below.{AreBelow};
-ghost use Rattle.description_names.specs.declared.declared.What.TheVariants as whats;
-ghost use Rattle.description_names.specs.Declarations.{what_at};
+ghost use Rattle.lisa_tree.specs.declared.declared.What.TheVariants as whats;
+ghost use Rattle.lisa_tree.specs.Declarations.{what_at};
 ghost use Rattle.description_graph.specs.Graph.{IsGraph};
 ghost use Rattle.text_counts.specs.References.{AreMeanings};
 ghost use Rattle.text_counts.specs.Gathering.{IsGathered};
 
 use crate::gathering::{Graph, list_at, visit};
-use description_names::Names;
+use lisa_tree::Names;
 use lisa_words::NoMemory;
 use std::alloc::{AllocError, Global};
 use std::marker::Model;

@@ -1,8 +1,8 @@
 //! Counts of operations, choices and references that rest on each other.
 
 ghost use Rattle.std.specs.Prelude.{◌≡◌, ◌↔◌, ℕ, Some, IfOk};
-ghost use Rattle.description_names.specs.Declarations.{what_at};
-ghost use Rattle.description_names.specs.Paths.{node_count};
+ghost use Rattle.lisa_tree.specs.Declarations.{what_at};
+ghost use Rattle.lisa_tree.specs.Paths.{node_count};
 ghost use Rattle.graph_paths.specs.Paths.{targets};
 ghost use Rattle.least_fixed_points.specs.Settles.{entry};
 ghost use Rattle.text_counts.specs.Steps.{Counting, IsSteady, entry_count, follows};
@@ -11,9 +11,9 @@ ghost use Rattle.text_counts.specs.Ends.{follows_ends};
 ghost use Rattle.text_counts.specs.Tables.{AreCounts};
 
 use crate::references::Meanings;
-use description_names::{Names, What};
 use description_types::operation_count;
 use least_fixed_points::{Rule, settle_along};
+use lisa_tree::{Names, What};
 use lisa_words::NoMemory;
 use std::alloc::Global;
 

@@ -2,7 +2,7 @@
 
 ghost use Rattle.std.specs.Prelude.{◌≡◌, ◌<◌, ℕ, IfOk, length};
 ghost use Rattle.least_fixed_points.specs.Settles.{entry};
-ghost use Rattle.description_names.specs.Operations.{sections_at, activation_in};
+ghost use Rattle.lisa_tree.specs.Operations.{sections_at, activation_in};
 ghost use Rattle.text_counts.specs.Activations.{activation_nodes};
 ghost use Rattle.text_counts.specs.Tables.{TextLists, told_by, AreTextCounts, nodes_of};
 
@@ -12,9 +12,9 @@ use crate::expressions::expression_counts;
 use crate::references::Meanings;
 use crate::sums::plus;
 use description_graph::edges;
-use description_names::Names;
 use description_types::{known_operation, operation_count};
 use graph_paths::order;
+use lisa_tree::Names;
 use lisa_words::NoMemory;
 use std::alloc::{AllocError, Global};
 use std::marker::Model;

@@ -10,8 +10,8 @@ use Rattle.lisa_words.specs.declared.words.Kind.TheVariants as kinds
 use Rattle.lisa_words.specs.Words.{word_cut, word_widen, word_add, word_sub, word_mul, meant}
 use Rattle.lisa_words.proofs.WordLaws.{reduced-lt}
 use Rattle.lisa_tree.specs.declared.tokens.Shape.{Shape}
-use Rattle.operators.specs.declared.binary.Operator.{Operator}
-use Rattle.operators.specs.declared.binary.Operator.TheVariants as operators
+use Rattle.lisa_words.specs.declared.binary.Operator.{Operator}
+use Rattle.lisa_words.specs.declared.binary.Operator.TheVariants as operators
 use Rattle.lisa_tree.specs.Expressions as exprs
 use Rattle.lisa_tree.specs.Expressions.{ExprTree}
 use Rattle.description_places.specs.Literals.{literal}

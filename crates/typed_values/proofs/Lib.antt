@@ -4,3 +4,6 @@ pub mod Literals
 pub mod Numbers
 pub mod Preserved
 pub mod Turns
+pub mod ResetBlocks
+pub mod Kept
+pub mod Maps

@@ -1,8 +1,8 @@
 -- What operators make of typed words.
 use Rattle.std.specs.Prelude.{ℕ, Bool, Option, None, Some, max, not, ◌&&◌, ◌||◌, nat_eq, cond, bit_and, bit_or, bit_xor}
 use Rattle.lisa_words.specs.Words.{word_add, word_sub, word_mul, word_shl, word_shr, word_less}
-use Rattle.operators.specs.declared.binary.Operator.{Operator}
-use Rattle.operators.specs.declared.binary.Operator.TheVariants as operators
+use Rattle.lisa_words.specs.declared.binary.Operator.{Operator}
+use Rattle.lisa_words.specs.declared.binary.Operator.TheVariants as operators
 use Rattle.description_types.specs.Shapes.{joined_kind}
 use Rattle.typed_values.specs.declared.operations.Arithmetic.{Arithmetic}
 use Rattle.typed_values.specs.declared.operations.Arithmetic.TheVariants as arithmetics

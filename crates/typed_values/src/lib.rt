@@ -2,16 +2,23 @@
 //! are. And what statements do, where it is known what assignments, calls, stalls and flushes do.
 #![tactic(auto)]
 
+mod counts;
 mod effects;
 mod expressions;
 mod laws;
+mod memories;
 mod operations;
+mod resets;
+mod running;
 mod values;
 mod wholes;
 
+pub use counts::{count_statement, count_statements};
 pub use effects::{Does, perform};
 pub use expressions::{Reads, evaluate};
 pub use laws::{values_fit, whole_literals};
 pub use operations::{chosen, two};
+pub use resets::reset_keeps_types;
+pub use running::reset_values;
 pub use values::Value;
 pub use wholes::Whole;

@@ -14,14 +14,14 @@ use Rattle.description_places.specs.Literals.{literal}
 use Rattle.description_places.specs.Scopes.{Scope}
 use Rattle.description_places.specs.Places as places
 use Rattle.description_places.specs.Places.{at}
-use Rattle.description_names.specs.Same.{same_name}
-use Rattle.description_names.specs.Operations.{name_at}
+use Rattle.lisa_tree.specs.Same.{same_name}
+use Rattle.lisa_tree.specs.Operations.{name_at}
 use Rattle.shape_checks.specs.declared.bounds.Bounds.{Bounds}
 use Rattle.shape_checks.specs.Bounds.{limit_of, step_of, bounds_with, where_typed, bounds_of, turns, last_value, number_bits, holds, holds_values}
 use Rattle.shape_checks.specs.Shapes.{is_width, counter_width, bad_width, open_fault, without_bound}
-use Rattle.description_promises.specs.Freedom.{IsFree, Stands}
-use Rattle.description_promises.specs.Running.{FitsLoop}
-use Rattle.description_promises.proofs.Among.{free_place}
+use Rattle.lisa_machine.specs.Freedom.{IsFree, Stands}
+use Rattle.lisa_machine.specs.Running.{FitsLoop}
+use Rattle.lisa_machine.proofs.Among.{free_place}
 use Rattle.use_promises.specs.Counting.{HoldsValues, TurnsBelow}
 
 -- ---- bounds

@@ -5,11 +5,11 @@ use Rattle.lisa_words.specs.declared.words.Kind.{Kind}
 use Rattle.lisa_tree.specs.declared.tokens.Shape.{Shape}
 use Rattle.lisa_tree.specs.Expressions.{ExprTree}
 use Rattle.lisa_tree.specs.Descriptions.{DescriptionTree}
-use Rattle.description_names.specs.declared.declared.What.{What}
-use Rattle.description_names.specs.declared.declared.What.TheVariants as whats
-use Rattle.description_names.specs.Operations.{sections_at, coding_in, syntax_in, expression_in}
-use Rattle.description_names.specs.Declarations.{Entry, entries, plain_at, what_at}
-use Rattle.description_names.specs.Paths.{entry_node}
+use Rattle.lisa_tree.specs.declared.declared.What.{What}
+use Rattle.lisa_tree.specs.declared.declared.What.TheVariants as whats
+use Rattle.lisa_tree.specs.Operations.{sections_at, coding_in, syntax_in, expression_in}
+use Rattle.lisa_tree.specs.Declarations.{Entry, entries, plain_at, what_at}
+use Rattle.lisa_tree.specs.Paths.{entry_node}
 use Rattle.description_graph.proofs.Nodes.{alternatives_below}
 use Rattle.graph_paths.specs.Paths.{is_in}
 use Rattle.coded_names.specs.Codings.{field_width, number_kind}
@@ -24,11 +24,11 @@ use Rattle.description_types.specs.Tables.{apart, Known, AreKinds}
 use Rattle.name_checks.specs.Doubled.{duplicate}
 use Rattle.name_checks.specs.Unknown.{unknown}
 use Rattle.kind_checks.specs.WrongKinds.{wrong_kind}
-use Rattle.description_promises.specs.Freedom.{IsFree}
-use Rattle.description_promises.proofs.Named.{what_is}
-use Rattle.description_promises.proofs.Settling.{operation_is, entry_is}
-use Rattle.description_promises.proofs.Typing.{child_types, reference_types}
-use Rattle.description_promises.proofs.Chosen.{plain_listed}
+use Rattle.lisa_machine.specs.Freedom.{IsFree}
+use Rattle.lisa_machine.proofs.Named.{what_is}
+use Rattle.lisa_machine.proofs.Settling.{operation_is, entry_is}
+use Rattle.lisa_machine.proofs.Typing.{child_types, reference_types}
+use Rattle.lisa_machine.proofs.Chosen.{plain_listed}
 use Rattle.meant_declarations.specs.Meant.{MayMean, itself, higher}
 use Rattle.use_promises.specs.Meant.{ChoosesFrom}
 use Rattle.use_promises.specs.Valued.{HasExpression, IsField, HasValues}

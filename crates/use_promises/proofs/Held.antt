@@ -8,17 +8,17 @@ use Rattle.description_places.specs.declared.sites.Region.{Region}
 use Rattle.description_places.specs.Scopes.{Scope, local_named}
 use Rattle.description_places.specs.Places as places
 use Rattle.description_places.specs.Places.{Place, at}
-use Rattle.description_names.specs.Same.{same_name}
-use Rattle.description_names.specs.Resources.{resource_at}
-use Rattle.description_names.specs.Operations.{name_at}
-use Rattle.description_names.specs.Declarations.{declared_at}
-use Rattle.description_names.specs.Meanings.{meaning, meaning_of}
+use Rattle.lisa_tree.specs.Same.{same_name}
+use Rattle.lisa_tree.specs.Resources.{resource_at}
+use Rattle.lisa_tree.specs.Operations.{name_at}
+use Rattle.lisa_tree.specs.Declarations.{declared_at}
+use Rattle.lisa_tree.specs.Meanings.{meaning, meaning_of}
 use Rattle.stage_checks.specs.Controls.{reset_name}
 use Rattle.stage_checks.specs.Resets.{means_scalar, may_use, goes_beyond, refused, bad_reset}
-use Rattle.description_promises.specs.Freedom.{IsFree, Stands}
-use Rattle.description_promises.specs.Codings.{IsScalar}
-use Rattle.description_promises.proofs.Among.{free_place}
-use Rattle.description_promises.proofs.Decoding.{not_off}
+use Rattle.lisa_machine.specs.Freedom.{IsFree, Stands}
+use Rattle.lisa_machine.specs.Codings.{IsScalar}
+use Rattle.lisa_machine.proofs.Among.{free_place}
+use Rattle.lisa_machine.proofs.Decoding.{not_off}
 use Rattle.use_promises.specs.Resetting.{IsHeld, FitsInReset}
 
 not_refused : (b : Bool) → refused b ≡ None → b ≡ false

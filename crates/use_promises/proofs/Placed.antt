@@ -6,10 +6,10 @@ use Rattle.description_places.specs.declared.sites.Region.{Region}
 use Rattle.description_places.specs.Scopes.{Scope, local_named}
 use Rattle.description_places.specs.Places as places
 use Rattle.description_places.specs.Places.{at}
-use Rattle.description_names.specs.declared.declared.What.{What}
-use Rattle.description_names.specs.declared.declared.What.TheVariants as whats
-use Rattle.description_names.specs.Declarations.{Entry, entries, declared_at}
-use Rattle.description_names.specs.Paths.{entry_node}
+use Rattle.lisa_tree.specs.declared.declared.What.{What}
+use Rattle.lisa_tree.specs.declared.declared.What.TheVariants as whats
+use Rattle.lisa_tree.specs.Declarations.{Entry, entries, declared_at}
+use Rattle.lisa_tree.specs.Paths.{entry_node}
 use Rattle.description_types.specs.declared.values.Assignable.TheVariants as assigns
 use Rattle.description_types.specs.Facts.{entry_value}
 use Rattle.description_types.specs.Kinds.{assignable_fact}
@@ -18,10 +18,10 @@ use Rattle.description_types.specs.Tables.{unfit, Known, AreKinds}
 use Rattle.name_checks.specs.Doubled.{duplicate}
 use Rattle.name_checks.specs.Unknown.{unknown}
 use Rattle.kind_checks.specs.WrongKinds.{wrong_kind}
-use Rattle.description_promises.specs.Freedom.{IsFree, Stands}
-use Rattle.description_promises.specs.Ranks.{Ranks}
-use Rattle.description_promises.proofs.Settling.{entry_is}
-use Rattle.description_promises.proofs.Assigned.{written, reference_yes}
+use Rattle.lisa_machine.specs.Freedom.{IsFree, Stands}
+use Rattle.lisa_machine.specs.Ranks.{Ranks}
+use Rattle.lisa_machine.proofs.Settling.{entry_is}
+use Rattle.lisa_machine.proofs.Assigned.{written, reference_yes}
 use Rattle.meant_declarations.specs.Meant.{MayMean, itself, higher}
 use Rattle.use_promises.specs.Using.{IsChildEntry}
 use Rattle.use_promises.proofs.References.{definite}

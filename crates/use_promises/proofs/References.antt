@@ -6,12 +6,12 @@ use Rattle.std.specs.List.{list_any}
 use Rattle.std.specs.Cmp.Lexicographic.{nat_list_eq_equiv}
 use Rattle.std.proofs.lemmas.Bool.{eq-eqb}
 use Rattle.lisa_tree.specs.Descriptions.{DescriptionTree}
-use Rattle.description_names.specs.declared.declared.What.{What}
-use Rattle.description_names.specs.declared.declared.What.TheVariants as whats
-use Rattle.description_names.specs.Same.{same_name}
-use Rattle.description_names.specs.Operations.{name_at}
-use Rattle.description_names.specs.Declarations.{Entry, entries, declared_at, above, is_reference}
-use Rattle.description_names.specs.Paths.{Declaring, refers}
+use Rattle.lisa_tree.specs.declared.declared.What.{What}
+use Rattle.lisa_tree.specs.declared.declared.What.TheVariants as whats
+use Rattle.lisa_tree.specs.Same.{same_name}
+use Rattle.lisa_tree.specs.Operations.{name_at}
+use Rattle.lisa_tree.specs.Declarations.{Entry, entries, declared_at, above, is_reference}
+use Rattle.lisa_tree.specs.Paths.{Declaring, refers}
 use Rattle.description_graph.proofs.Hits.{found}
 use Rattle.graph_paths.specs.Paths.{is_in}
 use Rattle.description_types.specs.declared.values.Traits.{Traits}
@@ -21,13 +21,13 @@ use Rattle.name_checks.specs.Doubled.{duplicate}
 use Rattle.name_checks.specs.Unknown.{unknown, is_main, lacks, is_loose, what_of}
 use Rattle.kind_checks.specs.Uses.{sorts_differ, what_misdeclared}
 use Rattle.kind_checks.specs.WrongKinds.{wrong_kind}
-use Rattle.description_promises.specs.Freedom.{IsFree}
-use Rattle.description_promises.specs.Ranks.{Ranks}
-use Rattle.description_promises.proofs.Among.{free_place}
-use Rattle.description_promises.proofs.Entries.{entry_stands}
-use Rattle.description_promises.proofs.Decoding.{off_left, not_off, some_of, is_found}
-use Rattle.description_promises.proofs.Named.{entry_found, what_is}
-use Rattle.description_promises.proofs.Choosing.{rightly_declared}
+use Rattle.lisa_machine.specs.Freedom.{IsFree}
+use Rattle.lisa_machine.specs.Ranks.{Ranks}
+use Rattle.lisa_machine.proofs.Among.{free_place}
+use Rattle.lisa_machine.proofs.Entries.{entry_stands}
+use Rattle.lisa_machine.proofs.Decoding.{off_left, not_off, some_of, is_found}
+use Rattle.lisa_machine.proofs.Named.{entry_found, what_is}
+use Rattle.lisa_machine.proofs.Choosing.{rightly_declared}
 use Rattle.meant_declarations.specs.Meant.{MayMean, itself, higher}
 use Rattle.use_promises.specs.Meant.{ChoosesFrom, FitsReference}
 use Rattle.use_promises.proofs.Traits.{none_in, means, own_child, own_label, shows}

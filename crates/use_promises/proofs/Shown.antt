@@ -8,15 +8,15 @@ use Rattle.lisa_tree.specs.Descriptions as trees
 use Rattle.lisa_tree.specs.Descriptions.{ResourceTree, DescriptionTree}
 use Rattle.lisa_engine.specs.declared.parts.Item.{Item}
 use Rattle.lisa_engine.specs.declared.parts.ArrayItem.{ArrayItem}
-use Rattle.description_names.specs.Resources.{resource_at}
+use Rattle.lisa_tree.specs.Resources.{resource_at}
 use Rattle.machine_parts.specs.Parts.{array_in, arrays_of, pin_in, pins_of, register_in, registers_of}
 use Rattle.name_checks.specs.Doubled.{duplicate}
 use Rattle.shape_checks.specs.Shapes.{bad_width, bad_depth}
-use Rattle.description_promises.specs.Freedom.{IsFree}
-use Rattle.description_promises.specs.Distinctness.{AreDistinct, name_of}
-use Rattle.description_promises.specs.Resolving.{IsDepth, FitsResource}
-use Rattle.description_promises.proofs.Distinct.{distinct_found, resource_found}
-use Rattle.description_promises.proofs.Resolved.{resource_fits}
+use Rattle.lisa_machine.specs.Freedom.{IsFree}
+use Rattle.lisa_machine.specs.Distinctness.{AreDistinct, name_of}
+use Rattle.lisa_machine.specs.Resolving.{IsDepth, FitsResource}
+use Rattle.lisa_machine.proofs.Distinct.{distinct_found, resource_found}
+use Rattle.lisa_machine.proofs.Resolved.{resource_fits}
 use Rattle.use_promises.specs.Showing.{FitsArray, FitsItem, FitsShown}
 
 all_of : {X : Type 0} (P : X → Type 0) (xs : List X) → ((k : ℕ) (x : X) → slice_get xs k ≡ Some x → P x) → AllByRecursion P xs

@@ -10,16 +10,16 @@ use Rattle.lisa_tree.specs.Descriptions.{OperationTree, DescriptionTree}
 use Rattle.description_places.specs.declared.sites.Region.TheVariants as regions
 use Rattle.description_places.specs.Places as places
 use Rattle.description_places.specs.Places.{at}
-use Rattle.description_names.specs.Same.{same_name}
-use Rattle.description_names.specs.Resources.{resource_at, stage_at, stages, is_pipeline}
-use Rattle.description_names.specs.Operations.{operation_at, own_stage}
+use Rattle.lisa_tree.specs.Same.{same_name}
+use Rattle.lisa_tree.specs.Resources.{resource_at, stage_at, stages, is_pipeline}
+use Rattle.lisa_tree.specs.Operations.{operation_at, own_stage}
 use Rattle.description_types.specs.Tables.{Known}
 use Rattle.name_checks.specs.Unknown.{unknown, unknown_fault, is_stage, head_unknown}
 use Rattle.kind_checks.specs.WrongKinds.{wrong_kind}
-use Rattle.description_promises.specs.Freedom.{IsFree}
-use Rattle.description_promises.proofs.Among.{free_place}
-use Rattle.description_promises.proofs.Standing.{resource_stands, operation_stands}
-use Rattle.description_promises.proofs.Decoding.{not_off, or_right, some_of, is_found, is_right, position_there}
+use Rattle.lisa_machine.specs.Freedom.{IsFree}
+use Rattle.lisa_machine.proofs.Among.{free_place}
+use Rattle.lisa_machine.proofs.Standing.{resource_stands, operation_stands}
+use Rattle.lisa_machine.proofs.Decoding.{not_off, or_right, some_of, is_found, is_right, position_there}
 use Rattle.use_promises.specs.Stages.{IsOwnStage}
 
 module _ (d : DescriptionTree) where

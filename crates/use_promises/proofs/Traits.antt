@@ -4,11 +4,11 @@ use Rattle.std.specs.Prelude.{slice_get}
 use Rattle.std.specs.List.{list_any}
 use Rattle.std.proofs.lemmas.Bool.{or_cases, eqb-true}
 use Rattle.lisa_tree.specs.Descriptions.{DescriptionTree}
-use Rattle.description_names.specs.declared.declared.What.{What}
-use Rattle.description_names.specs.declared.declared.What.TheVariants as whats
-use Rattle.description_names.specs.Operations.{sections_at}
-use Rattle.description_names.specs.Declarations.{Entry, entry, entries, declared_at, owner_at, entry_name_at, above}
-use Rattle.description_names.specs.Paths.{Declaring, leads, refers}
+use Rattle.lisa_tree.specs.declared.declared.What.{What}
+use Rattle.lisa_tree.specs.declared.declared.What.TheVariants as whats
+use Rattle.lisa_tree.specs.Operations.{sections_at}
+use Rattle.lisa_tree.specs.Declarations.{Entry, entry, entries, declared_at, owner_at, entry_name_at, above}
+use Rattle.lisa_tree.specs.Paths.{Declaring, leads, refers}
 use Rattle.description_graph.specs.Graph.{is_at}
 use Rattle.description_graph.proofs.Hits.{any_at, is_at-Some}
 use Rattle.description_graph.proofs.Meant.{next_of}
@@ -19,8 +19,8 @@ use Rattle.description_types.specs.declared.values.Traits.{Traits}
 use Rattle.description_types.specs.Codings.{coding_at, name_coding}
 use Rattle.description_types.specs.Uses.{holds, label_traits, choice_traits, child_traits, what_traits, own_traits}
 use Rattle.description_types.specs.Tables.{AreTraits}
-use Rattle.description_promises.proofs.Decoding.{off_left, off_right}
-use Rattle.description_promises.proofs.Named.{what_is}
+use Rattle.lisa_machine.proofs.Decoding.{off_left, off_right}
+use Rattle.lisa_machine.proofs.Named.{what_is}
 use Rattle.use_promises.specs.Meant.{ChoosesFrom}
 
 pub none_in : (test : ℕ → Bool) (p : ℕ) (ps : List ℕ) → is_in p ps ≡ true → list_any test ps ≡ false → test p ≡ false

@@ -14,14 +14,14 @@ use Rattle.description_places.specs.declared.sites.Region.TheVariants as regions
 use Rattle.description_places.specs.Scopes.{Scope, local_named}
 use Rattle.description_places.specs.Places as places
 use Rattle.description_places.specs.Places.{at}
-use Rattle.description_names.specs.declared.declared.What.{What}
-use Rattle.description_names.specs.declared.declared.What.TheVariants as whats
-use Rattle.description_names.specs.declared.declared.Meaning.{Meaning}
-use Rattle.description_names.specs.declared.declared.Meaning.TheVariants as meanings
-use Rattle.description_names.specs.Resources.{resource_at}
-use Rattle.description_names.specs.Operations.{name_at, sections_at, coding_in, own_stage, is_root}
-use Rattle.description_names.specs.Declarations.{Entry, entries, declared_at, what_at, plain_at, alternatives_at}
-use Rattle.description_names.specs.Meanings.{meaning, meaning_of}
+use Rattle.lisa_tree.specs.declared.declared.What.{What}
+use Rattle.lisa_tree.specs.declared.declared.What.TheVariants as whats
+use Rattle.lisa_tree.specs.declared.declared.Meaning.{Meaning}
+use Rattle.lisa_tree.specs.declared.declared.Meaning.TheVariants as meanings
+use Rattle.lisa_tree.specs.Resources.{resource_at}
+use Rattle.lisa_tree.specs.Operations.{name_at, sections_at, coding_in, own_stage, is_root}
+use Rattle.lisa_tree.specs.Declarations.{Entry, entries, declared_at, what_at, plain_at, alternatives_at}
+use Rattle.lisa_tree.specs.Meanings.{meaning, meaning_of}
 use Rattle.description_graph.proofs.Hits.{found}
 use Rattle.graph_paths.specs.Paths.{is_in}
 use Rattle.coded_names.specs.Codings.{is_coding}
@@ -37,12 +37,12 @@ use Rattle.name_checks.specs.Doubled.{duplicate}
 use Rattle.name_checks.specs.Unknown.{unknown, is_something, stands, is_known, register_unknown, part_unknown}
 use Rattle.kind_checks.specs.Uses.{by_sort, is_no_operand, is_empty, meant_misread, is_misread, meant_miswritten, is_miswritten, meant_miscalled, is_miscalled, is_misstarted, is_wrong_operand, is_wrong_root_group, is_wrong_shown, what_misdeclared}
 use Rattle.kind_checks.specs.WrongKinds.{wrong_kind, owner_name, faulty, register_name, root_name}
-use Rattle.description_promises.specs.Freedom.{IsFree, Stands}
-use Rattle.description_promises.proofs.Among.{free_place}
-use Rattle.description_promises.proofs.Chosen.{plain_listed}
-use Rattle.description_promises.proofs.Decoding.{off_left, off_right, or_right, none_of, is_found, is_right, no_name, not_faulty}
-use Rattle.description_promises.proofs.Named.{what_is}
-use Rattle.description_promises.proofs.Choosing.{rightly_declared}
+use Rattle.lisa_machine.specs.Freedom.{IsFree, Stands}
+use Rattle.lisa_machine.proofs.Among.{free_place}
+use Rattle.lisa_machine.proofs.Chosen.{plain_listed}
+use Rattle.lisa_machine.proofs.Decoding.{off_left, off_right, or_right, none_of, is_found, is_right, no_name, not_faulty}
+use Rattle.lisa_machine.proofs.Named.{what_is}
+use Rattle.lisa_machine.proofs.Choosing.{rightly_declared}
 use Rattle.use_promises.specs.Meant.{ChoosesFrom}
 use Rattle.use_promises.specs.Using.{RunsInPlace, IsCoded, IsDecided, NamesRootGroup, MayRun, ChildrenMayRun, IsChildEntry, IsCallable, DeclaresChild, IsStartable, IsOperand, IsRootGroup, IsShowable}
 use Rattle.use_promises.proofs.Traits.{none_in, coding_is, own_child, own_label, means_itself, lacks}

@@ -1,9 +1,9 @@
 -- What references are.
 use Rattle.std.specs.Prelude.{◌≡◌, ◌≢◌, ◌⊎◌, ◌<◌, ℕ, true, codes, Some, length}
 use Rattle.lisa_tree.specs.Descriptions.{DescriptionTree}
-use Rattle.description_names.specs.declared.declared.What.TheVariants as whats
-use Rattle.description_names.specs.Operations.{name_at}
-use Rattle.description_names.specs.Declarations.{Entry, declared_at, above}
+use Rattle.lisa_tree.specs.declared.declared.What.TheVariants as whats
+use Rattle.lisa_tree.specs.Operations.{name_at}
+use Rattle.lisa_tree.specs.Declarations.{Entry, declared_at, above}
 use Rattle.graph_paths.specs.Paths.{is_in}
 
 -- a group or an instance, of this choice

@@ -5,7 +5,7 @@ use Rattle.description_places.specs.declared.scopes.Local.{Local}
 use Rattle.description_places.specs.Scopes.{Scope, local_named}
 use Rattle.description_places.specs.Places as places
 use Rattle.description_places.specs.Places.{Place}
-use Rattle.description_promises.specs.Codings.{IsScalar}
+use Rattle.lisa_machine.specs.Codings.{IsScalar}
 
 -- a local, or a register that is no array
 abbrev pub IsHeld : DescriptionTree → ℕ → Scope → List ℕ → Type 0

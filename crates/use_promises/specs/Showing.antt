@@ -5,8 +5,8 @@ use Rattle.lisa_tree.specs.Descriptions.{DescriptionTree}
 use Rattle.lisa_engine.specs.declared.parts.Item.{Item}
 use Rattle.lisa_engine.specs.declared.parts.ArrayItem.{ArrayItem}
 use Rattle.machine_parts.specs.Parts.{arrays_of, pins_of, registers_of}
-use Rattle.description_promises.specs.Distinctness.{AreDistinct}
-use Rattle.description_promises.specs.Resolving.{IsWidth, IsDepth}
+use Rattle.lisa_machine.specs.Distinctness.{AreDistinct}
+use Rattle.lisa_machine.specs.Resolving.{IsWidth, IsDepth}
 
 abbrev pub FitsArray : ArrayItem → Type 0
 FitsArray a = IsWidth a.width × IsDepth a.depth

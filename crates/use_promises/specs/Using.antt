@@ -2,8 +2,8 @@
 use Rattle.std.specs.Prelude.{◌≡◌, ◌<◌, ℕ, true, false, List, None, Some, length, slice_get}
 use Rattle.lisa_tree.specs.Descriptions.{DescriptionTree}
 use Rattle.description_places.specs.Scopes.{Scope, local_named}
-use Rattle.description_names.specs.Operations.{sections_at, coding_in, own_stage, is_root}
-use Rattle.description_names.specs.Declarations.{Entry, entries, declared_at, plain_at}
+use Rattle.lisa_tree.specs.Operations.{sections_at, coding_in, own_stage, is_root}
+use Rattle.lisa_tree.specs.Declarations.{Entry, entries, declared_at, plain_at}
 use Rattle.graph_paths.specs.Paths.{is_in}
 use Rattle.coded_names.specs.Codings.{in_coding, names_instructions}
 use Rattle.meant_declarations.specs.Meant.{MayMean}

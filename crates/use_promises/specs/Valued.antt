@@ -3,9 +3,9 @@ use Rattle.std.specs.Prelude.{◌≡◌, ℕ, true, Some, slice_get}
 use Rattle.lisa_tree.specs.declared.tokens.Shape.{Shape}
 use Rattle.lisa_tree.specs.Expressions.{ExprTree}
 use Rattle.lisa_tree.specs.Descriptions.{DescriptionTree}
-use Rattle.description_names.specs.declared.declared.What.TheVariants as whats
-use Rattle.description_names.specs.Operations.{sections_at, coding_in, syntax_in, expression_in}
-use Rattle.description_names.specs.Declarations.{Entry, entries, plain_at}
+use Rattle.lisa_tree.specs.declared.declared.What.TheVariants as whats
+use Rattle.lisa_tree.specs.Operations.{sections_at, coding_in, syntax_in, expression_in}
+use Rattle.lisa_tree.specs.Declarations.{Entry, entries, plain_at}
 use Rattle.graph_paths.specs.Paths.{is_in}
 use Rattle.coded_names.specs.Codings.{field_width, number_kind}
 use Rattle.description_types.specs.Shapes.{shape_of}

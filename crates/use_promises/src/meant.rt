@@ -2,8 +2,8 @@
 
 ghost use Rattle.std.specs.Prelude.{◌≡◌, ℕ, List, Some, slice_get};
 ghost use Rattle.lisa_tree.specs.Descriptions.{DescriptionTree};
-ghost use Rattle.description_names.specs.declared.declared.What.TheVariants as whats;
-ghost use Rattle.description_names.specs.Declarations.{Entry, entries};
+ghost use Rattle.lisa_tree.specs.declared.declared.What.TheVariants as whats;
+ghost use Rattle.lisa_tree.specs.Declarations.{Entry, entries};
 ghost use Rattle.lisa_machine.specs.Verdicts.{IsAccepted};
 ghost use Rattle.meant_declarations.specs.Meant.{MayMean};
 ghost use Rattle.use_promises.specs.Meant.{FitsReference};

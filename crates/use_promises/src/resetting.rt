@@ -6,9 +6,9 @@ ghost use Rattle.lisa_tree.specs.Descriptions.{DescriptionTree};
 ghost use Rattle.description_places.specs.declared.sites.Region.{Region};
 ghost use Rattle.description_places.specs.Scopes.{Scope};
 ghost use Rattle.description_places.specs.Places.{Place, at, Counts};
-ghost use Rattle.description_names.specs.Operations.{name_at};
+ghost use Rattle.lisa_tree.specs.Operations.{name_at};
 ghost use Rattle.lisa_machine.specs.Verdicts.{IsAccepted};
-ghost use Rattle.description_promises.specs.Freedom.{Stands};
+ghost use Rattle.lisa_machine.specs.Freedom.{Stands};
 ghost use Rattle.use_promises.specs.Counting.{HoldsValues, TurnsBelow};
 ghost use Rattle.use_promises.specs.Resetting.{FitsInReset};
 

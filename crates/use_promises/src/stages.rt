@@ -3,8 +3,8 @@
 ghost use Rattle.std.specs.Prelude.{◌≡◌, ◌<◌, ℕ, List, Some, true, length, slice_get};
 ghost use Rattle.lisa_tree.specs.declared.tokens.Shape.{Shape};
 ghost use Rattle.lisa_tree.specs.Descriptions.{Fields, OperationTree, DescriptionTree};
-ghost use Rattle.description_names.specs.Resources.{stages, is_pipeline};
-ghost use Rattle.description_names.specs.Operations.{operation_at, own_stage};
+ghost use Rattle.lisa_tree.specs.Resources.{stages, is_pipeline};
+ghost use Rattle.lisa_tree.specs.Operations.{operation_at, own_stage};
 ghost use Rattle.lisa_machine.specs.Verdicts.{IsAccepted};
 ghost use Rattle.use_promises.specs.Stages.{IsOwnStage};
 

@@ -5,7 +5,7 @@ ghost use Rattle.lisa_tree.specs.declared.tokens.Shape.{Shape};
 ghost use Rattle.lisa_tree.specs.Descriptions.{DescriptionTree};
 ghost use Rattle.description_types.specs.Tables.{Known, AreKinds};
 ghost use Rattle.lisa_machine.specs.Verdicts.{IsAccepted};
-ghost use Rattle.description_promises.specs.Values.{IsOfType};
+ghost use Rattle.lisa_machine.specs.Values.{IsOfType};
 ghost use Rattle.use_promises.specs.Valued.{HasValues};
 
 /// In an accepted description a declared name with a type, as each that is read or assigned has, means operations that have an EXPRESSION, or

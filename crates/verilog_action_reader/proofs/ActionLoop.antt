@@ -1,6 +1,6 @@
 -- What the loops over a block keep.
 use Rattle.std.proofs.Common.{◌≡◌, ℕ, zero, suc, ◌+◌, ◌-◌, ◌<◌, ◌≤◌, List, [], ◌∷◌, length, Option, Some, None, refl, sym, ap, ◌∙◌, arith}
-use Rattle.text_scan.specs.Steps.{◌>>=◌}
+use Rattle.lisa_words.specs.Steps.{◌>>=◌}
 use Rattle.verilog_text.specs.declared.tokens.VKeyword.TheVariants as words
 use Rattle.verilog_text.specs.Tokens as tokens
 use Rattle.verilog_places.specs.Trees as placed
@@ -9,7 +9,7 @@ use Rattle.verilog_places.specs.Spelling.{PlacedToks}
 use Rattle.verilog_expression_reader.specs.declared.misses.Missed.{Missed}
 use Rattle.verilog_expression_reader.specs.declared.misses.Missed.TheVariants as misses
 use Rattle.verilog_expression_reader.specs.Gives.{Fails}
-use Rattle.text_scan.proofs.StepLaws.{some_is}
+use Rattle.lisa_words.proofs.StepLaws.{some_is}
 use Rattle.verilog_action_reader.specs.Reading.{Answer, action, within, behind_else, else_of, single_of, group_of, grouped, next_of, rest_of, actions}
 use Rattle.verilog_action_reader.specs.Gives.{with_front}
 use Rattle.verilog_action_reader.proofs.JoinLaws.{joined_done, front_joined, front_done}

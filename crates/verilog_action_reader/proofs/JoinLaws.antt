@@ -2,7 +2,7 @@
 use Rattle.std.proofs.Common.{◌≡◌, ℕ, suc, List, [], ◌∷◌, ◌++◌, Option, Some, None, max, refl, sym, ap, ◌∙◌, arith}
 use Rattle.std.specs.Global.{Vec}
 use mathlib.Core.Former.{Count}
-use Rattle.text_scan.specs.Steps.{◌>>=◌}
+use Rattle.lisa_words.specs.Steps.{◌>>=◌}
 use Rattle.verilog_text.specs.Trees.{v_depth, actions_depth}
 use Rattle.verilog_places.specs.declared.expressions.PlacedExpr.{PlacedExpr}
 use Rattle.verilog_places.specs.declared.modules.PlacedAction.{PlacedAction, If', Row_of-PlacedAction, end_of-PlacedAction, more_of-PlacedAction, items-the_row-PlacedAction, items_hidden-the_row-PlacedAction-0}

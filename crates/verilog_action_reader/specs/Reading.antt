@@ -1,7 +1,7 @@
 -- Reading actions from left to right. `begin` and `end` only group: the actions up to the `end`s of all open blocks are one list.
 use Rattle.std.specs.Prelude.{ℕ, zero, suc, ◌-◌, List, [], ◌∷◌, length, Option, Some, None}
-use Rattle.text_scan.specs.Fix.{fix}
-use Rattle.text_scan.specs.Steps.{◌>>=◌}
+use Rattle.lisa_words.specs.Fix.{fix}
+use Rattle.lisa_words.specs.Steps.{◌>>=◌}
 use Rattle.verilog_text.specs.declared.tokens.VKeyword.TheVariants as words
 use Rattle.verilog_text.specs.declared.tokens.VSign.TheVariants as signs
 use Rattle.verilog_text.specs.Tokens as tokens

@@ -4,8 +4,8 @@ use Rattle.std.proofs.lemmas.Nat.{mod_below, pow_pos, pow-add, and_le_l, or_lt, 
 use Rattle.std.proofs.Math.Pow.{pow_mono}
 use Rattle.std.specs.Prelude.{if◌then◌else◌, pos, negsuc, ◌-ℤ◌}
 use Rattle.lisa_words.proofs.WordLaws.{reduced-lt}
-use Rattle.operators.specs.declared.binary.Operator.{Operator}
-use Rattle.operators.specs.declared.binary.Operator.TheVariants as operators
+use Rattle.lisa_words.specs.declared.binary.Operator.{Operator}
+use Rattle.lisa_words.specs.declared.binary.Operator.TheVariants as operators
 use Rattle.verilog_text.specs.declared.expressions.VOne.TheVariants as ones
 use Rattle.verilog_text.specs.declared.expressions.VExpr.{VExpr, Join', Row_of-VExpr, end_of-VExpr, more_of-VExpr}
 use Rattle.verilog_text.specs.declared.expressions.VExpr.TheVariants as exprs

@@ -1,6 +1,6 @@
 // Compiled modules: names have become places, and each operator has its length.
 use crate::lengths::Length;
-use operators::Operator;
+use lisa_words::Operator;
 
 /// A compiled expression.
 #[derive(Drop)]

@@ -11,8 +11,7 @@ ghost use Rattle.verilog_clock.specs.Scopes.{module_in};
 use crate::code::Code;
 use crate::lengths::Length;
 use crate::scope::Scope;
-use lisa_words::Name;
-use operators::Operator;
+use lisa_words::{Name, Operator};
 use std::alloc::{AllocError, Global};
 use verilog_text::{VExpr, VOne};
 

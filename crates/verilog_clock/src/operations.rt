@@ -5,7 +5,7 @@ ghost use Rattle.lisa_words.specs.Words.{word_add, word_sub, word_mul, word_not,
 ghost use Rattle.verilog_text.specs.Values.{is_true as true_of, truth as truth_of, operate as operated};
 
 use crate::lengths::Length;
-use operators::Operator;
+use lisa_words::Operator;
 
 fn truth(test: bool) -> u64
     ensures { result ≡ truth_of test }

@@ -1,12 +1,12 @@
 -- What is spelled is read.
 use Rattle.std.proofs.Common.{◌≡◌, ℕ, zero, suc, ◌-◌, ◌<◌, ◌≤◌, Bool, true, false, cond, List, [], ◌∷◌, ◌++◌, drop, Option, Some, None, refl, ap, subst, ◌∙◌, append_assoc, arith, inl, inr}
 use Rattle.std.proofs.lemmas.Bool.{cases_lt, lt-ltb}
-use Rattle.operators.specs.declared.binary.Operator.{Operator}
-use Rattle.operators.specs.declared.binary.Operator.TheVariants as operators
-use Rattle.operators.specs.Operators.{level_of}
+use Rattle.lisa_words.specs.declared.binary.Operator.{Operator}
+use Rattle.lisa_words.specs.declared.binary.Operator.TheVariants as operators
+use Rattle.lisa_words.specs.Operators.{level_of}
 use Rattle.operator_levels.specs.Stacks.{Stack}
 use Rattle.operator_levels.proofs.StackLaws.{level_range, IsLooser, looser_up, pushed_stays, pushed_pops, finished_pops}
-use Rattle.text_scan.specs.Steps.{◌>>=◌}
+use Rattle.lisa_words.specs.Steps.{◌>>=◌}
 use Rattle.verilog_text.specs.declared.expressions.VOne.TheVariants as ones
 use Rattle.verilog_text.specs.declared.tokens.VSign.TheVariants as signs
 use Rattle.verilog_text.specs.Tokens as tokens

@@ -2,12 +2,12 @@
 use Rattle.std.proofs.Common.{◌≡◌, ℕ, zero, suc, ◌+◌, ◌-◌, ◌*◌, ◌<◌, ◌≤◌, cond, ltb, List, [], ◌∷◌, length, drop, Option, Some, None, refl, ap, ◌∙◌, arith}
 use Rattle.std.proofs.lemmas.Bool.{lt-ltb}
 use Rattle.std.proofs.lemmas.List.{length-append, length-drop}
-use Rattle.operators.specs.declared.binary.Operator.{Operator}
+use Rattle.lisa_words.specs.declared.binary.Operator.{Operator}
 use Rattle.operator_levels.specs.Stacks.{Stack}
-use Rattle.text_scan.specs.Fix.{guarded}
-use Rattle.text_scan.specs.Steps.{◌>>=◌}
-use Rattle.text_scan.proofs.Fixed.{fix_is}
-use Rattle.text_scan.proofs.StepLaws.{bind_same}
+use Rattle.lisa_words.specs.Fix.{guarded}
+use Rattle.lisa_words.specs.Steps.{◌>>=◌}
+use Rattle.lisa_words.proofs.Fixed.{fix_is}
+use Rattle.lisa_words.proofs.StepLaws.{bind_same}
 use Rattle.verilog_text.specs.declared.expressions.VOne.TheVariants as ones
 use Rattle.verilog_text.specs.declared.tokens.VSign.TheVariants as signs
 use Rattle.verilog_text.specs.Tokens as tokens

@@ -1,10 +1,10 @@
 -- What the loop over operands keeps.
 use Rattle.std.proofs.Common.{◌≡◌, ℕ, drop, Option, Some, None, refl, sym, ap, ◌∙◌}
-use Rattle.operators.specs.declared.binary.Operator.{Operator}
+use Rattle.lisa_words.specs.declared.binary.Operator.{Operator}
 use Rattle.verilog_places.specs.Trees.{PlacedTree}
 use Rattle.verilog_places.specs.Spelling.{PlacedToks}
 use Rattle.operator_levels.specs.Stacks.{Stack}
-use Rattle.text_scan.specs.Steps.{◌>>=◌}
+use Rattle.lisa_words.specs.Steps.{◌>>=◌}
 use Rattle.verilog_expression_reader.specs.declared.misses.Missed.{Missed}
 use Rattle.verilog_expression_reader.specs.declared.misses.Missed.TheVariants as misses
 use Rattle.verilog_expression_reader.specs.Gives.{Fails}

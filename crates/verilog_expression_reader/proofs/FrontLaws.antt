@@ -1,7 +1,7 @@
 -- What stands at the front is what is read there.
 use Rattle.std.proofs.Common.{◌≡◌, ℕ, List, [], ◌++◌, Some, Result, Ok, Err, IfOk, sym, ap, ◌∙◌, arith, max}
 use Rattle.std.specs.Borrow.{Bor}
-use Rattle.text_scan.proofs.StepLaws.{some_is}
+use Rattle.lisa_words.proofs.StepLaws.{some_is}
 use Rattle.verilog_text.specs.declared.tokens.VToken.{VToken}
 use Rattle.verilog_places.specs.Trees.{PlacedTree}
 use Rattle.verilog_places.specs.Spelling.{PlacedToks, SpellsPlaced}

@@ -1,6 +1,6 @@
 -- The parts of a concatenation, one behind the other.
 use Rattle.std.proofs.Common.{◌≡◌, ℕ, List, [], ◌∷◌, ◌++◌, Option, Some, None, option_map, max, refl, sym, ap, ◌∙◌, arith}
-use Rattle.text_scan.specs.Steps.{◌>>=◌}
+use Rattle.lisa_words.specs.Steps.{◌>>=◌}
 use Rattle.verilog_text.specs.declared.tokens.VSign.TheVariants as signs
 use Rattle.verilog_text.specs.Tokens as tokens
 use Rattle.verilog_text.specs.Trees.{parts_depth}

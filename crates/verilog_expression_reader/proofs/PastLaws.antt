@@ -5,7 +5,7 @@ use Rattle.verilog_text.specs.declared.tokens.VSign.{VSign}
 use Rattle.verilog_text.specs.declared.tokens.VSign.TheVariants as signs
 use Rattle.verilog_text.specs.Tokens as tokens
 use Rattle.verilog_places.specs.Spelling.{PlacedToks}
-use Rattle.text_scan.proofs.StepLaws.{some_is}
+use Rattle.lisa_words.proofs.StepLaws.{some_is}
 use Rattle.verilog_expression_reader.specs.Past.{number_of, past_of}
 
 abbrev all : List VSign

@@ -1,11 +1,11 @@
 -- Operands that wait, with the operators behind them, are spelled by tokens; so is what joining makes of them.
 use Rattle.std.proofs.Common.{◌≡◌, ℕ, zero, suc, ◌<◌, ◌≤◌, Bool, true, false, cond, ltb, [], ◌∷◌, ◌++◌, Some, None, refl, sym, ap, subst, ◌∙◌, append_assoc, arith, inl, inr, max}
 use Rattle.std.proofs.lemmas.Bool.{cases_lt, ltb-true, lt-ltb}
-use Rattle.operators.specs.declared.binary.Operator.{Operator}
-use Rattle.operators.specs.Operators.{level_of}
+use Rattle.lisa_words.specs.declared.binary.Operator.{Operator}
+use Rattle.lisa_words.specs.Operators.{level_of}
 use Rattle.operator_levels.specs.Stacks.{Stack, joined_before}
 use Rattle.operator_levels.proofs.StackLaws.{level_range, and_then_some}
-use Rattle.text_scan.proofs.StepLaws.{some_is}
+use Rattle.lisa_words.proofs.StepLaws.{some_is}
 use Rattle.verilog_text.specs.Tokens as tokens
 use Rattle.verilog_text.specs.Grammar.{vsign_of}
 use Rattle.verilog_places.specs.Trees.{PlacedTree, two}

@@ -1,7 +1,7 @@
 -- How tightly the next token holds on to what stands before it.
 use Rattle.std.specs.Prelude.{ℕ, [], ◌∷◌}
 use Rattle.std.specs.Option.{option_map_or}
-use Rattle.operators.specs.Operators.{level_of}
+use Rattle.lisa_words.specs.Operators.{level_of}
 use Rattle.verilog_text.specs.declared.tokens.VSign.{VSign}
 use Rattle.verilog_text.specs.declared.tokens.VSign.TheVariants as signs
 use Rattle.verilog_text.specs.Tokens as tokens

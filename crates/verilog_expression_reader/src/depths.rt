@@ -7,9 +7,8 @@ ghost use Rattle.verilog_expression_reader.specs.Reading.{all_then, depth as dep
 ghost use Rattle.verilog_expression_reader.specs.declared.misses.Missed.TheVariants.{NoMemory as NoRoom};
 
 use crate::misses::Missed;
-use lisa_words::NoMemory;
+use lisa_words::{NoMemory, Operator};
 use operator_levels::Joined;
-use operators::Operator;
 use std::alloc::Global;
 use verilog_places::PlacedExpr;
 

@@ -14,9 +14,8 @@ ghost use Rattle.verilog_expression_reader.specs.Reading.{reads, depth as depth_
 use crate::depths::{Measured, MeasuredParts};
 use crate::misses::Missed;
 use crate::signs::{number, past};
-use lisa_words::Name;
+use lisa_words::{Name, Operator};
 use operator_levels::{JoinFault, Operands};
-use operators::Operator;
 use std::alloc::Global;
 use verilog_places::PlacedExpr;
 use verilog_text::{VOne, VSign, VToken, VTokenPart};

@@ -4,11 +4,11 @@ use Rattle.std.specs.List.{list_all}
 use Rattle.std.proofs.lemmas.Bool.{both_ways, cases_Bool, leb-true, and_parts}
 use Rattle.std.proofs.lemmas.Bool.Decides.{nat_tests}
 use Rattle.std.proofs.lemmas.List.{take-append-drop, take_at, drop_at, length-append}
-use Rattle.text_scan.specs.declared.gaps.Gap.{Gap}
-use Rattle.text_scan.specs.declared.gaps.Gap.TheVariants as gaps
-use Rattle.text_scan.specs.Bytes.{is_blank, front_is}
-use Rattle.text_scan.specs.Gaps.{IsGap, BrokenGap, in_line, in_block, no_end, starts_comment, GapIs, gap_at}
-use Rattle.text_scan.proofs.GapLaws.{gap_is, gap_whole, gap_broken, gap_absent}
+use Rattle.lisa_words.specs.declared.gaps.Gap.{Gap}
+use Rattle.lisa_words.specs.declared.gaps.Gap.TheVariants as gaps
+use Rattle.lisa_words.specs.Bytes.{is_blank, front_is}
+use Rattle.lisa_words.specs.Gaps.{IsGap, BrokenGap, in_line, in_block, no_end, starts_comment, GapIs, gap_at}
+use Rattle.lisa_words.proofs.GapLaws.{gap_is, gap_whole, gap_broken, gap_absent}
 use Rattle.verilog_text.specs.Tokens.{VTok}
 use Rattle.verilog_text.specs.Lexing.{IsVToken, Begins, is_accepted, is_glued, Stuck, comment, nothing, refused, glued}
 use Rattle.verilog_text.proofs.WrittenTexts.{token_high}

@@ -2,9 +2,9 @@
 use Rattle.std.proofs.Common.{◌≡◌, ℕ, zero, suc, ◌+◌, ◌<◌, ◌≤◌, Bool, true, false, ltb, List, [], ◌∷◌, ◌++◌, length, drop, Ok, Err, refl, sym, ap, subst, ◌∙◌, arith}
 use Rattle.std.proofs.lemmas.Bool.{lt-ltb}
 use Rattle.std.proofs.lemmas.List.{length-drop, drop_at, length-append}
-use Rattle.text_scan.specs.Gaps.{IsGap, blanks, line, block}
-use Rattle.text_scan.specs.Fix.{guarded}
-use Rattle.text_scan.proofs.Fixed.{fix_is}
+use Rattle.lisa_words.specs.Gaps.{IsGap, blanks, line, block}
+use Rattle.lisa_words.specs.Fix.{guarded}
+use Rattle.lisa_words.proofs.Fixed.{fix_is}
 use Rattle.verilog_text.specs.Tokens.{VTok}
 use Rattle.verilog_text.specs.Lexing.{Begins, is_accepted, is_glued, Lexes, end, gap, token, Stuck, Breaks, behind_gap, behind_token, stuck}
 use Rattle.verilog_lexer.specs.Reading.{Front, Item, Skip, Take, item_at, Answer, ◌>>=◌, on_item, step, size, lex}

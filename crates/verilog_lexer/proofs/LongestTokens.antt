@@ -5,8 +5,8 @@ use Rattle.std.specs.List.{list_all, prefix_len}
 use Rattle.std.proofs.lemmas.Bool.{both_ways, cases_Bool, and_parts, and_from, eqb-true, eqb-false}
 use Rattle.std.proofs.lemmas.List.{take-append-drop, take_at, drop_at, length-append}
 use Rattle.std.proofs.lemmas.List.Folds.{length-prefix_len}
-use Rattle.text_scan.specs.Bytes.{is_digit, is_letter, front_is}
-use Rattle.text_scan.proofs.Runs.{same_head, same_tail, taken_pass, run_ends, run_longest, run_is}
+use Rattle.lisa_words.specs.Bytes.{is_digit, is_letter, front_is}
+use Rattle.lisa_words.proofs.Runs.{same_head, same_tail, taken_pass, run_ends, run_longest, run_is}
 use Rattle.verilog_text.specs.declared.tokens.VSign.{VSign}
 use Rattle.verilog_text.specs.Tokens.{VTok, Named, Reserved, Sized, Plain, Mark}
 use Rattle.verilog_text.specs.Lexing as lexing

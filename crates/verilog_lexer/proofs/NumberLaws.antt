@@ -6,7 +6,7 @@ use Rattle.std.proofs.lemmas.Bool.{eqb-false, and_parts, ne_eqb, leb-true}
 use Rattle.std.proofs.lemmas.List.{length-append}
 use Rattle.std.proofs.Math.Nat.{mul-le-mul_right}
 use Rattle.std.proofs.lemmas.List.Folds.{length-prefix_len}
-use Rattle.text_scan.specs.Bytes.{is_digit, front_is}
+use Rattle.lisa_words.specs.Bytes.{is_digit, front_is}
 use Rattle.verilog_text.specs.Tokens.{VTok, Sized, Plain}
 use Rattle.verilog_text.specs.Lexing.{digit_of, digits_number, base_of, has_unknown, may_be_unknown, is_more_digit}
 use Rattle.verilog_text.proofs.WrittenTexts.{size_least}

@@ -7,8 +7,8 @@ use Rattle.std.proofs.lemmas.Bool.{cases_lt, cases_Bool, both_ways, le-leb, leb-
 use Rattle.std.proofs.lemmas.Bool.Decides.{nat_tests}
 use Rattle.std.proofs.lemmas.Slice.Eq.{bytes_eq-Decides}
 use Rattle.std.proofs.lemmas.List.{length-append}
-use Rattle.text_scan.specs.Bytes.{is_blank, is_digit, is_letter, is_word, front_is}
-use Rattle.text_scan.proofs.Runs.{same_head, same_tail}
+use Rattle.lisa_words.specs.Bytes.{is_blank, is_digit, is_letter, is_word, front_is}
+use Rattle.lisa_words.proofs.Runs.{same_head, same_tail}
 use Rattle.verilog_text.specs.declared.tokens.VKeyword.{VKeyword}
 use Rattle.verilog_text.specs.declared.tokens.VKeyword.TheVariants as words
 use Rattle.verilog_text.specs.declared.tokens.VSign.{VSign}

@@ -2,11 +2,11 @@
 use Rattle.std.specs.Prelude.{ℕ, ◌+◌, ◌*◌, ◌^◌, ◌<◌, Bool, false, List, [], ◌∷◌, length, take, drop, codes, Option, Some, None, Result, Ok, Err, nat_lt, nat_le, ◌==◌, ◌&&◌, ◌||◌, not, if◌then◌else◌}
 use Rattle.std.specs.List.{prefix_len}
 use Rattle.std.specs.Str.{bytes_eq}
-use Rattle.text_scan.specs.declared.gaps.Gap.{Gap}
-use Rattle.text_scan.specs.declared.gaps.Gap.TheVariants as gaps
-use Rattle.text_scan.specs.Bytes.{is_digit, is_letter, front_is}
-use Rattle.text_scan.specs.Gaps.{gap_at}
-use Rattle.text_scan.specs.Fix.{fix}
+use Rattle.lisa_words.specs.declared.gaps.Gap.{Gap}
+use Rattle.lisa_words.specs.declared.gaps.Gap.TheVariants as gaps
+use Rattle.lisa_words.specs.Bytes.{is_digit, is_letter, front_is}
+use Rattle.lisa_words.specs.Gaps.{gap_at}
+use Rattle.lisa_words.specs.Fix.{fix}
 use Rattle.verilog_text.specs.declared.tokens.VKeyword.{VKeyword}
 use Rattle.verilog_text.specs.declared.tokens.VKeyword.TheVariants as words
 use Rattle.verilog_text.specs.declared.tokens.VSign.{VSign}

@@ -1,8 +1,8 @@
 // What stands at the front of the bytes: a gap or a token.
 ghost use Rattle.std.specs.Prelude.{◌≡◌, ◌+◌, ◌^◌, ◌<◌, ◌≤◌, ◌++◌, ◌∷◌, [], length, take, drop, IfOk, IfSome, Some, None, true, nat_lt, ◌==◌, ◌-◌};
 ghost use Rattle.std.specs.List.{prefix_len, list_all};
-ghost use Rattle.text_scan.specs.Bytes.{front_is, is_digit, is_blank, is_letter};
-ghost use Rattle.text_scan.specs.Gaps.{gap_at};
+ghost use Rattle.lisa_words.specs.Bytes.{front_is, is_digit, is_blank, is_letter};
+ghost use Rattle.lisa_words.specs.Gaps.{gap_at};
 ghost use Rattle.verilog_text.specs.Tokens.{vtok_of_part, Sized, Plain};
 ghost use Rattle.verilog_text.specs.Lexing.{is_name_byte, is_graphic, is_more_digit, digits_number};
 ghost use Rattle.verilog_lexer.specs.Reading.{word_at, escaped_at, sized_at, sign_at, longest_at, judged, verdict, past_gap, item_at, loose, goes_on, sized_verdict, fitting, based_verdict, base_behind};
@@ -14,9 +14,8 @@ use crate::numbers::{
 };
 use crate::signs::{one_byte, two_bytes};
 use crate::words::word_part;
-use lisa_words::{Name, Word};
+use lisa_words::{Gap, Name, Word, is_blank, is_digit, is_letter, leading_gap};
 use std::alloc::Global;
-use text_scan::{Gap, is_blank, is_digit, is_letter, leading_gap};
 use verilog_text::{VTokenPart, VerilogFault};
 
 /// What stands at the front: bytes to skip, or a token, each with its length.

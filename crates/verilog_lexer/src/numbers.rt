@@ -4,7 +4,7 @@ ghost use Rattle.std.specs.Option.{SomeIff};
 ghost use Rattle.verilog_lexer.specs.Numbers.{next_number};
 ghost use Rattle.verilog_text.specs.Lexing.{base_of, digit_of, is_base_digit, is_more_digit, digits_number, is_name_byte, is_graphic};
 
-use text_scan::{is_hexadecimal, is_word};
+use lisa_words::{is_hexadecimal, is_word};
 
 pub fn is_name_byte(b: u8) -> bool
     ensures { result ≡ is_name_byte b }

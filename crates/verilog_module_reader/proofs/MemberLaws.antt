@@ -9,10 +9,10 @@ use Rattle.verilog_places.specs.Trees as placed
 use Rattle.verilog_places.specs.Trees.{PlacedTree, PlacedActions, PlacedMemberTree, bare, bare_actions, bare_member, bare_members}
 use Rattle.verilog_places.specs.Spelling as grammar
 use Rattle.verilog_places.specs.Spelling.{PlacedToks, SpellsPlacedRange, SpellsPlacedMember, SpellsPlacedMembers}
-use Rattle.text_scan.specs.Many.{Each, none, some, many, with_front}
-use Rattle.text_scan.specs.Steps.{◌>>=◌}
-use Rattle.text_scan.proofs.StepLaws.{bind_some, guard_some, some_is}
-use Rattle.text_scan.proofs.ManyLaws.{Shrinks, Takes, shrinks_from, many_sound, IsItem, many_complete}
+use Rattle.lisa_words.specs.Many.{Each, none, some, many, with_front}
+use Rattle.lisa_words.specs.Steps.{◌>>=◌}
+use Rattle.lisa_words.proofs.StepLaws.{bind_some, guard_some, some_is}
+use Rattle.lisa_words.proofs.ManyLaws.{Shrinks, Takes, shrinks_from, many_sound, IsItem, many_complete}
 use Rattle.verilog_expression_reader.specs.Past.{past_of}
 use Rattle.verilog_expression_reader.proofs.PastLaws.{past_is}
 use Rattle.verilog_action_reader.specs.Reading.{name_of, expr, action, actions}

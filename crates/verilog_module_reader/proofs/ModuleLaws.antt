@@ -16,8 +16,8 @@ use Rattle.verilog_places.specs.declared.modules.PlacedInput.{PlacedInput}
 use Rattle.verilog_places.specs.declared.modules.PlacedModule.{PlacedModule}
 use Rattle.verilog_places.specs.Trees.{PlacedMemberTree, PlacedModuleTree, placed_module, bare_members, bare_module}
 use Rattle.verilog_places.specs.Spelling.{PlacedToks, parts_of, SpellsPlacedInputs, SpellsPlacedMembers, SpellsPlacedModule}
-use Rattle.text_scan.specs.Steps.{◌>>=◌}
-use Rattle.text_scan.proofs.StepLaws.{bind_some, guard_some, some_is}
+use Rattle.lisa_words.specs.Steps.{◌>>=◌}
+use Rattle.lisa_words.proofs.StepLaws.{bind_some, guard_some, some_is}
 use Rattle.verilog_expression_reader.specs.declared.misses.Missed.{Missed}
 use Rattle.verilog_expression_reader.specs.declared.misses.Missed.TheVariants as misses
 use Rattle.verilog_expression_reader.specs.Gives.{Fails}

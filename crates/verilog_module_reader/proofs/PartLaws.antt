@@ -11,10 +11,10 @@ use Rattle.verilog_text.specs.Trees.{SettingTree}
 use Rattle.verilog_places.specs.declared.modules.PlacedInput.{PlacedInput}
 use Rattle.verilog_places.specs.Spelling as grammar
 use Rattle.verilog_places.specs.Spelling.{PlacedToks, parts_of, SpellsPlacedRange, SpellsPlacedInputs, SpellsPlacedSettings}
-use Rattle.text_scan.specs.Many.{Each, none, some, Item as Read, many, with_front}
-use Rattle.text_scan.specs.Steps.{◌>>=◌}
-use Rattle.text_scan.proofs.StepLaws.{bind_some, guard_some, some_is}
-use Rattle.text_scan.proofs.ManyLaws.{Shrinks, Takes, TakesAll, shrinks_from, many_sound, IsItem, many_complete, fails_on}
+use Rattle.lisa_words.specs.Many.{Each, none, some, Item as Read, many, with_front}
+use Rattle.lisa_words.specs.Steps.{◌>>=◌}
+use Rattle.lisa_words.proofs.StepLaws.{bind_some, guard_some, some_is}
+use Rattle.lisa_words.proofs.ManyLaws.{Shrinks, Takes, TakesAll, shrinks_from, many_sound, IsItem, many_complete, fails_on}
 use Rattle.verilog_expression_reader.specs.declared.misses.Missed.{Missed}
 use Rattle.verilog_expression_reader.specs.declared.misses.Missed.TheVariants as misses
 use Rattle.verilog_expression_reader.specs.Gives.{Fails}

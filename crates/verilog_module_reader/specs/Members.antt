@@ -1,8 +1,8 @@
 -- Reading the members of a module, whose expressions and actions are at most so deep.
 use Rattle.std.specs.Prelude.{ℕ, Bool, true, false, List, [], ◌∷◌, drop, Option, Some, None}
 use Rattle.lisa_engine.specs.declared.parts.ArrayItem.{ArrayItem}
-use Rattle.text_scan.specs.Many.{many}
-use Rattle.text_scan.specs.Steps.{◌>>=◌}
+use Rattle.lisa_words.specs.Many.{many}
+use Rattle.lisa_words.specs.Steps.{◌>>=◌}
 use Rattle.verilog_text.specs.declared.tokens.VKeyword.TheVariants as words
 use Rattle.verilog_text.specs.declared.tokens.VSign.TheVariants as signs
 use Rattle.verilog_text.specs.Tokens as tokens

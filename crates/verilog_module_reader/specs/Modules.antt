@@ -1,6 +1,6 @@
 -- Reading a whole module, whose expressions and actions are at most so deep.
 use Rattle.std.specs.Prelude.{ℕ, Bool, true, false, if◌then◌else◌, List, [], ◌∷◌, Option, Some, None}
-use Rattle.text_scan.specs.Steps.{◌>>=◌}
+use Rattle.lisa_words.specs.Steps.{◌>>=◌}
 use Rattle.verilog_text.specs.declared.tokens.VKeyword.TheVariants as words
 use Rattle.verilog_text.specs.declared.tokens.VSign.TheVariants as signs
 use Rattle.verilog_text.specs.Tokens as tokens

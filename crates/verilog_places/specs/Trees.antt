@@ -2,7 +2,7 @@
 use Rattle.std.specs.Prelude.{ℕ, List, [], ◌∷◌, Option, Some, None, map}
 use Rattle.lisa_engine.specs.declared.parts.Item.{Item}
 use Rattle.lisa_engine.specs.declared.parts.ArrayItem.{ArrayItem}
-use Rattle.operators.specs.declared.binary.Operator.{Operator}
+use Rattle.lisa_words.specs.declared.binary.Operator.{Operator}
 use Rattle.verilog_text.specs.declared.expressions.VOne.{VOne}
 use Rattle.verilog_text.specs.Trees as trees
 use Rattle.verilog_text.specs.Trees.{VTree, VTrees, ActionTrees, SettingTree, MemberTree, ModuleTree, setting_tree}

@@ -2,8 +2,7 @@
 ghost use Rattle.std.specs.Prelude.{◌≡◌};
 ghost use Rattle.verilog_places.specs.Trees.{placed_tree, moved, place};
 
-use lisa_words::{Name, Word};
-use operators::Operator;
+use lisa_words::{Name, Operator, Word};
 use verilog_text::VOne;
 
 /// An expression of a module. Each variant begins with the byte at which the expression begins: that of the outermost parenthesis

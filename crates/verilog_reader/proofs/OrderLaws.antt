@@ -3,7 +3,7 @@ use Rattle.std.proofs.Common.{◌≡◌, ℕ, zero, suc, ◌-◌, ◌^◌, List,
 use Rattle.std.specs.Prelude.{flat_map, option_map, slice_get, min}
 use Rattle.std.proofs.Math.Pow.{pow-lt}
 use Rattle.std.proofs.lemmas.Bool.{cases_lt}
-use Rattle.text_scan.proofs.StepLaws.{some_is}
+use Rattle.lisa_words.proofs.StepLaws.{some_is}
 use Rattle.verilog_text.specs.declared.faults.VerilogFault.{VerilogFault}
 use Rattle.verilog_text.specs.declared.faults.VerilogFault.TheVariants as faults
 use Rattle.verilog_text.specs.Tokens.{VTok}

@@ -3,8 +3,8 @@ use Rattle.std.proofs.Common.{◌≡◌, ◌≢◌, ℕ, zero, suc, List, Bool, 
 use Rattle.std.specs.Prelude.{min, max, nat_eq, nat_lt, if◌then◌else◌, IfSome}
 use Rattle.std.proofs.lemmas.Bool.{cases_lt, eq-eqb}
 use Rattle.std.proofs.lemmas.Bool.Decides.{nat_tests}
-use Rattle.operators.specs.declared.binary.Operator.{Operator}
-use Rattle.operators.specs.declared.binary.Operator.TheVariants as operators
+use Rattle.lisa_words.specs.declared.binary.Operator.{Operator}
+use Rattle.lisa_words.specs.declared.binary.Operator.TheVariants as operators
 use Rattle.verilog_text.specs.declared.expressions.VOne.{VOne}
 use Rattle.verilog_text.specs.declared.expressions.VOne.TheVariants.{Negate}
 use Rattle.verilog_text.specs.Trees.{VTree, One}

@@ -4,7 +4,7 @@ ghost use Rattle.verilog_text.specs.Trees.{VTree, One};
 ghost use Rattle.verilog_text.specs.Values.{Widths, v_width, two_width as width_of_two};
 ghost use Rattle.verilog_size_checks.specs.Sought.{capped};
 
-use operators::Operator;
+use lisa_words::Operator;
 use verilog_text::VOne;
 
 /// The length of two parts together.

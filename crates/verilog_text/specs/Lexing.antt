@@ -1,8 +1,8 @@
 -- Which bytes spell which tokens: each token is the longest that begins at its place.
 use Rattle.std.specs.Prelude.{◌≡◌, ◌≢◌, ℕ, ◌+◌, ◌-◌, ◌*◌, ◌^◌, ◌≤◌, Bool, true, false, List, [], ◌∷◌, ◌++◌, length, codes, fold, nat_le, nat_lt, ◌==◌, ◌&&◌, ◌||◌, not, if◌then◌else◌, Option, Some, None}
 use Rattle.std.specs.List.{list_all}
-use Rattle.text_scan.specs.Bytes.{is_blank, is_digit, is_hexadecimal, is_letter, is_word, front_is}
-use Rattle.text_scan.specs.Gaps.{IsGap, BrokenGap, starts_comment}
+use Rattle.lisa_words.specs.Bytes.{is_blank, is_digit, is_hexadecimal, is_letter, is_word, front_is}
+use Rattle.lisa_words.specs.Gaps.{IsGap, BrokenGap, starts_comment}
 use Rattle.verilog_text.specs.declared.tokens.VKeyword.{VKeyword}
 use Rattle.verilog_text.specs.declared.tokens.VKeyword.TheVariants as words
 use Rattle.verilog_text.specs.declared.tokens.VSign.{VSign}

@@ -3,7 +3,7 @@ use Rattle.std.specs.Prelude.{ℕ, suc, max, List, [], ◌∷◌, Option, Some, 
 use Rattle.lisa_engine.specs.declared.parts.Item.{Item}
 use Rattle.lisa_engine.specs.declared.parts.ArrayItem.{ArrayItem}
 use Rattle.lisa_words.specs.declared.words.Word.{Word}
-use Rattle.operators.specs.declared.binary.Operator.{Operator}
+use Rattle.lisa_words.specs.declared.binary.Operator.{Operator}
 use Rattle.verilog_text.specs.declared.expressions.VOne.{VOne}
 use Rattle.verilog_text.specs.declared.expressions.VExpr.{VExpr, Join', Row_of-VExpr, end_of-VExpr, more_of-VExpr}
 use Rattle.verilog_text.specs.declared.expressions.VExpr.TheVariants as exprs

@@ -3,8 +3,8 @@
 use Rattle.std.specs.Prelude.{ℕ, zero, suc, ◌+◌, ◌-◌, ◌*◌, ◌/◌, ◌%◌, ◌^◌, max, Bool, nat_eq, nat_lt, not, if◌then◌else◌, bit_and, bit_or, bit_xor, List}
 use Rattle.lisa_words.specs.Words.{word_add, word_sub, word_mul, word_not, word_shl, word_shr}
 use Rattle.lisa_words.specs.declared.words.Kind.TheVariants.{Unsigned}
-use Rattle.operators.specs.declared.binary.Operator.{Operator}
-use Rattle.operators.specs.declared.binary.Operator.TheVariants as operators
+use Rattle.lisa_words.specs.declared.binary.Operator.{Operator}
+use Rattle.lisa_words.specs.declared.binary.Operator.TheVariants as operators
 use Rattle.verilog_text.specs.declared.expressions.VOne.TheVariants.{Complement, Negate}
 use Rattle.verilog_text.specs.Trees.{VTree, Number, Named, Bits, Cell, One, Two, Choose, Join, Repeat, VTrees, End, Then}
 

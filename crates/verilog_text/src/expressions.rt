@@ -1,6 +1,5 @@
 // Expressions of a module.
-use lisa_words::{Name, Word};
-use operators::Operator;
+use lisa_words::{Name, Operator, Word};
 
 /// An operator with one operand.
 #[derive(Clone, Copy, Debug, PartialEq, Eq)]

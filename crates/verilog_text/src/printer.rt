@@ -1,7 +1,7 @@
 // The text of a module.
 ghost use Rattle.std.specs.Prelude.{◌≡◌, ◌++◌, ◌+◌, ◌-◌, ◌≤◌, ◌<◌, ◌∷◌, ◌^◌, [], ℕ, List, suc, IfOk, OnOk, map, flat_map, length, nat_lt, if◌then◌else◌};
 ghost use Rattle.std.specs.Fmt.{decimal as decimal_digits};
-ghost use Rattle.operators.specs.Operators.{level_of};
+ghost use Rattle.lisa_words.specs.Operators.{level_of};
 ghost use Rattle.verilog_text.specs.Trees.{vexpr_tree, vexpr_trees, action_then, action_trees, setting_tree, member_tree, module_tree, set_then, Done, If as IfTree, Join as JoinTree, Array as ArrayTree, Wire as WireTree, Always as AlwaysTree};
 ghost use Rattle.verilog_text.specs.Grammar.{vsign_of, vone_sign, setting_tokens};
 ghost use Rattle.verilog_text.specs.Tokens.{Named, Reserved, Sized, Plain, Mark};
@@ -15,8 +15,7 @@ use crate::modules::{Action, Member, Module};
 use crate::pieces::Piece;
 use crate::tokens::{VKeyword, VSign};
 use lisa_engine::{ArrayItem, Item};
-use lisa_words::{Name, NoMemory, Word, decimal};
-use operators::{Operator, level};
+use lisa_words::{Name, NoMemory, Operator, Word, decimal, level};
 use std::alloc::{AllocError, Global};
 
 fn operator_sign(operator: Operator) -> VSign

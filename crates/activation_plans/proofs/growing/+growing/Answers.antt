@@ -1,6 +1,6 @@
 use Rattle.std.proofs.Common.{◌≡◌, ◌+◌, ◌-◌, ℕ, suc, ap, ap₂, sym, ◌∙◌, arith, List, map, drop, get_or}
 use Rattle.lisa_tree.specs.Activations.{ActTrees, act_tree, act_trees}
-use Rattle.description_names.specs.Operations.{sections_at, activation_in}
+use Rattle.lisa_tree.specs.Operations.{sections_at, activation_in}
 use Rattle.stage_checks.proofs.Rows.{one_act}
 use Rattle.activation_trees.specs.Starting.{Activated, activation}
 use Rattle.pipeline_time.specs.Acts.{Acts, size}

@@ -1,7 +1,7 @@
 -- The root is among the occurrences that are left.
 use Rattle.std.proofs.Common.{◌≡◌, drop}
 use Rattle.std.specs.Prelude.{find}
-use Rattle.description_names.specs.Operations.{is_root}
+use Rattle.lisa_tree.specs.Operations.{is_root}
 use Rattle.activation_plans.proofs.plans.root_occurrence.Given as goal
 
 abbrev pub invariant-loop-occurrence : goal.invariant-loop-occurrence

@@ -1,6 +1,6 @@
 use Rattle.std.proofs.Common.{◌≡◌, ◌∙◌, ℕ, List, Option, Some, sym, ap}
 use Rattle.std.specs.Prelude.{unwrap_or}
-use Rattle.description_names.specs.Operations.{number_of}
+use Rattle.lisa_tree.specs.Operations.{number_of}
 use Rattle.stage_checks.specs.Controls.{main_name}
 use Rattle.stage_checks.proofs.Nodes.{number_within}
 use Rattle.least_fixed_points.specs.Settles.{entry}

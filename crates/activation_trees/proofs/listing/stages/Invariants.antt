@@ -1,6 +1,6 @@
 use Rattle.std.proofs.Common.{◌≡◌, drop, map}
 use Rattle.lisa_tree.specs.Descriptions.{resource_tree}
-use Rattle.description_names.specs.Resources.{stages_in}
+use Rattle.lisa_tree.specs.Resources.{stages_in}
 use Rattle.activation_trees.proofs.listing.stages.Given as goal
 
 abbrev pub invariant-loop-resource : goal.invariant-loop-resource

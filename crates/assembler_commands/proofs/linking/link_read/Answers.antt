@@ -11,10 +11,10 @@ use Rattle.assembler_commands.proofs.linking.link_read.Goals as goal
 pub returns-in-Ok : goal.returns-in-Ok
 returns-in-Ok g c =
     let d = (checked_of c.args.tools.now).tree in
-    passed_replies {X = List Memory} {T = Unit {0}} (λ image. image) _ _ (λ (image : List Memory) (outcome : Outcome). outcome ≡ Finished (image_text (stamped d image))) c.in-Ok.image _ _ _ _ _ c.in-Ok.ensures
+    passed_replies {X = List Memory} {T = Unit {0}} (λ image. image) _ _ (λ (image : List Memory) (outcome : Outcome). outcome ≡ Finished (image_text (stamped d image))) c.in-Ok.image _ _ _ _ _ c.in-Ok.ensures.finds
     (written_replies _ _ _ _ _ _ (rw c.requires.digest at c.write_image.ensures))
 
 pub returns-in-Err : goal.returns-in-Err
 returns-in-Err g c =
     let d = (checked_of c.args.tools.now).tree in
-    stopped_replies {X = List Memory} {T = Unit {0}} (λ image. image) _ _ (λ (image : List Memory) (outcome : Outcome). outcome ≡ Finished (image_text (stamped d image))) c.in-Err.end _ _ c.in-Err.ensures
+    stopped_replies {X = List Memory} {T = Unit {0}} (λ image. image) _ _ (λ (image : List Memory) (outcome : Outcome). outcome ≡ Finished (image_text (stamped d image))) c.in-Err.end _ _ c.in-Err.ensures.finds

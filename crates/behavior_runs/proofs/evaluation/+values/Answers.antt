@@ -1,7 +1,7 @@
 use Rattle.std.proofs.Common.{◌≡◌, ◌∙◌, ◌<◌, ℕ, Some, sym, ap, arith}
 use Rattle.lisa_tree.specs.Expressions.{expr_tree}
 use Rattle.lisa_tree.specs.Descriptions.{DescriptionTree}
-use Rattle.description_names.specs.Operations.{expression_in, sections_at}
+use Rattle.lisa_tree.specs.Operations.{expression_in, sections_at}
 use Rattle.typed_values.specs.Words.{typed_word}
 use Rattle.lisa_meaning.specs.Scenes.{child_at_home}
 use Rattle.scene_paths.specs.Paths.{links_of}

@@ -3,7 +3,7 @@ use Rattle.std.specs.Borrow.{Bor}
 use Rattle.lisa_tree.specs.declared.statements.Stmt.{Stmt}
 use Rattle.lisa_tree.specs.Statements.{head_tree, stmt_tree, stmt_trees, stmt_depth, stmts_depth}
 use Rattle.lisa_tree.specs.Descriptions.{DescriptionTree}
-use Rattle.description_names.specs.Operations.{behavior_in, sections_at}
+use Rattle.lisa_tree.specs.Operations.{behavior_in, sections_at}
 use Rattle.typed_values.specs.Effects.{effect, loop_turn}
 use Rattle.typed_values.proofs.Blocks.{effect-Block}
 use Rattle.typed_values.proofs.Turns.{turn_more}

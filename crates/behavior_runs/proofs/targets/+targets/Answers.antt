@@ -3,7 +3,7 @@ use Rattle.std.specs.Borrow.{Bor}
 use Rattle.lisa_tree.specs.declared.expressions.Expr.{Expr}
 use Rattle.lisa_tree.specs.Expressions.{expr_tree}
 use Rattle.lisa_tree.specs.Descriptions.{DescriptionTree}
-use Rattle.description_names.specs.Operations.{expression_in, sections_at}
+use Rattle.lisa_tree.specs.Operations.{expression_in, sections_at}
 use Rattle.typed_values.specs.Effects.{in_kind}
 use Rattle.moment_stores.specs.Stores.{moment_of, outer_locals}
 use Rattle.scene_paths.specs.Paths.{links_of}

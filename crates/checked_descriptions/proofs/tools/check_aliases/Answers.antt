@@ -1,5 +1,5 @@
 use Rattle.lisa_tree.specs.Descriptions.{description_tree}
-use Rattle.lisa_coding.specs.Verdicts.{IsUncoveredVerdict}
+use Rattle.lisa_forms.specs.Coverage.{IsUncoveredVerdict}
 use Rattle.checked_descriptions.proofs.Steps.{ok_last, err_last}
 use Rattle.checked_descriptions.proofs.tools.check_aliases.Goals as goal
 

@@ -2,7 +2,7 @@ use Rattle.lisa_tree.specs.Descriptions.{description_tree}
 use Rattle.lisa_syntax.specs.Parts.{IsSyntaxOf}
 use Rattle.lisa_syntax.specs.Texts.{IsAmbiguityVerdict}
 use Rattle.checked_descriptions.specs.Instructions.{from_aliases}
-use Rattle.lisa_forms.proofs.Steps.{ok_past, err_past, refused_here}
+use Rattle.lisa_forms.proofs.Walking.{ok_past, err_past, refused_here}
 use Rattle.checked_descriptions.proofs.Steps.{ok_kept}
 use Rattle.checked_descriptions.proofs.tools.syntax_of.Goals as goal
 

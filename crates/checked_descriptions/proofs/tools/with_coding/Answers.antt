@@ -1,9 +1,9 @@
 use Rattle.std.proofs.Common.{None}
 use Rattle.lisa_tree.specs.Descriptions.{description_tree}
-use Rattle.lisa_coding.specs.Verdicts.{IsOverlapVerdict}
+use Rattle.lisa_forms.specs.Coverage.{IsOverlapVerdict}
 use Rattle.checked_descriptions.specs.Instructions.{from_ambiguities}
 use Rattle.checked_descriptions.proofs.InstructionVerdicts.{refused_instructions}
-use Rattle.lisa_forms.proofs.Steps.{past, refused_past}
+use Rattle.lisa_forms.proofs.Walking.{past, refused_past}
 use Rattle.checked_descriptions.proofs.tools.with_coding.Goals as goal
 
 pub returns-in-Ok-clause-tools : goal.returns-in-Ok-clause-tools

@@ -1,8 +1,8 @@
 use Rattle.lisa_tree.specs.Descriptions.{description_tree}
-use Rattle.lisa_coding.specs.Verdicts.{IsOverlapVerdict}
+use Rattle.lisa_forms.specs.Coverage.{IsOverlapVerdict}
 use Rattle.checked_descriptions.specs.Instructions.{from_ambiguities}
 use Rattle.checked_descriptions.proofs.InstructionVerdicts.{refused_instructions}
-use Rattle.lisa_forms.proofs.Steps.{refused_here}
+use Rattle.lisa_forms.proofs.Walking.{refused_here}
 use Rattle.checked_descriptions.proofs.tools.with_forms.Goals as goal
 
 pub returns-in-Err-clause-fault : goal.returns-in-Err-clause-fault

@@ -1,6 +1,6 @@
 use Rattle.std.proofs.Common.{◌≡◌, ◌+◌, ℕ, Bool, false, List, length, get_or, ap, ◌∙◌, arith}
 use Rattle.std.proofs.lemmas.List.{length_push}
-use Rattle.description_names.specs.Declarations.{choices, alternatives_at}
+use Rattle.lisa_tree.specs.Declarations.{choices, alternatives_at}
 use Rattle.least_fixed_points.specs.Settles.{entry}
 use Rattle.coding_checks.specs.Uneven.{is_uneven}
 use Rattle.coding_checks.proofs.Tabled.{one_more, all_of, uneven_past}

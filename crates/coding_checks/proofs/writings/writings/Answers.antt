@@ -2,8 +2,8 @@ use Rattle.std.proofs.Common.{◌≡◌, ◌+◌, ℕ, List, length, get_or, ap,
 use Rattle.std.specs.Prelude.{option_copied}
 use Rattle.std.proofs.lemmas.List.{length_push}
 use Rattle.lisa_tree.specs.Descriptions.{SectionTree}
-use Rattle.description_names.specs.Operations.{sections_at}
-use Rattle.description_names.specs.Declarations.{entries, owner_at}
+use Rattle.lisa_tree.specs.Operations.{sections_at}
+use Rattle.lisa_tree.specs.Declarations.{entries, owner_at}
 use Rattle.coding_checks.specs.declared.values.Writing.{Writing}
 use Rattle.coding_checks.specs.Written.{no_writing, writing_in, writing_at}
 use Rattle.coding_checks.proofs.Tabled.{one_more, all_of, writing_past}

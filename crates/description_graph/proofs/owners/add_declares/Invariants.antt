@@ -1,6 +1,6 @@
 use Rattle.std.proofs.Common.{◌≡◌, ◌++◌, drop, map}
 use Rattle.lisa_tree.specs.Descriptions.{declare_tree}
-use Rattle.description_names.specs.Declarations.{choices_in}
+use Rattle.lisa_tree.specs.Declarations.{choices_in}
 use Rattle.description_graph.specs.Graph.{owners}
 use Rattle.description_graph.proofs.owners.add_declares.Given as goal
 

@@ -1,6 +1,6 @@
 use Rattle.std.proofs.Common.{◌≡◌, ◌++◌, drop, map}
 use Rattle.lisa_tree.specs.Descriptions.{operation_tree}
-use Rattle.description_names.specs.Declarations.{choices_from}
+use Rattle.lisa_tree.specs.Declarations.{choices_from}
 use Rattle.description_graph.specs.Graph.{owners}
 use Rattle.description_graph.proofs.owners.add_operations.Given as goal
 

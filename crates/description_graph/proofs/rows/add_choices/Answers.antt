@@ -1,6 +1,6 @@
 use Rattle.std.proofs.Common.{rules, ◌≡◌, ◌<◌, ℕ, List, length, ap, arith}
 use Rattle.std.specs.Prelude.{slice_index}
-use Rattle.description_names.specs.Declarations.{choices}
+use Rattle.lisa_tree.specs.Declarations.{choices}
 use Rattle.description_graph.specs.Graph.{owners}
 use Rattle.description_graph.proofs.Numbered.{choice_owner, choices_step}
 use Rattle.description_graph.proofs.rows.add_choices.Goals as goal

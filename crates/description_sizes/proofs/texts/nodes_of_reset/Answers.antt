@@ -1,6 +1,6 @@
 use Rattle.std.proofs.Common.{◌≡◌, ◌∙◌, ℕ, List, Option, Some, sym, ap}
 use Rattle.std.specs.Prelude.{codes, unwrap_or}
-use Rattle.description_names.specs.Operations.{number_of}
+use Rattle.lisa_tree.specs.Operations.{number_of}
 use Rattle.text_counts.specs.Tables.{told_by}
 use Rattle.description_sizes.proofs.Sums.{reset_counted}
 use Rattle.description_sizes.proofs.texts.nodes_of_reset.Goals as goal

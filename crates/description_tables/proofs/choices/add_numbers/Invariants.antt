@@ -1,6 +1,6 @@
 use Rattle.std.proofs.Common.{◌≡◌, ◌++◌, drop}
 use Rattle.lisa_tree.specs.Descriptions.{description_tree}
-use Rattle.description_names.specs.Operations.{numbers_of}
+use Rattle.lisa_tree.specs.Operations.{numbers_of}
 use Rattle.description_tables.proofs.choices.add_numbers.Given as goal
 
 abbrev pub invariant-loop-name : goal.invariant-loop-name

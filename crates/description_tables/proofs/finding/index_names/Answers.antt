@@ -1,6 +1,6 @@
 use Rattle.std.proofs.Common.{rules, ◌<◌, ◌&&◌, ℕ, List, Some, None, cond, length, nat_eq, arith, ap₂, ◌∙◌}
 use Rattle.std.specs.Option.{option_or}
-use Rattle.description_names.specs.Same.{same_name}
+use Rattle.lisa_tree.specs.Same.{same_name}
 use Rattle.description_tables.specs.Laws.{declares, find_in}
 use Rattle.description_tables.proofs.Positions.{next_place}
 use Rattle.description_tables.proofs.finding.index_names.Goals as goal

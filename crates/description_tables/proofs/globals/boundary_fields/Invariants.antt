@@ -1,6 +1,6 @@
 use Rattle.std.proofs.Common.{◌≡◌, map, drop}
 use Rattle.lisa_tree.specs.Descriptions.{resource_tree}
-use Rattle.description_names.specs.Resources.{fields_in}
+use Rattle.lisa_tree.specs.Resources.{fields_in}
 use Rattle.description_tables.proofs.globals.boundary_fields.Given as goal
 
 abbrev pub invariant-loop-resource : goal.invariant-loop-resource

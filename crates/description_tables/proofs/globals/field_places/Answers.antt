@@ -1,6 +1,6 @@
 use Rattle.std.proofs.Common.{ℕ, List, ◌<◌, ◌≤◌, length, arith}
 use Rattle.lisa_tree.specs.declared.tokens.Shape.{Shape}
-use Rattle.description_names.specs.Same.{same_name}
+use Rattle.lisa_tree.specs.Same.{same_name}
 use Rattle.description_tables.proofs.Positions.{next_place, all_places}
 use Rattle.description_tables.proofs.globals.field_places.Goals as goal
 

@@ -1,6 +1,6 @@
 use Rattle.std.proofs.Common.{◌<◌, ◌≤◌, length, arith}
 use Rattle.lisa_tree.specs.declared.descriptions.Operation.{Operation}
-use Rattle.description_names.specs.Same.{same_name}
+use Rattle.lisa_tree.specs.Same.{same_name}
 use Rattle.description_tables.proofs.Positions.{next_place, all_places}
 use Rattle.description_tables.proofs.globals.operation_places.Goals as goal
 

@@ -1,7 +1,7 @@
 use Rattle.std.proofs.Common.{◌<◌, ◌≤◌, length, arith}
 use Rattle.lisa_tree.specs.declared.descriptions.Resource.{Resource}
 use Rattle.lisa_tree.specs.Descriptions.{resource_tree}
-use Rattle.description_names.specs.Resources.{is_named}
+use Rattle.lisa_tree.specs.Resources.{is_named}
 use Rattle.description_tables.proofs.Positions.{next_place, all_places}
 use Rattle.description_tables.proofs.globals.resource_places.Goals as goal
 

@@ -2,8 +2,8 @@ use Rattle.std.proofs.Common.{◌≡◌, ℕ, List, take}
 use Rattle.std.specs.Prelude.{position}
 use Rattle.indexmap.specs.IndexMap.{get}
 use Rattle.lisa_tree.specs.Descriptions.{resource_tree}
-use Rattle.description_names.specs.Same.{same_name}
-use Rattle.description_names.specs.Resources.{is_named}
+use Rattle.lisa_tree.specs.Same.{same_name}
+use Rattle.lisa_tree.specs.Resources.{is_named}
 use Rattle.description_tables.proofs.globals.resource_places.Given as goal
 
 abbrev pub invariant-loop-place : goal.invariant-loop-place

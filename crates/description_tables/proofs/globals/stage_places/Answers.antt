@@ -1,5 +1,5 @@
 use Rattle.std.proofs.Common.{◌<◌, ◌≤◌, length, arith}
-use Rattle.description_names.specs.Same.{same_name}
+use Rattle.lisa_tree.specs.Same.{same_name}
 use Rattle.description_tables.proofs.Positions.{next_place, all_places}
 use Rattle.description_tables.proofs.globals.stage_places.Goals as goal
 

@@ -1,6 +1,6 @@
 use Rattle.std.proofs.Common.{◌≡◌, ◌++◌, drop, map, length}
 use Rattle.lisa_tree.specs.Descriptions.{description_tree, declare_tree}
-use Rattle.description_names.specs.Declarations.{entries_in, choices_in}
+use Rattle.lisa_tree.specs.Declarations.{entries_in, choices_in}
 use Rattle.description_tables.specs.Laws.{chosen}
 use Rattle.description_tables.proofs.listing.add_declares.Given as goal
 

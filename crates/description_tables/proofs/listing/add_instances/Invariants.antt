@@ -1,6 +1,6 @@
 use Rattle.std.proofs.Common.{◌≡◌, ◌++◌, drop, map, length}
 use Rattle.lisa_tree.specs.Descriptions.{description_tree}
-use Rattle.description_names.specs.Declarations.{instances}
+use Rattle.lisa_tree.specs.Declarations.{instances}
 use Rattle.description_tables.specs.Laws.{chosen}
 use Rattle.description_tables.proofs.Entries.{one_of}
 use Rattle.description_tables.proofs.listing.add_instances.Given as goal

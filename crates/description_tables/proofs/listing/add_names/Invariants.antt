@@ -1,5 +1,5 @@
 use Rattle.std.proofs.Common.{◌≡◌, ◌++◌, drop, map}
-use Rattle.description_names.specs.Declarations.{entry}
+use Rattle.lisa_tree.specs.Declarations.{entry}
 use Rattle.description_tables.proofs.listing.add_names.Given as goal
 
 abbrev pub invariant-loop-name : goal.invariant-loop-name

@@ -1,7 +1,7 @@
 use Rattle.std.proofs.Common.{◌≡◌, ◌<◌, ℕ, take, map, length}
 use Rattle.std.specs.Prelude.{slice_index}
 use Rattle.lisa_tree.specs.Descriptions.{description_tree, operation_tree}
-use Rattle.description_names.specs.Declarations.{entries_from, choices_from}
+use Rattle.lisa_tree.specs.Declarations.{entries_from, choices_from}
 use Rattle.description_tables.specs.Laws.{chosen}
 use Rattle.description_tables.proofs.listing.list.Given as goal
 

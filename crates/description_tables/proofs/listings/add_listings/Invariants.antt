@@ -1,6 +1,6 @@
 use Rattle.std.proofs.Common.{◌≡◌, ℕ, length, take}
 use Rattle.graph_paths.specs.Paths.{targets}
-use Rattle.description_names.specs.Declarations.{listings}
+use Rattle.lisa_tree.specs.Declarations.{listings}
 use Rattle.description_tables.specs.Laws.{Joins}
 use Rattle.description_tables.proofs.listings.add_listings.Given as goal
 

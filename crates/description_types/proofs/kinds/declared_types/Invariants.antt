@@ -1,5 +1,5 @@
 use Rattle.std.proofs.Common.{◌≡◌, ◌<◌, ℕ, None, length, get_or}
-use Rattle.description_names.specs.Paths.{entry_node}
+use Rattle.lisa_tree.specs.Paths.{entry_node}
 use Rattle.least_fixed_points.specs.Settles.{entry}
 use Rattle.description_types.proofs.kinds.declared_types.Given as goal
 

@@ -1,6 +1,6 @@
 use Rattle.std.proofs.Common.{◌≡◌, ◌<◌, ℕ, List, Option, length, ap, ◌∙◌}
-use Rattle.description_names.specs.Declarations.{entries}
-use Rattle.description_names.specs.Paths.{entry_node}
+use Rattle.lisa_tree.specs.Declarations.{entries}
+use Rattle.lisa_tree.specs.Paths.{entry_node}
 use Rattle.least_fixed_points.specs.Settles.{entry}
 use Rattle.description_types.specs.declared.values.TypeOf.{TypeOf}
 use Rattle.description_types.proofs.KnownTypes.{differ_in_type, differ_in_value}

@@ -1,7 +1,7 @@
 -- The first pipeline is among the resources that are left.
 use Rattle.std.proofs.Common.{◌≡◌, drop, map}
 use Rattle.lisa_tree.specs.Descriptions.{resource_tree}
-use Rattle.description_names.specs.Resources.{stages_in}
+use Rattle.lisa_tree.specs.Resources.{stages_in}
 use Rattle.description_weight.proofs.texts.count_stages.Given as goal
 
 abbrev pub invariant-loop-resource : goal.invariant-loop-resource

@@ -2,7 +2,7 @@ use Rattle.std.proofs.Common.{◌≡◌, ◌*◌, ◌∙◌, ℕ, List, length, 
 use Rattle.lisa_tree.specs.declared.descriptions.Description.{Description}
 use Rattle.lisa_tree.specs.declared.descriptions.Resource.{Resource}
 use Rattle.lisa_tree.specs.Descriptions.{resource_tree}
-use Rattle.description_names.specs.Resources.{stages_in}
+use Rattle.lisa_tree.specs.Resources.{stages_in}
 use Rattle.access_counts.specs.Ledgers.{capped}
 use Rattle.description_weight.proofs.weights.turns.Goals as goal
 

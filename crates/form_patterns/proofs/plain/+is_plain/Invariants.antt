@@ -1,5 +1,5 @@
 use Rattle.std.proofs.Common.{◌≡◌, drop}
-use Rattle.description_names.specs.Operations.{is_alias}
+use Rattle.lisa_tree.specs.Operations.{is_alias}
 use Rattle.instruction_forms.specs.Trees.{are_plain}
 use Rattle.form_patterns.proofs.Views.{trees}
 use Rattle.form_patterns.proofs.plain.+is_plain.Given as goal

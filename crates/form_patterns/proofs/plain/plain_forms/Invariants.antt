@@ -1,5 +1,5 @@
 use Rattle.std.proofs.Common.{◌≡◌, map, take}
-use Rattle.description_names.specs.Operations.{is_alias}
+use Rattle.lisa_tree.specs.Operations.{is_alias}
 use Rattle.instruction_forms.specs.Trees.{form_tree, is_plain_tree}
 use Rattle.form_patterns.proofs.plain.plain_forms.Given as goal
 

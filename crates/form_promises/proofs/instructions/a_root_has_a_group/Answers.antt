@@ -1,4 +1,4 @@
-use Rattle.description_promises.proofs.Sound.{sound}
+use Rattle.lisa_machine.proofs.Sound.{sound}
 use Rattle.form_promises.proofs.Rooted.{root_chosen, without_root}
 use Rattle.form_promises.proofs.instructions.a_root_has_a_group.Goals as goal
 

@@ -1,4 +1,4 @@
-use Rattle.description_promises.proofs.Sound.{sound}
+use Rattle.lisa_machine.proofs.Sound.{sound}
 use Rattle.form_promises.proofs.Listed.{forms_distinct}
 use Rattle.form_promises.proofs.instructions.forms_are_distinct.Goals as goal
 

@@ -1,14 +1,14 @@
 -- From widths to the width of instructions.
 use Rattle.std.proofs.Common.{◌≡◌, ℕ, Option, None, Some, refl}
 use Rattle.lisa_tree.specs.Descriptions.{DescriptionTree}
-use Rattle.description_names.specs.Paths.{choice_node}
+use Rattle.lisa_tree.specs.Paths.{choice_node}
 use Rattle.coding_checks.specs.Uneven.{IsFirstGroupWidth, group_width}
 use Rattle.coding_tables.specs.Instructions.{instruction_choice}
 use Rattle.instruction_forms.specs.Widths.{HasInstructionWidth, HasWidth}
 use Rattle.instruction_forms.proofs.Wide.{small_width}
-use Rattle.description_promises.specs.Soundness.{IsSound}
-use Rattle.description_promises.specs.Freedom.{IsFree}
-use Rattle.description_promises.proofs.Sound.{sound}
+use Rattle.lisa_machine.specs.Soundness.{IsSound}
+use Rattle.lisa_machine.specs.Freedom.{IsFree}
+use Rattle.lisa_machine.proofs.Sound.{sound}
 use Rattle.form_promises.proofs.Placed.{some_width}
 use Rattle.form_promises.proofs.Rooted.{the_root}
 use Rattle.form_promises.proofs.Wide.{group_wide}

@@ -1,8 +1,8 @@
 use Rattle.std.proofs.Common.{None}
 use Rattle.lisa_tree.specs.Descriptions.{DescriptionTree}
 use Rattle.coding_checks.specs.Uneven.{IsFirstGroupWidth, group_width}
-use Rattle.description_promises.specs.Freedom.{IsFree}
-use Rattle.description_promises.proofs.Sound.{sound}
+use Rattle.lisa_machine.specs.Freedom.{IsFree}
+use Rattle.lisa_machine.proofs.Sound.{sound}
 use Rattle.form_promises.proofs.Readable.{form_readable}
 use Rattle.form_promises.proofs.writing.instructions_are_readable.Goals as goal
 

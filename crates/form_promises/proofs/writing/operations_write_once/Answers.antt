@@ -2,16 +2,16 @@ use Rattle.std.proofs.Common.{◌≡◌, ℕ, [], Option, None, Some, true, refl
 use Rattle.std.specs.Prelude.{slice_index_or}
 use Rattle.lisa_tree.specs.Descriptions as trees
 use Rattle.lisa_tree.specs.Descriptions.{CodingTree, DescriptionTree}
-use Rattle.description_names.specs.Operations.{coding_in, sections_at}
+use Rattle.lisa_tree.specs.Operations.{coding_in, sections_at}
 use Rattle.coded_names.specs.Codings.{is_coding}
 use Rattle.coding_checks.specs.Written.{not_written}
 use Rattle.instruction_trees.specs.Trees.{coding}
 use Rattle.coding_tables.specs.Codings.{coding_table}
 use Rattle.instruction_texts.specs.Once.{IsWrittenOnce}
 use Rattle.form_texts.specs.Syntaxes.{syntax_table}
-use Rattle.description_promises.specs.Freedom.{IsFree}
-use Rattle.description_promises.specs.Soundness.{IsSound}
-use Rattle.description_promises.proofs.Sound.{sound}
+use Rattle.lisa_machine.specs.Freedom.{IsFree}
+use Rattle.lisa_machine.specs.Soundness.{IsSound}
+use Rattle.lisa_machine.proofs.Sound.{sound}
 use Rattle.form_promises.proofs.Spelled.{written_once}
 use Rattle.form_promises.proofs.writing.operations_write_once.Goals as goal
 

@@ -1,4 +1,4 @@
-use Rattle.description_names.specs.Operations.{is_alias}
+use Rattle.lisa_tree.specs.Operations.{is_alias}
 use Rattle.instruction_forms.proofs.Wide.{whole_plain}
 use Rattle.instruction_forms.proofs.laws.forms_are_plain.Goals as goal
 

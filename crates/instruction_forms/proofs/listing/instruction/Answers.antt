@@ -1,6 +1,6 @@
 use Rattle.std.proofs.Common.{◌≡◌, ◌∙◌, ℕ, List, sym, ap, subst}
 use Rattle.least_fixed_points.specs.Settles.{entry}
-use Rattle.description_names.specs.Declarations.{alternatives_at}
+use Rattle.lisa_tree.specs.Declarations.{alternatives_at}
 use Rattle.coding_tables.specs.Instructions.{below_count}
 use Rattle.instruction_forms.specs.declared.picking.Pick.{Pick}
 use Rattle.instruction_forms.specs.Picks.{pick, told, picked_form, IsPick}

@@ -1,7 +1,7 @@
 use Rattle.std.proofs.Common.{◌≡◌, ◌++◌, ◌∙◌, Bool, cond, [], sym, ap}
 use Rattle.std.specs.Prelude.{codes}
 use Rattle.std.proofs.lemmas.List.{append-nil}
-use Rattle.description_names.specs.Operations.{name_at}
+use Rattle.lisa_tree.specs.Operations.{name_at}
 use Rattle.instruction_forms.proofs.Commas.{first_written, next_written, all_written}
 use Rattle.instruction_forms.proofs.naming.+write_form.Goals.{then-opened, else-opened}
 use Rattle.instruction_forms.proofs.naming.+write_form.Goals as goal

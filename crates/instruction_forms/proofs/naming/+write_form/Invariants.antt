@@ -1,5 +1,5 @@
 use Rattle.std.proofs.Common.{◌≡◌, ◌++◌, map, drop}
-use Rattle.description_names.specs.Operations.{name_at}
+use Rattle.lisa_tree.specs.Operations.{name_at}
 use Rattle.instruction_forms.specs.Trees.{in_turn, form_tree}
 use Rattle.instruction_forms.specs.Naming.{form_text}
 use Rattle.instruction_forms.proofs.Commas.{left}

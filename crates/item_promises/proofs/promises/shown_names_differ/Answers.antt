@@ -1,5 +1,5 @@
-use Rattle.description_promises.proofs.Sound.{sound}
-use Rattle.description_promises.proofs.Distinct.{stages_distinct, fields_distinct}
+use Rattle.lisa_machine.proofs.Sound.{sound}
+use Rattle.lisa_machine.proofs.Distinct.{stages_distinct, fields_distinct}
 use Rattle.spelled_promises.proofs.Outer.{well_formed}
 use Rattle.use_promises.proofs.Shown.{shown_fits}
 use Rattle.item_promises.proofs.Named.{names_differ}

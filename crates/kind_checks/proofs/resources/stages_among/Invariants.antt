@@ -1,6 +1,6 @@
 use Rattle.std.proofs.Common.{◌≡◌, drop, map}
 use Rattle.lisa_tree.specs.Descriptions.{resource_tree}
-use Rattle.description_names.specs.Resources.{stages_in}
+use Rattle.lisa_tree.specs.Resources.{stages_in}
 use Rattle.kind_checks.proofs.resources.stages_among.Given as goal
 
 abbrev pub invariant-loop-resource : goal.invariant-loop-resource

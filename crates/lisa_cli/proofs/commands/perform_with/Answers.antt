@@ -9,6 +9,16 @@ returns-in-Format-clause-ends g c = rw c.in-Format.is (replies_end {T = Unit {0}
 pub returns-in-Check-clause-ends : goal.returns-in-Check-clause-ends
 returns-in-Check-clause-ends g c = rw c.in-Check.is (replies_end {T = Unit {0}} {W = List ℕ} _ _ _ _ _ _ _ _ (rw c.file_at-in-Check.ensures at c.check_description.ensures))
 
+pub returns-in-Verilog-clause-ends : goal.returns-in-Verilog-clause-ends
+returns-in-Verilog-clause-ends g c = rw c.in-Verilog.is (replies_end {T = Unit {0}} {W = List ℕ} _ _ _ _ _ _ _ _ (rw c.file_at-in-Verilog.ensures at c.write_verilog.ensures))
+
+pub returns-in-Generate-clause-ends : goal.returns-in-Generate-clause-ends
+returns-in-Generate-clause-ends g c = rw c.in-Generate.is (replies_end {T = Unit {0}} {W = List ℕ} _ _ _ _ _ _ _ _ (rw c.file_at-in-Generate.ensures at c.write_program.ensures))
+
+pub returns-in-Soak-clause-ends : goal.returns-in-Soak-clause-ends
+returns-in-Soak-clause-ends g c =
+    rw c.in-Soak.is (replies_end {T = Unit {0}} {W = List ℕ} _ _ _ _ _ _ _ _ (rw c.file_at-in-Soak.ensures at (rw c.file_at-in-Soak-2.ensures at c.soak.ensures)))
+
 pub returns-in-Simulate-clause-ends : goal.returns-in-Simulate-clause-ends
 returns-in-Simulate-clause-ends g c = rw c.in-Simulate.is (rw c.run_bytes.ensures at c.do_with_description.ensures.ends)
 

@@ -4,7 +4,7 @@ use Rattle.lisa_tree.specs.Descriptions.{DescriptionTree}
 use Rattle.instruction_trees.specs.Trees.{Tree}
 use Rattle.form_patterns.specs.Filled.{IsInstruction}
 use Rattle.form_patterns.proofs.Filling.{its_values}
-use Rattle.lisa_coding.specs.Parts.{IsCodingOf, IsOneTreeOf}
+use Rattle.lisa_forms.specs.Codings.{IsCodingOf, IsOneTreeOf}
 use Rattle.lisa_syntax.specs.Parts.{IsSyntaxOf}
 use Rattle.lisa_disasm.specs.Listings.{instruction_line, IsInstructionLine, known}
 use Rattle.lisa_disasm.proofs.Reading.{if_ok}

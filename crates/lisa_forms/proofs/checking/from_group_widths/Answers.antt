@@ -2,7 +2,7 @@ use Rattle.std.proofs.Common.{subst, Option}
 use Rattle.lisa_tree.specs.declared.faults.DescFault.{DescFault}
 use Rattle.coding_checks.specs.Uneven.{IsFirstGroupWidth}
 use Rattle.lisa_forms.specs.Verdicts.{from_writings}
-use Rattle.lisa_forms.proofs.Steps.{err_past, ok_past}
+use Rattle.lisa_forms.proofs.Walking.{err_past, ok_past}
 use Rattle.lisa_forms.proofs.checking.from_group_widths.Goals as goal
 
 pub returns-in-None-clause-accepted : goal.returns-in-None-clause-accepted

@@ -2,7 +2,7 @@ use Rattle.std.proofs.Common.{◌≡◌, None, option_map, sym, ap, ◌∙◌}
 use Rattle.lisa_tree.specs.Descriptions.{DescriptionTree}
 use Rattle.activation_trees.specs.Twice.{first_root_twice}
 use Rattle.lisa_forms.specs.Verdicts.{root_twice, IsRootVerdict, from_sizes}
-use Rattle.lisa_forms.proofs.Steps.{err_past, ok_past}
+use Rattle.lisa_forms.proofs.Walking.{err_past, ok_past}
 use Rattle.lisa_forms.proofs.checking.from_roots.Goals as goal
 
 no_root_twice : (d : DescriptionTree) → None ≡ first_root_twice d → IsRootVerdict d None

@@ -4,7 +4,7 @@ use Rattle.description_sizes.specs.declared.unfolding.Unfolded.{Unfolded}
 use Rattle.description_sizes.specs.Outcomes.{IsUnfolded}
 use Rattle.description_sizes.specs.Sizes.{size_fault}
 use Rattle.lisa_forms.specs.Verdicts.{IsSizeVerdict, from_texts}
-use Rattle.lisa_forms.proofs.Steps.{here}
+use Rattle.lisa_forms.proofs.Walking.{here}
 use Rattle.lisa_forms.proofs.Counts.{size_refused}
 use Rattle.lisa_forms.proofs.checking.from_sizes.Goals as goal
 

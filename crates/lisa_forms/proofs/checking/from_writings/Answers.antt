@@ -2,7 +2,7 @@ use Rattle.std.proofs.Common.{sym, ◌∙◌}
 use Rattle.coding_checks.specs.Written.{not_written}
 use Rattle.lisa_machine.specs.Verdicts.{at_places}
 use Rattle.lisa_forms.specs.Verdicts.{from_roots}
-use Rattle.lisa_forms.proofs.Steps.{err_past}
+use Rattle.lisa_forms.proofs.Walking.{err_past}
 use Rattle.lisa_forms.proofs.checking.from_writings.Goals as goal
 
 pub returns-in-None-clause-fault : goal.returns-in-None-clause-fault

@@ -1,6 +1,6 @@
 use Rattle.std.proofs.Common.{◌≡◌, ◌∙◌, ℕ, List, IfOk, subst, ap}
 use Rattle.lisa_tree.specs.Descriptions.{DescriptionTree, description_tree}
-use Rattle.description_names.specs.Operations.{name_at}
+use Rattle.lisa_tree.specs.Operations.{name_at}
 use Rattle.instruction_forms.specs.Naming.{form_text}
 use Rattle.instruction_forms.specs.Trees.{form_tree}
 use Rattle.lisa_forms.proofs.Parts.{named}

@@ -1,7 +1,7 @@
 use Rattle.std.proofs.Common.{◌≡◌, ℕ, ◌^◌, List, take, sym, ap, subst, ◌∙◌}
 use Rattle.std.specs.List.{prefix_len}
 use Rattle.lisa_words.specs.Numerals.{IsNumeralBelow}
-use Rattle.text_scan.specs.Bytes.{is_hexadecimal}
+use Rattle.lisa_words.specs.Bytes.{is_hexadecimal}
 use Rattle.lisa_lexer.proofs.NumberLaws.{hexadecimal_wide}
 use Rattle.lisa_lexer.proofs.items.hexadecimal.Goals as goal
 

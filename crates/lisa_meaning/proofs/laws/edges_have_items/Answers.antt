@@ -1,5 +1,5 @@
-use Rattle.description_promises.proofs.Sound.{sound}
-use Rattle.description_promises.proofs.Forward.{main_is}
+use Rattle.lisa_machine.proofs.Sound.{sound}
+use Rattle.lisa_machine.proofs.Forward.{main_is}
 use Rattle.use_promises.proofs.Shown.{shown_fits}
 use Rattle.lisa_meaning.proofs.Itemed.{edges_have_items}
 use Rattle.lisa_meaning.proofs.Nodes.{listed, no_stage}

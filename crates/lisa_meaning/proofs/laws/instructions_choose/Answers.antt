@@ -1,5 +1,5 @@
-use Rattle.description_promises.proofs.Sound.{sound}
-use Rattle.description_promises.proofs.Forward.{main_is}
+use Rattle.lisa_machine.proofs.Sound.{sound}
+use Rattle.lisa_machine.proofs.Forward.{main_is}
 use Rattle.lisa_meaning.proofs.Nodes.{listed, no_stage}
 use Rattle.lisa_meaning.proofs.Onward.{chosen_decoded}
 use Rattle.lisa_meaning.proofs.laws.instructions_choose.Goals as goal

@@ -1,5 +1,5 @@
-use Rattle.description_promises.proofs.Sound.{sound}
-use Rattle.description_promises.proofs.Forward.{onward, main_is}
+use Rattle.lisa_machine.proofs.Sound.{sound}
+use Rattle.lisa_machine.proofs.Forward.{onward, main_is}
 use Rattle.lisa_meaning.proofs.Nodes.{listed, no_stage}
 use Rattle.lisa_meaning.proofs.Onward.{levels_forward}
 use Rattle.lisa_meaning.proofs.laws.levels_go_forward.Goals as goal

@@ -4,8 +4,8 @@ use Rattle.std.proofs.lemmas.Result.{err_from_is_err_and}
 use Rattle.lisa_tree.specs.Descriptions.{OperationTree, operation_tree}
 use Rattle.lisa_tree.specs.Grammar.{Toks}
 use Rattle.lisa_tree.specs.Tokens.{toks}
-use Rattle.text_scan.proofs.ManyLaws.{goes_on}
-use Rattle.text_scan.proofs.ManyLaws as laws
+use Rattle.lisa_words.proofs.ManyLaws.{goes_on}
+use Rattle.lisa_words.proofs.ManyLaws as laws
 use Rattle.lisa_section_reader.proofs.ListLaws.{fails_within}
 use Rattle.lisa_reader.specs.Reading.{operation_of, is_done, operations_of}
 use Rattle.lisa_reader.proofs.OperationLaws.{operation_shrinks}

@@ -1,7 +1,7 @@
 use Rattle.std.proofs.Common.{◌≡◌, ◌≤◌, length, map}
 use Rattle.lisa_tree.specs.Descriptions.{operation_tree}
 use Rattle.lisa_tree.specs.Tokens.{toks}
-use Rattle.text_scan.specs.Many.{many, with_front}
+use Rattle.lisa_words.specs.Many.{many, with_front}
 use Rattle.lisa_reader.specs.Reading.{operation_of, is_done, operations_of}
 use Rattle.lisa_reader.proofs.operations.operations.Given as goal
 

@@ -1,7 +1,7 @@
 use Rattle.std.proofs.Common.{◌≡◌, ◌≤◌, length, map}
 use Rattle.lisa_tree.specs.Descriptions.{section_tree}
 use Rattle.lisa_tree.specs.Tokens.{toks}
-use Rattle.text_scan.specs.Many.{with_front}
+use Rattle.lisa_words.specs.Many.{with_front}
 use Rattle.lisa_reader.specs.Reading.{sections_of}
 use Rattle.lisa_reader.proofs.sections.sections.Given as goal
 

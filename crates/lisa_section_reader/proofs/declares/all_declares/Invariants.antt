@@ -1,7 +1,7 @@
 use Rattle.std.proofs.Common.{◌≡◌, ◌≤◌, length, map}
 use Rattle.lisa_tree.specs.Descriptions.{declare_tree}
 use Rattle.lisa_tree.specs.Tokens.{toks}
-use Rattle.text_scan.specs.Many.{with_front, many}
+use Rattle.lisa_words.specs.Many.{with_front, many}
 use Rattle.lisa_section_reader.specs.Resources.{ends}
 use Rattle.lisa_section_reader.specs.Declares.{declare_of, declares_of}
 use Rattle.lisa_section_reader.proofs.declares.all_declares.Given as goal

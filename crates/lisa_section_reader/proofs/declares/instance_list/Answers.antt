@@ -1,7 +1,7 @@
 use Rattle.std.proofs.Common.{◌≡◌, rules, ◌∷◌, [], not, arith, sym, ap, ◌∙◌}
 use Rattle.std.proofs.lemmas.Result.{err_from_is_err_and}
 use Rattle.lisa_tree.specs.Tokens.{toks}
-use Rattle.text_scan.proofs.ManyLaws.{goes_on, is_done}
+use Rattle.lisa_words.proofs.ManyLaws.{goes_on, is_done}
 use Rattle.lisa_section_reader.specs.Declares.{next_instance_of, ends_instances, instance_list_of}
 use Rattle.lisa_section_reader.proofs.ListLaws.{fails_within}
 use Rattle.lisa_section_reader.proofs.DeclareLaws.{next_shrinks, list_start, list_fail}

@@ -1,7 +1,7 @@
 use Rattle.std.proofs.Common.{◌≡◌, rules, [], not, arith, sym, ap, ◌∙◌}
 use Rattle.std.proofs.lemmas.Result.{err_from_is_err_and}
 use Rattle.lisa_tree.specs.Tokens.{toks}
-use Rattle.text_scan.proofs.ManyLaws.{goes_on, is_done}
+use Rattle.lisa_words.proofs.ManyLaws.{goes_on, is_done}
 use Rattle.lisa_section_reader.specs.Lists.{field_of, ends_fields, fields_of}
 use Rattle.lisa_section_reader.proofs.ListLaws.{field_shrinks, fields_start, fails_within}
 use Rattle.lisa_section_reader.proofs.lists.fields.Goals as goal

@@ -1,6 +1,6 @@
 use Rattle.std.proofs.Common.{◌≡◌, ◌≤◌, length}
 use Rattle.lisa_tree.specs.Tokens.{toks}
-use Rattle.text_scan.specs.Many.{with_front, many}
+use Rattle.lisa_words.specs.Many.{with_front, many}
 use Rattle.lisa_section_reader.specs.Lists.{field_of, ends_fields, fields_of}
 use Rattle.lisa_section_reader.proofs.lists.fields.Given as goal
 

@@ -1,7 +1,7 @@
 use Rattle.std.proofs.Common.{◌≡◌, rules, ◌∷◌, [], not, arith, sym, ap, ◌∙◌}
 use Rattle.std.proofs.lemmas.Result.{err_from_is_err_and}
 use Rattle.lisa_tree.specs.Tokens.{toks}
-use Rattle.text_scan.proofs.ManyLaws.{goes_on, is_done}
+use Rattle.lisa_words.proofs.ManyLaws.{goes_on, is_done}
 use Rattle.lisa_section_reader.specs.Lists.{behind_of, ends_names, names_of}
 use Rattle.lisa_section_reader.proofs.ListLaws.{behind_shrinks, names_start, names_fail, fails_within}
 use Rattle.lisa_section_reader.proofs.lists.names.Goals as goal

@@ -1,6 +1,6 @@
 use Rattle.std.proofs.Common.{◌≡◌, ◌<◌, length}
 use Rattle.lisa_tree.specs.Tokens.{toks}
-use Rattle.text_scan.specs.Many.{with_front, many}
+use Rattle.lisa_words.specs.Many.{with_front, many}
 use Rattle.lisa_section_reader.specs.Lists.{behind_of, ends_names, names_of}
 use Rattle.lisa_section_reader.proofs.lists.names.Given as goal
 

@@ -3,7 +3,7 @@ use Rattle.std.proofs.lemmas.List.{map-append}
 use Rattle.std.proofs.lemmas.Result.{err_from_is_err_and}
 use Rattle.lisa_tree.specs.Descriptions.{resource_tree}
 use Rattle.lisa_tree.specs.Tokens.{toks}
-use Rattle.text_scan.proofs.ManyLaws.{goes_on, is_done}
+use Rattle.lisa_words.proofs.ManyLaws.{goes_on, is_done}
 use Rattle.lisa_section_reader.specs.Resources.{resource_of, ends, resources_of}
 use Rattle.lisa_section_reader.proofs.ListLaws.{fails_within}
 use Rattle.lisa_section_reader.proofs.ResourceLaws.{resource_shrinks, resources_start}

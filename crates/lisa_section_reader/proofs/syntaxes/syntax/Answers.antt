@@ -1,7 +1,7 @@
 use Rattle.std.proofs.Common.{◌≡◌, rules, ◌∷◌, [], arith, sym, ◌∙◌}
 use Rattle.std.proofs.lemmas.Result.{err_from_is_err_and}
 use Rattle.lisa_tree.specs.Tokens.{toks}
-use Rattle.text_scan.proofs.ManyLaws.{goes_on, is_done}
+use Rattle.lisa_words.proofs.ManyLaws.{goes_on, is_done}
 use Rattle.lisa_section_reader.specs.Resources.{ends}
 use Rattle.lisa_section_reader.specs.Syntaxes.{syntax_item_of, syntax_of}
 use Rattle.lisa_section_reader.proofs.ListLaws.{fails_within}

@@ -1,6 +1,6 @@
 use Rattle.std.proofs.Common.{◌≡◌, ◌<◌, length}
 use Rattle.lisa_tree.specs.Tokens.{toks}
-use Rattle.text_scan.specs.Many.{with_front, many}
+use Rattle.lisa_words.specs.Many.{with_front, many}
 use Rattle.lisa_section_reader.specs.Resources.{ends}
 use Rattle.lisa_section_reader.specs.Syntaxes.{syntax_item_of, syntax_of}
 use Rattle.lisa_section_reader.proofs.syntaxes.syntax.Given as goal

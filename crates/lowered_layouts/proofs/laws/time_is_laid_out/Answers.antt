@@ -1,5 +1,5 @@
-use Rattle.description_promises.proofs.Sound.{sound}
-use Rattle.description_promises.proofs.Forward.{onward, main_is}
+use Rattle.lisa_machine.proofs.Sound.{sound}
+use Rattle.lisa_machine.proofs.Forward.{onward, main_is}
 use Rattle.pipeline_time.proofs.Tree.{level_within}
 use Rattle.lisa_meaning.specs.Cores.{core_of}
 use Rattle.lisa_meaning.proofs.Back.{controls_back}

@@ -1,5 +1,5 @@
 use Rattle.std.proofs.Common.{refl}
-use Rattle.description_names.specs.Resources.{stage_at}
+use Rattle.lisa_tree.specs.Resources.{stage_at}
 use Rattle.lowered_resources.specs.Places.{Stall, Flush}
 use Rattle.lowered_resources.proofs.Standing.{stage_level}
 use Rattle.lowered_resources.proofs.Resting.{told_rest}

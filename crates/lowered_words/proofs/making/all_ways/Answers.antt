@@ -4,7 +4,7 @@ use Rattle.instruction_forms.specs.declared.form.Form.{Form}
 use Rattle.instruction_forms.specs.declared.form.Form.TheViews.{out-Form}
 use Rattle.instruction_forms.specs.Described.{AreForms}
 use Rattle.form_patterns.specs.Instructions.{instruction_plain}
-use Rattle.lisa_coding.proofs.Formed.{forms_level}
+use Rattle.lisa_forms.proofs.Patterned.{forms_level}
 use Rattle.lowered_words.specs.declared.table.Table.{Table}
 use Rattle.lowered_words.specs.Ways.{Whole, form_ways}
 use Rattle.lowered_words.specs.Tables.{Holds}

@@ -1,4 +1,4 @@
-use Rattle.description_promises.proofs.Sound.{sound}
+use Rattle.lisa_machine.proofs.Sound.{sound}
 use Rattle.use_promises.proofs.Shown.{shown_fits}
 use Rattle.lisa_meaning.specs.States.{first_contents, after_edges}
 use Rattle.lisa_meaning.proofs.Shaped.{first_stored, stored_after}

@@ -1,7 +1,7 @@
 use Rattle.std.proofs.Common.{◌≡◌, ◌+◌, ℕ, List, length, ap, ◌∙◌, arith}
 use Rattle.std.specs.Global.{Vec}
 use Rattle.std.proofs.lemmas.List.{length_push}
-use Rattle.description_names.specs.Declarations.{entries}
+use Rattle.lisa_tree.specs.Declarations.{entries}
 use Rattle.graph_paths.specs.Paths.{targets}
 use Rattle.meant_declarations.specs.Meanings.{direct_meanings}
 use Rattle.meant_declarations.proofs.Direct.{means_past}

@@ -1,7 +1,7 @@
 use Rattle.std.proofs.Common.{◌≡◌, ◌+◌, ◌&&◌, ℕ, Bool, true, false, List, length, refl, ap, sym, ◌∙◌, arith}
 use Rattle.std.proofs.lemmas.List.{length_push}
 use Rattle.lisa_tree.specs.Descriptions.{DescriptionTree}
-use Rattle.description_names.specs.Declarations.{entries, what_at}
+use Rattle.lisa_tree.specs.Declarations.{entries, what_at}
 use Rattle.graph_paths.specs.Paths.{saw}
 use Rattle.meant_declarations.specs.Walks.{is_declaration}
 use Rattle.meant_declarations.proofs.Direct.{nothing_past}

@@ -1,5 +1,5 @@
 use Rattle.std.proofs.Common.{◌≡◌, ◌<◌, ◌&&◌, ℕ, length}
-use Rattle.description_names.specs.Declarations.{what_at}
+use Rattle.lisa_tree.specs.Declarations.{what_at}
 use Rattle.graph_paths.specs.Paths.{saw}
 use Rattle.meant_declarations.specs.Walks.{is_declaration}
 use Rattle.meant_declarations.proofs.meanings.marked_declarations.Given as goal

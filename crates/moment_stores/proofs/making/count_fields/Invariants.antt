@@ -1,7 +1,7 @@
 -- What is left has the same fields.
 use Rattle.std.proofs.Common.{◌≡◌, drop, map}
 use Rattle.lisa_tree.specs.Descriptions.{resource_tree}
-use Rattle.description_names.specs.Resources.{fields_in}
+use Rattle.lisa_tree.specs.Resources.{fields_in}
 use Rattle.moment_stores.proofs.making.count_fields.Given as goal
 
 abbrev pub invariant-loop-resource : goal.invariant-loop-resource

@@ -1,7 +1,7 @@
 -- What is left has the same stages.
 use Rattle.std.proofs.Common.{◌≡◌, drop, map}
 use Rattle.lisa_tree.specs.Descriptions.{resource_tree}
-use Rattle.description_names.specs.Resources.{stages_in}
+use Rattle.lisa_tree.specs.Resources.{stages_in}
 use Rattle.moment_stores.proofs.making.count_stages.Given as goal
 
 abbrev pub invariant-loop-resource : goal.invariant-loop-resource

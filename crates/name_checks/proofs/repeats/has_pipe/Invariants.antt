@@ -1,7 +1,7 @@
 use Rattle.std.proofs.Common.{◌≡◌, drop, map}
 use Rattle.std.specs.List.{list_any}
 use Rattle.lisa_tree.specs.Descriptions.{resource_tree}
-use Rattle.description_names.specs.Resources.{is_pipe}
+use Rattle.lisa_tree.specs.Resources.{is_pipe}
 use Rattle.name_checks.proofs.repeats.has_pipe.Given as goal
 
 abbrev pub invariant-loop-resource : goal.invariant-loop-resource

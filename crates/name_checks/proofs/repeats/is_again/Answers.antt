@@ -2,7 +2,7 @@ use Rattle.std.proofs.Common.{◌≡◌, ◌∙◌, Bool, true, false, not, refl
 use Rattle.lisa_words.specs.declared.names.Name.{Name}
 use Rattle.std.specs.List.{list_any}
 use Rattle.std.proofs.lemmas.List.{map-append}
-use Rattle.description_names.specs.Same.{same_name}
+use Rattle.lisa_tree.specs.Same.{same_name}
 use Rattle.name_checks.proofs.Again.{any_of_map}
 use Rattle.name_checks.proofs.repeats.is_again.Goals as goal
 

@@ -2,7 +2,7 @@ use Rattle.std.proofs.Common.{◌≡◌, ℕ, List, take}
 use Rattle.std.specs.Prelude.{position}
 use Rattle.indexmap.specs.IndexMap.{get}
 use Rattle.lisa_tree.specs.declared.tokens.Shape.{Shape}
-use Rattle.description_names.specs.Same.{same_name}
+use Rattle.lisa_tree.specs.Same.{same_name}
 use Rattle.scene_paths.proofs.fields.field_places.Given as goal
 
 abbrev pub invariant-loop-place : goal.invariant-loop-place

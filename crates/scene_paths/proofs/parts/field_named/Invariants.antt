@@ -1,6 +1,6 @@
 use Rattle.std.proofs.Common.{◌≡◌, drop}
 use Rattle.std.specs.Prelude.{find}
-use Rattle.description_names.specs.Same.{same_name}
+use Rattle.lisa_tree.specs.Same.{same_name}
 use Rattle.instruction_forms.specs.declared.form.Field.{Field}
 use Rattle.scene_paths.proofs.parts.field_named.Given as goal
 

@@ -1,6 +1,6 @@
 use Rattle.std.proofs.Common.{◌≡◌, ◌∙◌, ℕ, Bool, true, cond, Option, sym, ap, arith}
 use Rattle.lisa_tree.specs.Descriptions.{DescriptionTree}
-use Rattle.description_names.specs.Declarations.{is_reference}
+use Rattle.lisa_tree.specs.Declarations.{is_reference}
 use Rattle.lisa_meaning.specs.Scenes.{declared, home}
 use Rattle.scene_paths.specs.Paths.{numbered_links, occurrence_links}
 use Rattle.scene_paths.specs.Sights.{sight_tree, form_of}

@@ -1,4 +1,4 @@
-use Rattle.description_names.specs.Operations.{sections_at, activation_in}
+use Rattle.lisa_tree.specs.Operations.{sections_at, activation_in}
 use Rattle.spelled_promises.proofs.Outer.{well_formed}
 use Rattle.spelled_promises.proofs.Found.{sections_formed, behavior_formed, expression_formed, activation_formed}
 use Rattle.spelled_meanings.proofs.Numbers.{low, low_statements, low_condition}

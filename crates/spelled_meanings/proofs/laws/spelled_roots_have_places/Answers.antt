@@ -1,6 +1,6 @@
 use Rattle.std.proofs.Common.{refl}
 use Rattle.lisa_tree.specs.Descriptions as trees
-use Rattle.description_names.specs.Operations.{sections_at}
+use Rattle.lisa_tree.specs.Operations.{sections_at}
 use Rattle.spelled_promises.proofs.Outer.{well_formed}
 use Rattle.spelled_promises.proofs.Found.{sections_formed, coding_formed}
 use Rattle.spelled_meanings.proofs.Numbers.{word_place}

@@ -1,4 +1,4 @@
-use Rattle.description_names.specs.Operations.{sections_at}
+use Rattle.lisa_tree.specs.Operations.{sections_at}
 use Rattle.spelled_promises.proofs.Outer.{well_formed}
 use Rattle.spelled_promises.proofs.Found.{sections_formed, declares_formed, coding_formed, syntax_formed, behavior_formed, expression_formed, activation_formed}
 use Rattle.spelled_promises.proofs.trees.spelled_sections_are_well_formed.Goals as goal

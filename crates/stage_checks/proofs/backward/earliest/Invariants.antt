@@ -1,7 +1,7 @@
 -- What was found so far and what is left are before a stage where one of all is.
 use Rattle.std.proofs.Common.{◌≡◌, ℕ, Option, ◌||◌, drop}
 use Rattle.std.specs.List.{list_any}
-use Rattle.description_names.specs.Operations.{own_stage}
+use Rattle.lisa_tree.specs.Operations.{own_stage}
 use Rattle.stage_checks.specs.Controls.{is_before}
 use Rattle.stage_checks.proofs.backward.earliest.Given as goal
 

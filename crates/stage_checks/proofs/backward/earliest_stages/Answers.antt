@@ -1,5 +1,5 @@
 use Rattle.std.proofs.Common.{ℕ, Option, arith, rules}
-use Rattle.description_names.specs.Declarations.{plain_at}
+use Rattle.lisa_tree.specs.Declarations.{plain_at}
 use Rattle.stage_checks.specs.Backward.{IsEarliest}
 use Rattle.stage_checks.proofs.Stages.{entries_pushed, earliest_all}
 use Rattle.stage_checks.proofs.backward.earliest_stages.Goals as goal

@@ -1,5 +1,5 @@
 use Rattle.std.proofs.Common.{◌≡◌, ℕ, ◌∙◌, sym, ap, Option, false, arith}
-use Rattle.description_names.specs.Declarations.{plain_at}
+use Rattle.lisa_tree.specs.Declarations.{plain_at}
 use Rattle.stage_checks.specs.Controls.{is_before}
 use Rattle.stage_checks.specs.Spreading.{entry}
 use Rattle.stage_checks.specs.Backward.{first_before, plain_of}

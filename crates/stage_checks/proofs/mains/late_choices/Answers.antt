@@ -1,5 +1,5 @@
 use Rattle.std.proofs.Common.{◌≡◌, ℕ, Bool, arith, rules}
-use Rattle.description_names.specs.Declarations.{plain_at}
+use Rattle.lisa_tree.specs.Declarations.{plain_at}
 use Rattle.stage_checks.specs.Backward.{any_late}
 use Rattle.stage_checks.proofs.Stages.{seen_pushed, late_all}
 use Rattle.stage_checks.proofs.mains.late_choices.Goals as goal

@@ -1,5 +1,5 @@
 use Rattle.std.proofs.Common.{◌≡◌, ℕ, ◌<◌, length}
-use Rattle.description_names.specs.Declarations.{plain_at}
+use Rattle.lisa_tree.specs.Declarations.{plain_at}
 use Rattle.graph_paths.specs.Paths.{saw}
 use Rattle.stage_checks.specs.Backward.{any_late}
 use Rattle.stage_checks.proofs.mains.late_choices.Given as goal

@@ -1,5 +1,5 @@
 use Rattle.std.proofs.Common.{◌∙◌, sym, ◌≡◌, true, false, arith}
-use Rattle.description_names.specs.Operations.{own_stage}
+use Rattle.lisa_tree.specs.Operations.{own_stage}
 use Rattle.graph_paths.specs.Paths.{saw}
 use Rattle.graph_paths.proofs.Edges.{targets_pushed}
 use Rattle.stage_checks.proofs.Nodes.{own_within}

@@ -1,6 +1,6 @@
 use Rattle.std.proofs.Common.{refl, ◌≡◌, ◌∙◌, sym, ap, None, Some, Bool, true, List}
 use Rattle.std.specs.Option.{is_some}
-use Rattle.description_names.specs.Operations.{number_of, own_stage}
+use Rattle.lisa_tree.specs.Operations.{number_of, own_stage}
 use Rattle.graph_paths.specs.Paths.{saw}
 use Rattle.stage_checks.specs.Controls.{main_name}
 use Rattle.stage_checks.proofs.Tables.{gone}

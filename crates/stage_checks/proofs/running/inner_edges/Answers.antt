@@ -1,6 +1,6 @@
 use Rattle.std.proofs.Common.{ℕ, ◌∙◌, ◌&&◌, not, arith, rules}
 use Rattle.std.specs.Option.{is_some}
-use Rattle.description_names.specs.Operations.{own_stage}
+use Rattle.lisa_tree.specs.Operations.{own_stage}
 use Rattle.graph_paths.specs.Paths.{is_in, targets}
 use Rattle.stage_checks.proofs.Rows.{in_row_pushed, no_test, rows_within}
 use Rattle.stage_checks.proofs.running.inner_edges.Goals as goal

@@ -1,6 +1,6 @@
 use Rattle.std.proofs.Common.{◌≡◌, ℕ, length, nat_lt, ◌&&◌, not}
 use Rattle.std.specs.Option.{is_some}
-use Rattle.description_names.specs.Operations.{own_stage}
+use Rattle.lisa_tree.specs.Operations.{own_stage}
 use Rattle.graph_paths.specs.Paths.{is_in, targets}
 use Rattle.stage_checks.proofs.running.inner_edges.Given as goal
 

@@ -1,6 +1,6 @@
 use Rattle.std.proofs.Common.{◌≡◌, ℕ, take, ◌&&◌, not}
 use Rattle.std.specs.Option.{is_some}
-use Rattle.description_names.specs.Operations.{own_stage}
+use Rattle.lisa_tree.specs.Operations.{own_stage}
 use Rattle.graph_paths.specs.Paths.{is_in}
 use Rattle.stage_checks.proofs.running.inner_row.Given as goal
 

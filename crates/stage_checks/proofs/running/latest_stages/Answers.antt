@@ -1,5 +1,5 @@
 use Rattle.std.proofs.Common.{◌≡◌, ℕ, ◌∙◌, sym, ap, None, Some, Option, subst, List, ◌<◌}
-use Rattle.description_names.specs.Operations.{number_of, own_stage}
+use Rattle.lisa_tree.specs.Operations.{number_of, own_stage}
 use Rattle.stage_checks.specs.Controls.{main_name}
 use Rattle.stage_checks.specs.Running.{IsLatest}
 use Rattle.stage_checks.specs.Spreading.{entry}

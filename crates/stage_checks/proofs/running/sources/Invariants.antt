@@ -1,6 +1,6 @@
 use Rattle.std.proofs.Common.{◌≡◌, ℕ, length, nat_lt, ◌&&◌}
-use Rattle.description_names.specs.Operations.{own_stage}
-use Rattle.description_names.specs.Resources.{stages}
+use Rattle.lisa_tree.specs.Operations.{own_stage}
+use Rattle.lisa_tree.specs.Resources.{stages}
 use Rattle.graph_paths.specs.Paths.{is_in, targets, saw}
 use Rattle.stage_checks.specs.Graphs.{is_stage}
 use Rattle.stage_checks.proofs.running.sources.Given as goal

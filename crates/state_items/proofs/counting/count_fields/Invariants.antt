@@ -1,7 +1,7 @@
 -- The first list of fields is among the resources that are left.
 use Rattle.std.proofs.Common.{◌≡◌, drop, map}
 use Rattle.lisa_tree.specs.Descriptions.{resource_tree}
-use Rattle.description_names.specs.Resources.{fields_in}
+use Rattle.lisa_tree.specs.Resources.{fields_in}
 use Rattle.state_items.proofs.counting.count_fields.Given as goal
 
 abbrev pub invariant-loop-resource : goal.invariant-loop-resource

@@ -1,7 +1,7 @@
 use Rattle.std.proofs.Common.{◌≡◌, ◌∙◌, ap, sym, arith, subst}
 use Rattle.std.specs.List.{list_all}
 use Rattle.graph_paths.specs.Paths.{targets}
-use Rattle.description_names.specs.Paths.{entry_node}
+use Rattle.lisa_tree.specs.Paths.{entry_node}
 use Rattle.text_counts.specs.Gathering.{AreSources, is_node_ready}
 use Rattle.text_counts.proofs.Sources.{row_sources, sources_more, own_row}
 use Rattle.text_counts.proofs.gathering.sources.Goals as goal

@@ -1,8 +1,8 @@
 use Rattle.std.proofs.Common.{◌≡◌, ◌<◌, ◌∙◌, ℕ, List, Some, length, ap, sym, arith, rules}
 use Rattle.std.specs.Global.{Vec}
 use Rattle.graph_paths.specs.Paths.{targets, is_in}
-use Rattle.description_names.specs.declared.declared.What.TheVariants as whats
-use Rattle.description_names.specs.Declarations.{what_at, entries}
+use Rattle.lisa_tree.specs.declared.declared.What.TheVariants as whats
+use Rattle.lisa_tree.specs.Declarations.{what_at, entries}
 use Rattle.text_counts.specs.Gathering.{gathered}
 use Rattle.text_counts.proofs.Leading.{declared}
 use Rattle.text_counts.proofs.Sources.{is_gathered}

@@ -1,6 +1,6 @@
 use Rattle.std.proofs.Common.{arith, rules}
 use Rattle.least_fixed_points.specs.Settles.{entry}
-use Rattle.description_names.specs.Operations.{sections_at, activation_in}
+use Rattle.lisa_tree.specs.Operations.{sections_at, activation_in}
 use Rattle.text_counts.specs.Activations.{activation_nodes}
 use Rattle.text_counts.proofs.Entries.{one_entry}
 use Rattle.text_counts.proofs.tables.activation_counts.Goals as goal

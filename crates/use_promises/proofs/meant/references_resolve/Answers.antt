@@ -1,5 +1,5 @@
-use Rattle.description_promises.proofs.Sound.{sound}
-use Rattle.description_promises.proofs.Falling.{node_ranks}
+use Rattle.lisa_machine.proofs.Sound.{sound}
+use Rattle.lisa_machine.proofs.Falling.{node_ranks}
 use Rattle.use_promises.proofs.References.{reference_fits, some_meant, same_sort}
 use Rattle.use_promises.proofs.meant.references_resolve.Goals as goal
 

@@ -1,5 +1,5 @@
-use Rattle.description_promises.proofs.Sound.{sound}
-use Rattle.description_promises.proofs.Forward.{loop_fits}
+use Rattle.lisa_machine.proofs.Sound.{sound}
+use Rattle.lisa_machine.proofs.Forward.{loop_fits}
 use Rattle.use_promises.proofs.Counted.{counter_holds, turns_below}
 use Rattle.use_promises.proofs.resetting.counters_hold.Goals as goal
 

@@ -1,4 +1,4 @@
-use Rattle.description_promises.proofs.Sound.{sound}
+use Rattle.lisa_machine.proofs.Sound.{sound}
 use Rattle.use_promises.proofs.Held.{reset_within}
 use Rattle.use_promises.proofs.resetting.resets_hold.Goals as goal
 

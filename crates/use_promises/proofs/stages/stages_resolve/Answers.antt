@@ -1,4 +1,4 @@
-use Rattle.description_promises.proofs.Sound.{sound}
+use Rattle.lisa_machine.proofs.Sound.{sound}
 use Rattle.use_promises.proofs.Staged.{own_low, stage_fits, fields_piped}
 use Rattle.use_promises.proofs.stages.stages_resolve.Goals as goal
 

@@ -1,4 +1,4 @@
-use Rattle.description_promises.proofs.Sound.{sound}
+use Rattle.lisa_machine.proofs.Sound.{sound}
 use Rattle.use_promises.proofs.Used.{call_fits}
 use Rattle.use_promises.proofs.using.calls_resolve.Goals as goal
 

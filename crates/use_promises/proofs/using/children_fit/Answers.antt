@@ -1,4 +1,4 @@
-use Rattle.description_promises.proofs.Sound.{sound}
+use Rattle.lisa_machine.proofs.Sound.{sound}
 use Rattle.use_promises.proofs.Used.{starts_child, operand_child, root_child, shown_child}
 use Rattle.use_promises.proofs.using.children_fit.Goals as goal
 

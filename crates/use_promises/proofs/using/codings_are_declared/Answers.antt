@@ -1,4 +1,4 @@
-use Rattle.description_promises.proofs.Sound.{sound}
+use Rattle.lisa_machine.proofs.Sound.{sound}
 use Rattle.use_promises.proofs.Used.{coded_there}
 use Rattle.use_promises.proofs.using.codings_are_declared.Goals as goal
 

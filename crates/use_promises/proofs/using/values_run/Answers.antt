@@ -1,5 +1,5 @@
-use Rattle.description_promises.proofs.Sound.{sound}
-use Rattle.description_promises.proofs.Falling.{node_ranks}
+use Rattle.lisa_machine.proofs.Sound.{sound}
+use Rattle.lisa_machine.proofs.Falling.{node_ranks}
 use Rattle.use_promises.proofs.Used.{reads_run, writes_run}
 use Rattle.use_promises.proofs.Placed.{target_child}
 use Rattle.use_promises.proofs.using.values_run.Goals as goal

@@ -1,8 +1,8 @@
 use Rattle.std.proofs.Common.{subst}
 use Rattle.description_types.specs.Tables.{Known}
 use Rattle.kind_checks.specs.WrongKinds.{wrong_kind}
-use Rattle.description_promises.specs.Freedom.{IsFree}
-use Rattle.description_promises.proofs.Sound.{sound}
+use Rattle.lisa_machine.specs.Freedom.{IsFree}
+use Rattle.lisa_machine.proofs.Sound.{sound}
 use Rattle.description_types.proofs.OneKnown.{one_known}
 use Rattle.use_promises.proofs.Given.{values_given}
 use Rattle.use_promises.proofs.valued.values_are_given.Goals as goal

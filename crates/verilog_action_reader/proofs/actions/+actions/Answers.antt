@@ -1,6 +1,6 @@
 use Rattle.std.proofs.Common.{rules, ◌≡◌, ◌+◌, ◌-◌, ◌<◌, ◌≤◌, IfOk, IfErr, IfSome, Some, None, length, ◌++◌, ◌∷◌, [], refl, arith, sym, ap, ◌∙◌, List}
 use Rattle.std.proofs.lemmas.Result.{err_from_is_err_and}
-use Rattle.text_scan.specs.Steps.{◌>>=◌}
+use Rattle.lisa_words.specs.Steps.{◌>>=◌}
 use Rattle.verilog_places.specs.Trees as placed
 use Rattle.verilog_places.specs.Trees.{PlacedActions, placed_tree, placed_actions, joined}
 use Rattle.verilog_places.specs.Spelling.{PlacedToks}

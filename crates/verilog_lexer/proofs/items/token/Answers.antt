@@ -1,7 +1,7 @@
 use Rattle.std.proofs.Common.{◌≡◌, ℕ, List, take, sym, ap, subst, ◌∙◌, true}
 use Rattle.std.specs.List.{list_all, prefix_len}
-use Rattle.text_scan.specs.Bytes.{is_digit}
-use Rattle.text_scan.proofs.Runs.{taken_pass}
+use Rattle.lisa_words.specs.Bytes.{is_digit}
+use Rattle.lisa_words.proofs.Runs.{taken_pass}
 use Rattle.verilog_lexer.proofs.items.token.Goals as goal
 
 pub number-requires-clause-all : goal.number-requires-clause-all

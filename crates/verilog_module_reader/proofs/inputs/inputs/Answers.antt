@@ -1,6 +1,6 @@
 use Rattle.std.proofs.Common.{◌≡◌, rules, [], not, arith, sym, ap, ◌∙◌}
 use Rattle.std.proofs.lemmas.Result.{err_from_is_err_and}
-use Rattle.text_scan.proofs.ManyLaws.{goes_on, is_done}
+use Rattle.lisa_words.proofs.ManyLaws.{goes_on, is_done}
 use Rattle.verilog_expression_reader.specs.Past.{placed_toks}
 use Rattle.verilog_module_reader.specs.Parts.{input_of, ends_inputs, inputs_of}
 use Rattle.verilog_module_reader.proofs.PartLaws.{fails_within, input_shrinks, inputs_start}

@@ -1,5 +1,5 @@
 use Rattle.std.proofs.Common.{◌≡◌, ◌≤◌, length}
-use Rattle.text_scan.specs.Many.{with_front, many}
+use Rattle.lisa_words.specs.Many.{with_front, many}
 use Rattle.verilog_expression_reader.specs.Past.{placed_toks}
 use Rattle.verilog_module_reader.specs.Parts.{input_of, ends_inputs, inputs_of}
 use Rattle.verilog_module_reader.proofs.inputs.inputs.Given as goal

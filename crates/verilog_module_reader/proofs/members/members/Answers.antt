@@ -1,7 +1,7 @@
 use Rattle.std.proofs.Common.{◌≡◌, rules, ◌++◌, ◌∷◌, [], map, arith, sym, ◌∙◌}
 use Rattle.std.proofs.lemmas.List.{map-append}
 use Rattle.std.proofs.lemmas.Result.{err_from_is_err_and}
-use Rattle.text_scan.proofs.ManyLaws.{goes_on, is_done}
+use Rattle.lisa_words.proofs.ManyLaws.{goes_on, is_done}
 use Rattle.verilog_places.specs.Trees.{placed_member}
 use Rattle.verilog_expression_reader.specs.Past.{placed_toks}
 use Rattle.verilog_module_reader.specs.Members.{member_of, ends_module, members_of}

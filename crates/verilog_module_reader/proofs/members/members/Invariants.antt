@@ -1,5 +1,5 @@
 use Rattle.std.proofs.Common.{◌≡◌, ◌≤◌, length, map}
-use Rattle.text_scan.specs.Many.{with_front, many}
+use Rattle.lisa_words.specs.Many.{with_front, many}
 use Rattle.verilog_places.specs.Trees.{placed_member}
 use Rattle.verilog_expression_reader.specs.Past.{placed_toks}
 use Rattle.verilog_module_reader.specs.Members.{member_of, ends_module, members_of}

@@ -1,5 +1,5 @@
 use Rattle.std.proofs.Common.{◌≡◌, ◌≤◌, length, map}
-use Rattle.text_scan.specs.Many.{with_front, many}
+use Rattle.lisa_words.specs.Many.{with_front, many}
 use Rattle.verilog_text.specs.Trees.{setting_tree}
 use Rattle.verilog_expression_reader.specs.Past.{placed_toks}
 use Rattle.verilog_module_reader.specs.Parts.{setting_of, at_end, settings_of}

@@ -2,7 +2,7 @@ use Rattle.std.proofs.Common.{ℕ, List, ap, sym, ◌∙◌}
 use Rattle.std.specs.Prelude.{option_map, slice_get}
 use Rattle.lisa_tree.specs.declared.tokens.Shape.{Shape}
 use Rattle.lisa_tree.specs.Descriptions.{description_tree}
-use Rattle.description_names.specs.Resources.{fields}
+use Rattle.lisa_tree.specs.Resources.{fields}
 use Rattle.description_tables.proofs.Fields.{field_is, field_none}
 use Rattle.description_tables.proofs.globals.Globals.field_shape.Goals as goal
 

@@ -4,8 +4,8 @@ use Rattle.lisa_tree.specs.declared.tokens.Shape.{Shape}
 use Rattle.lisa_tree.specs.declared.descriptions.Resource.{Resource}
 use Rattle.lisa_tree.specs.declared.descriptions.Operation.{Operation}
 use Rattle.lisa_tree.specs.Descriptions.{OperationTree, resource_tree, operation_tree}
-use Rattle.description_names.specs.Same.{same_name}
-use Rattle.description_names.specs.Resources.{is_named, stages_in, fields_in}
+use Rattle.lisa_tree.specs.Same.{same_name}
+use Rattle.lisa_tree.specs.Resources.{is_named, stages_in, fields_in}
 use Rattle.description_tables.proofs.Positions.{position-map}
 use Rattle.description_tables.proofs.globals.Globals.make.Goals as goal
 

@@ -4,7 +4,7 @@ use Rattle.std.specs.List.{list_all, dedup}
 use Rattle.std.proofs.lemmas.List.{take-map}
 use Rattle.lisa_tree.specs.Descriptions.{OperationTree, description_tree, operation_tree}
 use Rattle.lisa_tree.specs.declared.descriptions.Description.{Description}
-use Rattle.description_names.specs.Declarations.{Entry, entries, choices, entries_from, choices_from}
+use Rattle.lisa_tree.specs.Declarations.{Entry, entries, choices, entries_from, choices_from}
 use Rattle.description_tables.specs.Laws.{Chosen, chosen, declares, is_owned_below, chooses_below, above_chosen}
 use Rattle.description_tables.proofs.Wholes.{owners_below, choices_below, above_is, same_operations, same_count}
 use Rattle.description_tables.proofs.tables.Tables.make.Goals as goal

@@ -1,6 +1,6 @@
 use Rattle.std.proofs.Common.{◌≡◌, ◌∙◌, length, sym, ap}
 use Rattle.lisa_tree.specs.Descriptions.{DescriptionTree}
-use Rattle.description_names.specs.Resources.{stages, fields}
+use Rattle.lisa_tree.specs.Resources.{stages, fields}
 use Rattle.item_layouts.specs.Layouts.{place_of}
 use Rattle.lisa_meaning.specs.States.{layout_of}
 use Rattle.scene_paths.specs.Lookups.{tree_of}

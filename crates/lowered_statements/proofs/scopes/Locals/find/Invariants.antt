@@ -1,7 +1,7 @@
 -- No local that was passed has the name.
 use Rattle.std.proofs.Common.{◌≡◌, drop, map}
 use Rattle.std.specs.Map.{lookup}
-use Rattle.description_names.specs.Same.{same_name}
+use Rattle.lisa_tree.specs.Same.{same_name}
 use Rattle.lowered_statements.specs.Code.{entry_of, scope_of}
 use Rattle.lowered_statements.proofs.scopes.Locals.find.Given as goal
 

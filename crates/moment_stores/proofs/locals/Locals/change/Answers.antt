@@ -1,7 +1,7 @@
 use Rattle.std.proofs.Common.{◌≡◌, ◌∙◌, ◌<◌, ◌≤◌, ap, sym, refl, arith, length}
 use Rattle.std.specs.Prelude.{IsSome, None, Option, is_some}
 use Rattle.std.proofs.lemmas.Bool.{false≢true}
-use Rattle.description_names.specs.Same.{same_name}
+use Rattle.lisa_tree.specs.Same.{same_name}
 use Rattle.typed_values.specs.Words.{TypedWord, typed_word}
 use Rattle.moment_stores.specs.declared.locals.Local.{Local}
 use Rattle.moment_stores.proofs.LocalLemmas.{there_put, past_value}

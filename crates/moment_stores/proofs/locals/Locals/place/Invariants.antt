@@ -1,7 +1,7 @@
 -- No local before the place has the name.
 use Rattle.std.proofs.Common.{◌≡◌, ◌<◌, ◌≤◌, ◌-◌, ℕ, false, get_or}
 use Rattle.std.specs.Vec.{vec_len}
-use Rattle.description_names.specs.Same.{same_name}
+use Rattle.lisa_tree.specs.Same.{same_name}
 use Rattle.moment_stores.specs.declared.locals.Local.{Local}
 use Rattle.moment_stores.proofs.locals.Locals.place.Given as goal
 

@@ -1,5 +1,5 @@
 use Rattle.std.proofs.Common.{◌∙◌, ◌<◌, ◌≤◌, ap, refl, arith, List, drop, length}
-use Rattle.description_names.specs.Same.{same_name}
+use Rattle.lisa_tree.specs.Same.{same_name}
 use Rattle.typed_values.specs.Words.{typed_word}
 use Rattle.moment_stores.specs.declared.locals.Local.{Local}
 use Rattle.moment_stores.specs.Locals.{local_pairs}

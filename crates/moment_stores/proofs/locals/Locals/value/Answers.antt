@@ -1,5 +1,5 @@
 use Rattle.std.proofs.Common.{◌∙◌, ◌<◌, ◌≤◌, ap, sym, arith, length}
-use Rattle.description_names.specs.Same.{same_name}
+use Rattle.lisa_tree.specs.Same.{same_name}
 use Rattle.moment_stores.specs.declared.locals.Local.{Local}
 use Rattle.moment_stores.proofs.LocalLemmas.{there_value, past_value}
 use Rattle.moment_stores.proofs.locals.Locals.value.Goals as goal

@@ -3,12 +3,12 @@ use Rattle.std.specs.Prelude.{position, option_map}
 use Rattle.lisa_tree.specs.declared.tokens.Shape.{Shape}
 use Rattle.lisa_tree.specs.declared.descriptions.Description.{Description}
 use Rattle.lisa_tree.specs.Descriptions.{DescriptionTree, description_tree}
-use Rattle.description_names.specs.Same.{same_name}
+use Rattle.lisa_tree.specs.Same.{same_name}
 use Rattle.description_sizes.specs.Texts as texts
 use Rattle.coding_tables.specs.Instructions.{first_root}
 use Rattle.lisa_machine.specs.Verdicts.{IsAccepted}
 use Rattle.lisa_forms.specs.Parts.{AreFormsOf}
-use Rattle.lisa_coding.specs.Parts.{IsCodingOf}
+use Rattle.lisa_forms.specs.Codings.{IsCodingOf}
 use Rattle.scene_paths.proofs.Moved.{kept_of}
 use Rattle.scene_paths.proofs.described.Described.make.Goals as goal
 

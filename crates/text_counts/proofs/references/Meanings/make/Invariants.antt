@@ -1,7 +1,7 @@
 use Rattle.std.proofs.Common.{◌≡◌, ◌<◌, ℕ, true, Some}
 use Rattle.graph_paths.specs.Paths.{saw}
-use Rattle.description_names.specs.declared.declared.What.TheVariants as whats
-use Rattle.description_names.specs.Declarations.{what_at}
+use Rattle.lisa_tree.specs.declared.declared.What.TheVariants as whats
+use Rattle.lisa_tree.specs.Declarations.{what_at}
 use Rattle.text_counts.specs.Gathering.{IsGathered}
 use Rattle.text_counts.proofs.references.Meanings.make.Given as goal
 

@@ -1,0 +1,4 @@
+mod Afters
+mod Tasks
+mod Runs
+mod Refused

@@ -1,7 +1,0 @@
-use Rattle.std.proofs.Common.{◌≡◌, drop, map}
-use Rattle.lisa_tree.specs.Descriptions.{section_tree}
-use Rattle.description_names.specs.Operations.{activation_in}
-use Rattle.description_names.proofs.sections.activation.Given as goal
-
-abbrev pub invariant-loop-section : goal.invariant-loop-section
-invariant-loop-section l = activation_in (map section_tree l.sections) ≡ activation_in (map section_tree (drop l.section-index l.sections))

@@ -1,7 +1,0 @@
-use Rattle.std.proofs.Common.{◌≡◌, drop, map}
-use Rattle.lisa_tree.specs.Descriptions.{section_tree}
-use Rattle.description_names.specs.Operations.{coding_in}
-use Rattle.description_names.proofs.sections.coding.Given as goal
-
-abbrev pub invariant-loop-section : goal.invariant-loop-section
-invariant-loop-section l = coding_in (map section_tree l.sections) ≡ coding_in (map section_tree (drop l.section-index l.sections))

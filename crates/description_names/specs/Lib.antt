@@ -1,6 +1,0 @@
-pub mod Same
-pub mod Resources
-pub mod Operations
-pub mod Declarations
-pub mod Meanings
-pub mod Paths

@@ -1,7 +1,0 @@
-use Rattle.description_promises.proofs.Sound.{sound}
-use Rattle.description_promises.proofs.Standing.{activation_stand}
-use Rattle.description_promises.proofs.Fitting.{acts_children}
-use Rattle.description_promises.proofs.codings.activations_fit.Goals as goal
-
-pub returns : goal.returns
-returns c = λ d accepted o all is. let s = sound d accepted in acts_children d s.known s.stand s.uses o all (activation_stand d o all is)

@@ -1,5 +1,0 @@
-use Rattle.description_promises.proofs.Entries.{entry_chooses}
-use Rattle.description_promises.proofs.declaring.declarations_choose.Goals as goal
-
-pub returns : goal.returns
-returns c = λ d i e is. entry_chooses d i e is

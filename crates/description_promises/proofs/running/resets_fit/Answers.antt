@@ -1,8 +1,0 @@
-use Rattle.std.proofs.Common.{inl, refl, ◌∙◌}
-use Rattle.description_promises.proofs.Sound.{sound}
-use Rattle.description_promises.proofs.Standing.{operation_stands}
-use Rattle.description_promises.proofs.Forward.{reset_fits, name_is}
-use Rattle.description_promises.proofs.running.resets_fit.Goals as goal
-
-pub returns : goal.returns
-returns c = λ d accepted o operation is named. reset_fits d (sound d accepted).resets o operation (name_is d o operation is ∙ named) (operation_stands d o operation is _ (inl refl))

@@ -1,5 +1,0 @@
-use Rattle.description_types.proofs.OneKnown.{one_known}
-use Rattle.description_promises.proofs.soundness.kinds_are_unique.Goals as goal
-
-pub returns : goal.returns
-returns c = λ d known other kinds others. one_known d known other kinds others

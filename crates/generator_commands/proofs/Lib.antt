@@ -1,0 +1,4 @@
+mod Drawn
+pub mod Placing
+mod Kept
+pub mod DigestRules

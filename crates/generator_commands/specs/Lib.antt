@@ -1,0 +1,4 @@
+pub mod Generates
+pub mod Undrawn
+pub mod Reports
+pub mod Soaks

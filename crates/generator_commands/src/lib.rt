@@ -1,0 +1,13 @@
+//! The commands on programs that are drawn: `gen` writes one, and `soak` runs one over a description and over a module.
+//!
+//! `specs/Generates.antt` says what `gen` gives, and `specs/Soaks.antt` what `soak` gives.
+#![tactic(auto)]
+
+mod digests;
+mod generating;
+mod plans;
+mod reports;
+mod soaking;
+
+pub use generating::write_program;
+pub use soaking::soak;

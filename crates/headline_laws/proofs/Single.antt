@@ -1,0 +1,115 @@
+-- What is printed for the bytes of files is one text.
+use Rattle.std.proofs.Common.{◌≡◌, ◌∙◌, ℕ, false, List, [], ◌∷◌, Option, None, Some, Result, Ok, Err, refl, sym, ap, ap₂, subst}
+use Rattle.lisa_tree.specs.Descriptions.{DescriptionTree}
+use Rattle.lisa_reader.proofs.ByteLaws.{one_description}
+use Rattle.lisa_engine.specs.Memory.{Memory}
+use Rattle.lisa_engine.specs.ScheduleLine.{Line}
+use Rattle.lisa_engine.specs.declared.schedule.ScheduleFault.{ScheduleFault}
+use Rattle.lisa_object.specs.declared.parts.Stamped.{Stamped}
+use Rattle.lisa_object.specs.Rules.{IsStamped}
+use Rattle.lisa_object.specs.Texts.{image_text}
+use Rattle.verilog_reader.proofs.TextLaws.{one_spelled}
+use Rattle.lisa_outcomes.specs.Outcomes.{Finished, FileMap, passed, stopped}
+use Rattle.lisa_outcomes.specs.NamedFiles.{NamedFile, AreFiles}
+use Rattle.lisa_outcomes.specs.RunFiles.{RunNames, RunBytes, run_files, run_bytes}
+use Rattle.engine_commands.specs.declared.tasks.Task.{Task}
+use Rattle.engine_commands.specs.declared.tasks.Task.TheVariants as tasks
+use Rattle.engine_commands.specs.Images.{IsImageOf, memories_of}
+use Rattle.engine_commands.specs.Machines.{Machine, schedule_bytes}
+use Rattle.engine_commands.specs.Tasks.{takes_input, GivesTask, GivesUnder}
+use Rattle.engine_commands.specs.Making.{GivesMade}
+use Rattle.checked_descriptions.specs.Checked.{Checked, AfterChecks}
+use Rattle.checked_descriptions.specs.Descriptions.{description_limit}
+use Rattle.checked_descriptions.specs.DescriptionImages.{IsImageFor}
+use Rattle.description_commands.specs.Runs.{described_machine, GivesChecked, GivesRun}
+use Rattle.module_commands.specs.Designs.{Design, IsDesign, clock_machine}
+use Rattle.module_commands.specs.Clocks.{module_limit, GivesClock}
+use Rattle.headline_laws.specs.Files.{FilesRun, FilesClock}
+use Rattle.headline_laws.proofs.Meaning.{finished_same}
+use Rattle.headline_laws.proofs.Written.{AreUnique}
+
+-- ---- over a machine
+
+ok_same : (a b : List Line) → ◌≡◌ {A = Result (List Line) ScheduleFault} (Ok a) (Ok b) → a ≡ b
+ok_same a b e = cc
+
+module _ (task : Task) (silent : takes_input task ≡ false) (input first second : List ℕ) where
+  task_one : (t : Task) → takes_input t ≡ false → (m : Machine) (lines : List Line) → GivesTask t m input lines (Finished first) → GivesTask t m input lines (Finished second) → first ≡ second
+  task_one (tasks.State edges) quiet m lines x y = finished_same first second (x ∙ sym y)
+  task_one (tasks.Trace edges) quiet m lines x y = finished_same first second (x ∙ sym y)
+  task_one tasks.Answers quiet m lines x y = cc
+
+  under_one : (m : Machine) (schedule : List ℕ) → GivesUnder task m schedule input (Finished first) → GivesUnder task m schedule input (Finished second) → first ≡ second
+  under_one m schedule (passed {a = l} read x) (passed {a = k} again y) =
+      task_one task silent m l x (subst (λ (lines : List Line). GivesTask task m input lines (Finished second)) (ok_same k l (sym again ∙ read)) y)
+
+  made_one : (wanted : Machine) (memories : List Memory) (schedule : List ℕ) → GivesMade task wanted memories schedule input (Finished first) → GivesMade task wanted memories schedule input (Finished second)
+      → first ≡ second
+  made_one wanted memories schedule (passed {a = m} made x) (passed {a = n} again y) =
+      under_one wanted schedule (subst (λ (machine : Machine). GivesUnder task machine schedule input (Finished first)) made.1 x)
+      (subst (λ (machine : Machine). GivesUnder task machine schedule input (Finished second)) again.1 y)
+
+-- ---- images and files
+
+-- a text is that of one image
+abbrev pub ImagesUnique : Type 0
+ImagesUnique = (s t : Stamped) → IsStamped s → IsStamped t → image_text s ≡ image_text t → s ≡ t
+
+module _ (images : ImagesUnique) where
+  image_one : (bytes : Option (List ℕ)) (x y : Option Stamped) → IsImageOf bytes x → IsImageOf bytes y → x ≡ y
+  image_one None x y is other = is ∙ sym other
+  image_one (Some bytes) x y is other = is.1 ∙ ap (λ (s : Stamped). Some s) (images is.0 other.0 is.2 other.2 (sym is.3 ∙ other.3)) ∙ sym other.1
+
+  memories_one : (bytes : Option (List ℕ)) (x y : Option Stamped) (a b : List Memory) → IsImageOf bytes x → IsImageOf bytes y → a ≡ memories_of x → b ≡ memories_of y → a ≡ b
+  memories_one bytes x y a b is other same again = same ∙ ap memories_of (image_one bytes x y is other) ∙ sym again
+
+some_same : (a b : List ℕ) → Some a ≡ Some b → a ≡ b
+some_same a b e = cc
+
+files_one : (files : FileMap) (named : List NamedFile) (xs ys : List (List ℕ)) → AreFiles files named xs → AreFiles files named ys → xs ≡ ys
+files_one files [] xs ys are again = are ∙ sym again
+files_one files (file ∷ named) xs ys are again =
+    are.2
+    ∙ ap₂ (λ (x : List ℕ) (rest : List (List ℕ)). x ∷ rest) (some_same are.0 again.0 (sym are.3.0 ∙ again.3.0)) (files_one files named are.1 again.1 are.4 again.4)
+    ∙ sym again.2
+
+-- ---- over a module
+
+module _ (images : ImagesUnique) (task : Task) (silent : takes_input task ≡ false) (input first second : List ℕ) where
+  design_one : (bytes : RunBytes) (d e : Design) → IsDesign bytes d → IsDesign bytes e → d ≡ e
+  design_one bytes d e is other =
+      let tree = one_spelled bytes.main d.tree e.tree is.accepted.spelling other.accepted.spelling in
+      let memories = memories_one images bytes.image is.image other.image d.memories e.memories is.spelled other.spelled is.memories other.memories in
+      λ i. record { tree = tree i; memories = memories i }
+
+  clock_one : (bytes : RunBytes) → GivesClock task bytes input (Finished first) → GivesClock task bytes input (Finished second) → first ≡ second
+  clock_one bytes (passed {a = d} is x) (passed {a = e} other y) =
+      made_one task silent input first second (clock_machine d) d.memories (schedule_bytes bytes.schedule) x
+      (subst (λ (design : Design). GivesMade task (clock_machine design) design.memories (schedule_bytes bytes.schedule) input (Finished second)) (design_one bytes e d other is) y)
+
+  pub clocks_print_one : (files : FileMap) (names : RunNames) → FilesClock files task names input (Finished first) → FilesClock files task names input (Finished second) → first ≡ second
+  clocks_print_one files names (passed {a = xs} are x) (passed {a = ys} again y) =
+      clock_one (run_bytes names xs) x
+      (subst (λ (all : List (List ℕ)). GivesClock task (run_bytes names all) input (Finished second)) (files_one files (run_files names module_limit) ys xs again are) y)
+
+  -- ---- over a description
+
+  module _ (checks : AreUnique) where
+    checked_one : (bytes : RunBytes) (c : Checked) → GivesChecked task bytes input c (Finished first) → GivesChecked task bytes input c (Finished second) → first ≡ second
+    checked_one bytes c (passed {a = m} image x) (passed {a = n} other y) =
+        made_one task silent input first second (described_machine c m) m (schedule_bytes bytes.schedule) x
+        (subst (λ (memories : List Memory). GivesMade task (described_machine c memories) memories (schedule_bytes bytes.schedule) input (Finished second))
+        (memories_one images bytes.image other.image image.image n m other.spelled image.spelled other.are image.are) y)
+
+    tree_one : (bytes : RunBytes) (d : DescriptionTree) → AfterChecks d (GivesChecked task bytes input) (Finished first) → AfterChecks d (GivesChecked task bytes input) (Finished second) → first ≡ second
+    tree_one bytes d (passed {a = c} is x) (passed {a = e} other y) =
+        checked_one bytes c x (subst (λ (checked : Checked). GivesChecked task bytes input checked (Finished second)) (checks.one d e c other is) y)
+
+    run_one : (bytes : RunBytes) → GivesRun task bytes input (Finished first) → GivesRun task bytes input (Finished second) → first ≡ second
+    run_one bytes (passed {a = d} spelled x) (passed {a = e} other y) =
+        tree_one bytes d x (subst (λ (tree : DescriptionTree). AfterChecks tree (GivesChecked task bytes input) (Finished second)) (one_description bytes.main e d other spelled) y)
+
+    pub runs_print_one : (files : FileMap) (names : RunNames) → FilesRun files task names input (Finished first) → FilesRun files task names input (Finished second) → first ≡ second
+    runs_print_one files names (passed {a = xs} are x) (passed {a = ys} again y) =
+        run_one (run_bytes names xs) x
+        (subst (λ (all : List (List ℕ)). GivesRun task (run_bytes names all) input (Finished second)) (files_one files (run_files names description_limit) ys xs again are) y)

@@ -1,0 +1,42 @@
+-- What it is to be the step program of a description, and when a description has none.
+use Rattle.std.specs.Prelude.{codes, ℕ, ◌≡◌, ◌≤◌, ◌<◌, ◌^◌, ◌-◌, List, All, Option, None, min}
+use Rattle.lisa_tree.specs.Descriptions.{DescriptionTree}
+use Rattle.lisa_engine.specs.Images.{IsImage, missing_memory}
+use Rattle.lisa_engine.specs.Memory.{Memory}
+use Rattle.lisa_engine.specs.Shape.{AreEntries}
+use Rattle.machine_parts.specs.Parts.{arrays_of, pins_of}
+use Rattle.instruction_forms.specs.Widths.{HasWidth}
+use Rattle.description_sizes.specs.Sizes.{items}
+use Rattle.lisa_meaning.specs.States.{state_of}
+use Rattle.description_weight.specs.Weights.{weight}
+use Rattle.step_program.specs.Programs.{Program}
+use Rattle.step_program.specs.Effects.{p_state}
+use Rattle.step_program.specs.Depths.{move_depth}
+use Rattle.step_program.specs.WellFormed.{IsWellFormed}
+use Rattle.netlist_wires.specs.Tables.{HasDistinctNames}
+use Rattle.step_program.specs.declared.faults.LowerFault.{LowerFault}
+use Rattle.step_program.specs.declared.faults.LowerFault.TheVariants as faults
+
+-- a heavier description isn't lowered
+abbrev pub weight_limit : ℕ
+weight_limit = 50000
+
+-- Its items, arrays and pins are the description's, whose instructions have this width, if there are any, and after any edges its state is
+-- the description's, over each image whose memories are the description's arrays.
+pub record IsLowered (d : DescriptionTree) (width : Option ℕ) (p : Program) : Type 0 where
+  pub light : weight d ≤ weight_limit
+  pub formed : IsWellFormed p
+  pub distinct : HasDistinctNames p
+  pub has_width : HasWidth d width
+  pub items : p.items ≡ items d width
+  pub arrays : p.arrays ≡ arrays_of d
+  pub pins : p.pins ≡ pins_of d
+  pub states : (image : List Memory) (entries : List (List ℕ)) → IsImage image → missing_memory p.arrays image ≡ None → AreEntries p.pins entries
+      → p_state p image entries ≡ state_of d image entries
+  -- its expressions are of little depth
+  pub shallow : All (λ move. move_depth move ≤ 8) p.moves
+
+-- the refusal of a description by its weight, which is told as 2 ^ 64 - 1 where it is more than that
+pub record IsTooHeavy (d : DescriptionTree) (fault : LowerFault) : Type 0 where
+  pub heavy : weight_limit < weight d
+  pub is : fault ≡ faults.TooMany (codes "weight") (min (weight d) (2 ^ 64 - 1)) weight_limit

@@ -1,0 +1,5 @@
+use Rattle.description_types.proofs.OneKnown.{one_known}
+use Rattle.lisa_machine.proofs.soundness.kinds_are_unique.Goals as goal
+
+pub returns : goal.returns
+returns c = λ d known other kinds others. one_known d known other kinds others

@@ -1,0 +1,11 @@
+mod LineKinds
+mod SourceTexts
+mod Named
+mod TextReads
+mod CellLines
+mod SameMemories
+mod ListedMemories
+mod MemoryNames
+mod Faultless
+mod ReadListing
+mod Commands

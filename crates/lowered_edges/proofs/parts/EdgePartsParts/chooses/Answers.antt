@@ -1,0 +1,7 @@
+use Rattle.std.proofs.Common.{◌∙◌, ℕ, ap}
+use Rattle.lowered_words.specs.Rows.{chosen_flag}
+use Rattle.lowered_edges.specs.Code.{parts_tree}
+use Rattle.lowered_edges.proofs.parts.EdgePartsParts.chooses.Goals as goal
+
+pub returns : goal.returns
+returns c = c.in_ok-flag.ensures ∙ ap (λ (base : ℕ). chosen_flag (parts_tree c.args.self.now) base c.args.number) c.in_ok-base.ensures

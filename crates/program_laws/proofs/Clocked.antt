@@ -1,0 +1,88 @@
+-- What `clock` and `clocktrace` print is one text.
+use Rattle.std.proofs.Common.{◌≡◌, ◌∙◌, ℕ, false, List, [], ◌∷◌, Option, None, Some, Result, Ok, sym, ap, subst}
+use Rattle.lisa_object.specs.declared.parts.Stamped.{Stamped}
+use Rattle.lisa_object.specs.Rules.{IsStamped}
+use Rattle.lisa_object.specs.Texts.{image_text}
+use Rattle.lisa_engine.specs.Memory.{Memory}
+use Rattle.lisa_engine.specs.ScheduleLine.{Line}
+use Rattle.lisa_engine.specs.declared.schedule.ScheduleFault.{ScheduleFault}
+use Rattle.verilog_text.specs.Trees.{ModuleTree}
+use Rattle.verilog_reader.proofs.TextLaws.{one_spelled}
+use Rattle.lisa_outcomes.specs.Outcomes.{Outcome, Finished, FileMap, passed}
+use Rattle.lisa_outcomes.specs.NamedFiles.{NamedFile, AreFiles}
+use Rattle.lisa_outcomes.specs.RunFiles.{RunNames, RunBytes, run_files, run_bytes}
+use Rattle.engine_commands.specs.declared.tasks.Task.{Task}
+use Rattle.engine_commands.specs.declared.tasks.Task.TheVariants as tasks
+use Rattle.engine_commands.specs.Images.{IsImageOf, memories_of}
+use Rattle.engine_commands.specs.Machines.{Machine, schedule_bytes}
+use Rattle.engine_commands.specs.Tasks.{takes_input, GivesTask, GivesUnder}
+use Rattle.engine_commands.specs.Making.{GivesMade}
+use Rattle.module_commands.specs.Designs.{Design, IsDesign, clock_machine}
+use Rattle.module_commands.specs.Clocks.{module_limit, GivesClock}
+use Rattle.headline_laws.specs.Files.{FilesClock}
+
+pub some_same : {T : Type 0} (x y : T) → Some x ≡ Some y → x ≡ y
+some_same x y e = cc
+
+finished_same : (a b : List ℕ) → Finished a ≡ Finished b → a ≡ b
+finished_same a b e = cc
+
+lines_same : (a b : List Line) → ◌≡◌ {A = Result (List Line) ScheduleFault} (Ok a) (Ok b) → a ≡ b
+lines_same a b e = cc
+
+-- ---- over a machine
+
+module _ (task : Task) (silent : takes_input task ≡ false) (input : List ℕ) (a b : List ℕ) where
+  one_task : (m : Machine) (lines : List Line) → GivesTask task m input lines (Finished a) → GivesTask task m input lines (Finished b) → a ≡ b
+  one_task m lines x y = finished_same a b (by_task task silent x y)
+    where
+      by_task : (t : Task) → takes_input t ≡ false → GivesTask t m input lines (Finished a) → GivesTask t m input lines (Finished b) → Finished a ≡ Finished b
+      by_task (tasks.State edges) quiet x y = x ∙ sym y
+      by_task (tasks.Trace edges) quiet x y = x ∙ sym y
+      by_task tasks.Answers quiet x y = x ∙ sym y
+
+  one_under : (m : Machine) (schedule : List ℕ) → GivesUnder task m schedule input (Finished a) → GivesUnder task m schedule input (Finished b) → a ≡ b
+  one_under m schedule (passed {a = lines} read gives) (passed {a = others} again more) =
+      one_task m lines gives (subst (λ (all : List Line). GivesTask task m input all (Finished b)) (lines_same others lines (sym again ∙ read)) more)
+
+  one_made : (m : Machine) (memories : List Memory) (schedule : List ℕ) → GivesMade task m memories schedule input (Finished a) → GivesMade task m memories schedule input (Finished b) → a ≡ b
+  one_made m memories schedule (passed {a = made} is gives) (passed {a = other} same more) =
+      one_under m schedule (subst (λ (n : Machine). GivesUnder task n schedule input (Finished a)) is.1 gives) (subst (λ (n : Machine). GivesUnder task n schedule input (Finished b)) same.1 more)
+
+-- ---- over a module and an image
+
+-- texts are those of one image
+abbrev pub AreApart : Type 0
+AreApart = (s t : Stamped) → IsStamped s → IsStamped t → image_text s ≡ image_text t → s ≡ t
+
+one_image : AreApart → (bytes : Option (List ℕ)) (s t : Option Stamped) → IsImageOf bytes s → IsImageOf bytes t → s ≡ t
+one_image unique None s t x y = x ∙ sym y
+one_image unique (Some bytes) s t x y = x.1 ∙ ap (λ (image : Stamped). Some image) (unique x.0 y.0 x.2 y.2 (sym x.3 ∙ y.3)) ∙ sym y.1
+
+same_design : (d e : Design) → d.tree ≡ e.tree → d.memories ≡ e.memories → d ≡ e
+same_design d e tree memories = λ i. record { tree = tree i; memories = memories i }
+
+one_design : AreApart → (bytes : RunBytes) (d e : Design) → IsDesign bytes d → IsDesign bytes e → d ≡ e
+one_design unique bytes d e x y =
+    same_design d e (one_spelled bytes.main d.tree e.tree x.accepted.spelling y.accepted.spelling)
+    (x.memories ∙ ap memories_of (one_image unique bytes.image x.image y.image x.spelled y.spelled) ∙ sym y.memories)
+
+one_clock : AreApart → (task : Task) → takes_input task ≡ false → (bytes : RunBytes) (input a b : List ℕ) → GivesClock task bytes input (Finished a) → GivesClock task bytes input (Finished b) → a ≡ b
+one_clock unique task silent bytes input a b (passed {a = d} is gives) (passed {a = e} other more) =
+    one_made task silent input a b (clock_machine d) d.memories (schedule_bytes bytes.schedule) gives
+    (subst (λ (x : Design). GivesMade task (clock_machine x) x.memories (schedule_bytes bytes.schedule) input (Finished b)) (one_design unique bytes e d other is) more)
+
+-- ---- over files
+
+same_first : (x y : List ℕ) (xs ys : List (List ℕ)) → x ≡ y → xs ≡ ys → x ∷ xs ≡ y ∷ ys
+same_first x y xs ys e f = cc
+
+one_files : (files : FileMap) (named : List NamedFile) (a b : List (List ℕ)) → AreFiles files named a → AreFiles files named b → a ≡ b
+one_files files [] a b x y = x ∙ sym y
+one_files files (file ∷ rest) a b x y =
+    x.2 ∙ same_first x.0 y.0 x.1 y.1 (some_same x.0 y.0 (sym x.3.0 ∙ y.3.0)) (one_files files rest x.1 y.1 x.4 y.4) ∙ sym y.2
+
+pub one_text : AreApart → (files : FileMap) (task : Task) → takes_input task ≡ false → (names : RunNames) (input a b : List ℕ) → FilesClock files task names input (Finished a) → FilesClock files task names input (Finished b) → a ≡ b
+one_text unique files task silent names input a b (passed {a = bytes} are gives) (passed {a = others} again more) =
+    one_clock unique task silent (run_bytes names bytes) input a b gives
+    (subst (λ (all : List (List ℕ)). GivesClock task (run_bytes names all) input (Finished b)) (one_files files (run_files names module_limit) others bytes again are) more)

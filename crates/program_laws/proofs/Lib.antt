@@ -1,0 +1,3 @@
+mod Clocked
+mod Printed
+mod Agreed

@@ -1,5 +1,0 @@
-use Rattle.reset_values.proofs.Kept.{reset_keeps}
-use Rattle.reset_values.proofs.laws.reset_keeps_types.Goals as goal
-
-pub returns : goal.returns
-returns c = λ d. reset_keeps d

@@ -1,0 +1,11 @@
+pub mod Agreed
+pub mod Shared
+pub mod Higher
+pub mod Lower
+pub mod Unstaged
+pub mod Nearest
+pub mod Matched
+pub mod Formed
+pub mod Replaced
+pub mod Putting
+pub mod Readable

@@ -1,0 +1,5 @@
+mod Same
+mod FormFirsts
+mod CodedFirsts
+mod Firsts
+pub mod Stages

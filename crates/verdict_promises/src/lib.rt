@@ -1,0 +1,7 @@
+//! What the verdict on a description promises: bytes are accepted as one description, or have one first fault. Each is the contract of a
+//! function that does nothing.
+#![tactic(auto)]
+
+mod laws;
+
+pub use laws::{first_faults_are_one, stages_are_of_bytes};
