@@ -1,5 +1,5 @@
-//! Processor descriptions as trees: the tokens of a description, its resources and operations, and the faults that it
-//! may have.
+//! Processor descriptions as trees: the tokens of a description, its resources and operations, what it declares under which
+//! names, and the faults that it may have.
 #![tactic(auto)]
 
 mod declared;

@@ -1,4 +1,5 @@
-//! Words of 1 to 64 bits and their arithmetic, names, and the digits of numbers.
+//! Words of 1 to 64 bits and their arithmetic, operators of two operands, names, the digits of numbers, and what in a text is
+//! a blank, a comment or a name.
 //!
 //! `specs/Words.antt` says what the operations on words answer: each is its arithmetic on whole numbers without bound,
 //! reduced modulo 2 to the power of the width.
