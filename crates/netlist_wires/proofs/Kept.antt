@@ -53,7 +53,7 @@ left_width ops.Less w e = absurd (cc)
 -- ---- values
 
 zero_left : (op : TwoOp) (w v y : ℕ) → keeps_right op ≡ true → FitsTwo op w v → y < 2 ^ v → two_value op w 0 y ≡ y
-zero_left ops.Add w v y e fit low = mod-eq_of_lt (subst (λ (n : ℕ). y < 2 ^ n) (sym fit) low)
+zero_left ops.Add w v y e fit low = ap (λ (n : ℕ). n % 2 ^ w) (omega arith) ∙ mod-eq_of_lt (subst (λ (n : ℕ). y < 2 ^ n) (sym fit) low)
 zero_left ops.Sub w v y e fit low = absurd (cc)
 zero_left ops.Mul w v y e fit low = absurd (cc)
 zero_left ops.And w v y e fit low = absurd (cc)
@@ -66,7 +66,7 @@ zero_left ops.Less w v y e fit low = absurd (cc)
 
 zero_right : (op : TwoOp) (w x : ℕ) → keeps_left op ≡ true → x < 2 ^ w → two_value op w x 0 ≡ x
 zero_right ops.Add w x e low = ap (λ (n : ℕ). n % 2 ^ w) (omega arith) ∙ mod-eq_of_lt low
-zero_right ops.Sub w x e low = mod-eq_of_lt low
+zero_right ops.Sub w x e low = ap (λ (n : ℕ). n % 2 ^ w) (omega arith) ∙ mod-eq_of_lt low
 zero_right ops.Mul w x e low = absurd (cc)
 zero_right ops.And w x e low = absurd (cc)
 zero_right ops.Or w x e low = or_zero_r x
