@@ -14,4 +14,4 @@ mod reader;
 pub use bytes::is_name;
 pub use flaw::SourceFault;
 pub use parts::{CellValue, LineToken, Part, SourceLine, Sum, Term};
-pub use reader::read_source;
+pub use reader::{read_line, read_source};

@@ -53,8 +53,8 @@ fn line(alloc: Global, line: &[u8]) -> Result<(Vec<Name>, Part), Flaw>
     statement(alloc, without_comment(line))
 }
 
-// The line of this number.
-fn numbered(alloc: Global, number: u32, text: &[u8]) -> Result<SourceLine, SourceFault>
+/// What the line of this number says, or why it says nothing.
+pub fn read_line(alloc: Global, number: u32, text: &[u8]) -> Result<SourceLine, SourceFault>
     ensures { Finds line_tree result (numbered number (line_of text.now)) }
 {
     match line(alloc, text) {
@@ -80,7 +80,7 @@ pub fn read_source(alloc: Global, bytes: &[u8]) -> Result<Vec<SourceLine>, Sourc
     let mut rest = bytes;
     'each: while let Some((text, after)) = next_line(rest) {
         number += 1;
-        all.push(numbered(alloc, number, text)?)?;
+        all.push(read_line(alloc, number, text)?)?;
         rest = after;
     }
     Ok(all)
