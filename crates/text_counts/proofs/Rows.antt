@@ -28,10 +28,13 @@ shown_past [] a h = refl
 shown_past (x ∷ lists) zero h = absurd (omega arith)
 shown_past (x ∷ lists) (suc a) h = shown_past lists a (omega arith)
 
-pub shown_at : (lists : List (Rc (Vec ℕ) Global)) (a : ℕ) (x y : Rc (Vec ℕ) Global) → a < length lists → x ≡ get_or lists a y → targets (shown lists) a ≡ (rc_value x).items
-shown_at [] a x y h e = absurd (omega arith)
-shown_at (z ∷ lists) zero x y h e = ap (λ (r : Rc (Vec ℕ) Global). (rc_value r).items) (sym e)
-shown_at (z ∷ lists) (suc a) x y h e = shown_at lists a x y (omega arith) e
+shown_inside : (lists : List (Rc (Vec ℕ) Global)) (a : ℕ) (x : Rc (Vec ℕ) Global) → a < length lists → x ≡ get_or lists a x → targets (shown lists) a ≡ (rc_value x).items
+shown_inside [] a x h e = absurd (omega arith)
+shown_inside (z ∷ lists) zero x h e = ap (λ (r : Rc (Vec ℕ) Global). (rc_value r).items) (sym e)
+shown_inside (z ∷ lists) (suc a) x h e = shown_inside lists a x (omega arith) e
+
+pub shown_at : (lists : List (Rc (Vec ℕ) Global)) (n a : ℕ) (x : Rc (Vec ℕ) Global) → n ≡ length lists → a < n → x ≡ get_or lists a x → targets (shown lists) a ≡ (rc_value x).items
+shown_at lists n a x l h e = shown_inside lists a x (omega (arith, l, h)) e
 
 pub targets_push : (next : List (Vec ℕ)) (v : Vec ℕ) (a : ℕ) → targets (next ++ v ∷ []) a ≡ cond (nat_eq a (length next)) v.items (targets next a)
 targets_push [] v zero = refl
