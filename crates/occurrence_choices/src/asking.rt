@@ -4,7 +4,6 @@ ghost use Rattle.std.specs.Prelude.{◌≡◌, ◌<◌, ℕ, Some, length};
 ghost use Rattle.lisa_tree.specs.Descriptions.{DescriptionTree};
 ghost use Rattle.activation_trees.specs.Unfolding.{occurrences};
 ghost use Rattle.lisa_forms.specs.Codings.{IsCodingOf};
-ghost use Rattle.activation_bits.specs.Members.{member};
 ghost use Rattle.coding_tables.specs.Instructions.{form_count};
 ghost use Rattle.graph_paths.specs.Paths.{targets};
 ghost use Rattle.lisa_meaning.specs.Cores.{chooses, decodes};
@@ -17,25 +16,26 @@ use activation_bits::contains;
 use lisa_forms::Coding;
 
 // The form of a word.
-#[tactic(auto, using(scene_paths::proofs::Decoding::found_is))]
 pub(crate) fn decoded(coding: &Coding, word: u64) -> Option<u32>
-    ensures { (d : DescriptionTree) → IsCodingOf d coding.now → result ≡ form_with d word }
+    ensures form { (d : DescriptionTree) → IsCodingOf d coding.now → result ≡ form_with d word }
+    ensures within { (d : DescriptionTree) → IsCodingOf d coding.now → (f : ℕ) → result ≡ Some f → f < form_count d }
 {
     coding.form_of(word)
 }
 
-// Whether a row has a number.
-fn row_has(rows: &[Vec<u64>], form: usize, number: usize) -> bool
+// The row of a form.
+fn row(rows: &[Vec<u64>], form: usize) -> &[u64]
     requires { form < length rows.now }
-    ensures { result ≡ member (targets rows.now form) number }
+    ensures { result.now ≡ targets rows.now form }
 {
-    contains(rows[form].as_slice(), number)
+    rows[form].as_slice()
 }
 
 impl<'a> Choices<'a> {
     // The form of a word.
     fn form_of(&self, word: u64) -> Option<u32>
-        ensures { result ≡ form_with (choices_tree self.now) word }
+        ensures form { result ≡ form_with (choices_tree self.now) word }
+        ensures within { (f : ℕ) → result ≡ Some f → f < form_count (choices_tree self.now) }
     {
         if word == self.word {
             self.form
@@ -52,12 +52,13 @@ impl<'a> Choices<'a> {
     {
         match form {
             None => contains(&self.formless, number),
-            Some(form) => row_has(&self.rows, form as usize, number),
+            Some(form) => contains(row(&self.rows, form as usize), number),
         }
     }
 
     /// Whether the instruction of a word chooses the operations on the path to an occurrence past the root. The word that was seen last
     /// isn't decoded again.
+    #[tactic(auto, using(crate::proofs::Chosen::nothing_there))]
     pub fn chooses(&self, number: u32, word: u64) -> bool
         ensures { result ≡ chooses (choices_tree self.now) number word }
     {

@@ -1,8 +1,9 @@
 //! What each form chooses.
 
-ghost use Rattle.std.specs.Prelude.{◌≡◌, None, length};
+ghost use Rattle.std.specs.Prelude.{◌≡◌, ◌<◌, ℕ, None, Some, length};
 ghost use Rattle.lisa_tree.specs.Descriptions.{description_tree};
 ghost use Rattle.activation_trees.specs.Unfolding.{occurrences};
+ghost use Rattle.coding_tables.specs.Instructions.{form_count};
 ghost use Rattle.lisa_forms.specs.Codings.{IsCodingOf};
 ghost use Rattle.lisa_meaning.specs.Scenes.{form_with};
 ghost use Rattle.occurrence_choices.specs.Choices.{AreRows, IsRow};
@@ -25,5 +26,6 @@ pub struct Choices<'a> {
     ghost of_count: { count ≡ length (occurrences (description_tree machine.now)) },
     ghost of_formless: { IsRow (description_tree machine.now) None formless.items },
     ghost of_rows: { AreRows (description_tree machine.now) rows.items },
+    ghost within: { (f : ℕ) → form ≡ Some f → f < form_count (description_tree machine.now) },
     ghost of_form: { form ≡ form_with (description_tree machine.now) word },
 }
