@@ -75,7 +75,6 @@ impl<'a> Behaves for Body<'a> {
     }
 
     fn behave(&mut self, number: u32, word: u64) {
-        self.choices.see(word);
         behave(&self.described, number, word, &mut self.store);
     }
 
@@ -88,7 +87,7 @@ impl<'a> Behaves for Body<'a> {
     }
 
     fn chooses(&self, number: u32, word: u64) -> bool {
-        self.choices.chooses(number, word)
+        self.described.chooses(number, word)
     }
 
     fn is_root(&self, number: u32) -> bool {
@@ -108,6 +107,6 @@ impl<'a> Behaves for Body<'a> {
     }
 
     fn decodes(&self, word: u64) -> bool {
-        self.choices.decodes(word)
+        self.described.decodes(word)
     }
 }

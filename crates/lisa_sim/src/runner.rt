@@ -87,10 +87,9 @@ impl<'a> Runner<'a> {
             plan,
             places,
             described,
-            choices,
             room,
         } = parts;
-        let pipeline = make_pipeline(alloc, machine, image, &plan, described, choices, room)?;
+        let pipeline = make_pipeline(alloc, machine, image, &plan, described, room)?;
         Ok(Runner {
             plan,
             places,
