@@ -11,5 +11,5 @@ mod memories;
 mod names;
 mod tools;
 
-pub use assembling::assemble;
+pub use assembling::{assemble, assemble_bytes};
 pub use tools::Tools;
