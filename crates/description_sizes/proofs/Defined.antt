@@ -39,9 +39,16 @@ IsCounted d (Operation o) = Unit {0}
 IsCounted d (Choosing c) = Unit {0}
 IsCounted d (Declaring i) = what_at d i ≡ Some whats.Reference
 
--- a name of an operation is counted at a node that ranks lower
-record Lower (d : DescriptionTree) (ranks : Ranks d) (o a : ℕ) : Type 0 where
+-- a node that stands for what may be chosen
+abbrev pub IsChosen : Node → Type 0
+IsChosen (Operation o) = ⊥
+IsChosen (Choosing c) = Unit {0}
+IsChosen (Declaring i) = Unit {0}
+
+-- a name of an operation is counted at what may be chosen, which ranks lower
+pub record Lower (d : DescriptionTree) (ranks : Ranks d) (o a : ℕ) : Type 0 where
   pub counted : IsCounted d (node_at d a)
+  pub chosen : IsChosen (node_at d a)
   pub lower : ranks.rank (node_at d a) < ranks.rank (Operation o)
 
 module _ (d : DescriptionTree) (ranks : Ranks d) (o : ℕ) (n : List ℕ) where
@@ -51,6 +58,7 @@ module _ (d : DescriptionTree) (ranks : Ranks d) (o : ℕ) (n : List ℕ) where
       let own : leads d (Operation o) (Choosing c) ≡ true = (let same : nat_eq x.operation o ≡ true = eq-eqb x.operation o owner in cc (is, same)) in
       record {
         counted = subst (IsCounted d) (sym at) tt;
+        chosen = subst IsChosen (sym at) tt;
         lower = subst (λ (y : Node). ranks.rank y < ranks.rank (Operation o)) (sym at) (ranks.falls (Operation o) (Choosing c) own);
       }
 
@@ -61,6 +69,7 @@ module _ (d : DescriptionTree) (ranks : Ranks d) (o : ℕ) (n : List ℕ) where
       let own : leads d (Operation o) (Declaring i) ≡ true = (let same : nat_eq x.operation o ≡ true = eq-eqb x.operation o owner in cc (is, same, what)) in
       record {
         counted = subst (IsCounted d) (sym at) told;
+        chosen = subst IsChosen (sym at) tt;
         lower = subst (λ (y : Node). ranks.rank y < ranks.rank (Operation o)) (sym at) (ranks.falls (Operation o) (Declaring i) own);
       }
 
@@ -90,7 +99,7 @@ module _ (d : DescriptionTree) (ranks : Ranks d) (o : ℕ) (n : List ℕ) where
       let passes : (nat_eq x.operation o && same_name n x.name) ≡ true = ap (λ (e : Entry). nat_eq e.operation o && same_name n e.name) same ∙ found.1 in
       eqb-true x.operation o (and_parts (nat_eq x.operation o) (same_name n x.name) passes).0
 
-  lower : (a : ℕ) → counted_of d o n ≡ Some a → Lower d ranks o a
+  pub lower : (a : ℕ) → counted_of d o n ≡ Some a → Lower d ranks o a
   lower a h = by (declared_at d o n) refl
     where
       by : (m : Option ℕ) → declared_at d o n ≡ m → Lower d ranks o a

@@ -5,5 +5,6 @@ pub mod Defined
 pub mod Within
 pub mod Steps
 pub mod Sums
+pub mod Resets
 pub mod Finding
 pub mod Limited

@@ -4,13 +4,15 @@ use Rattle.std.specs.Prelude.{◌↔◌, find, option_map}
 use Rattle.std.specs.List.{AllByRecursion}
 use Rattle.lisa_tree.specs.declared.faults.DescFault.{DescFault}
 use Rattle.lisa_tree.specs.Descriptions.{DescriptionTree}
-use Rattle.machine_parts.specs.Parts.{reset_count}
+use Rattle.description_graph.specs.Circles.{IsFirstCircularOperation}
+use Rattle.machine_parts.specs.Parts.{reset_count, reset_node_count}
 use Rattle.lisa_machine.specs.Machines.{IsResetShort}
 use Rattle.description_sizes.specs.declared.sizes.Measure.TheVariants as measures
 use Rattle.description_sizes.specs.declared.sizes.Size.{Size}
 use Rattle.description_sizes.specs.Limits.{limit_of, size, exceeds, told, fault}
-use Rattle.description_sizes.specs.Sizes.{sizes, first_too_many, size_fault}
+use Rattle.description_sizes.specs.Sizes.{reset_nodes, sizes, first_too_many, size_fault}
 use Rattle.description_sizes.specs.Laws.{AreWithinLimits}
+use Rattle.description_sizes.proofs.Resets.{reset_least}
 use Rattle.description_sizes.proofs.Finding.{none_exceeds, exceeds_none, find_told, fault_told}
 
 abbrev IsLimited : Size → Type 0
@@ -42,8 +44,18 @@ within_limits d width forms = (λ e. from_all d width forms (none_exceeds (sizes
 smaller : (m n top : ℕ) → max m n ≤ top → n ≤ top
 smaller m n top h = omega arith
 
-pub reset_short : (d : DescriptionTree) (width : Option ℕ) (forms : ℕ) → first_too_many d width forms ≡ None → IsResetShort d
-reset_short d width forms e = smaller _ (reset_count d) 4096 ((within_limits d width forms).0 e).few_statements
+pub reset_short : (d : DescriptionTree) (width : Option ℕ) (forms : ℕ) → IsFirstCircularOperation d None → first_too_many d width forms ≡ None → IsResetShort d
+reset_short d width forms none e =
+    let within = (within_limits d width forms).0 e in
+    let nodes = smaller _ (reset_nodes d) 4194304 within.few_nodes in
+    let least = reset_least d none in
+    record {
+      few_statements = smaller _ (reset_count d) 4096 within.few_statements;
+      few_nodes = few (reset_node_count d) (reset_nodes d) least nodes;
+    }
+  where
+    few : (m n : ℕ) → min m (2 ^ 64 - 1) ≤ n → n ≤ 4194304 → m ≤ 4194304
+    few m n h k = omega (arith, h, k)
 
 -- ---- a count of forms that is told
 

@@ -12,9 +12,9 @@ pub fn sizes_are_within_limits()
     ensures { (d : DescriptionTree) (width : Option ℕ) (forms : ℕ) → (first_too_many d width forms ≡ None) ↔ AreWithinLimits d width forms }
 {}
 
-/// Where nothing is too much, `reset` is short enough to be evaluated.
+/// Where nothing is too much and no operation reaches itself, `reset` has few enough statements and nodes to be evaluated.
 pub fn reset_is_short()
-    ensures { (d : DescriptionTree) (width : Option ℕ) (forms : ℕ) → first_too_many d width forms ≡ None → IsResetShort d }
+    ensures { (d : DescriptionTree) (width : Option ℕ) (forms : ℕ) → IsFirstCircularOperation d None → first_too_many d width forms ≡ None → IsResetShort d }
 {}
 
 /// A count of forms that is told as 2^64 - 1 leads to the same fault as the count itself.

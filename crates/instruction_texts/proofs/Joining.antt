@@ -22,18 +22,17 @@ no_second ms before (Some s) (Some t) e = absurd cc
 pub none_joins : (ms : List Meeting) (before : ℕ) (s t : Step) → IsCommon s.piece t.piece None → Joins ms ms before (Some s) (Some t)
 none_joins ms before s t none = record { adds = nothing; has = λ token a b. absurd (none token a b) }
 
-pub coming_joins : (ms : List Meeting) (before : ℕ) (s t : Step) → Comes ms before s.next t.next → Joins ms ms before (Some s) (Some t)
+pub coming_joins : (ms : List Meeting) (before : ℕ) (s t : Step) → Comes ms s.next t.next → Joins ms ms before (Some s) (Some t)
 coming_joins ms before s t comes = record { adds = nothing; has = λ token a b. comes }
 
-pub pushed_joins : (ms new : List Meeting) (before : ℕ) (s t : Step) (token : Token) → before < length ms → IsCommon s.piece t.piece (Some token)
+pub pushed_joins : (ms new : List Meeting) (before : ℕ) (s t : Step) (token : Token) → IsCommon s.piece t.piece (Some token)
     → new ≡ ms ++ record { first = s.next; second = t.next; reached = Some (record { before = before; token = token }) } ∷ [] → Joins ms new before (Some s) (Some t)
-pushed_joins ms new before s t token inside both e =
+pushed_joins ms new before s t token both e =
     subst (λ (l : List Meeting). Joins ms l before (Some s) (Some t)) (sym e) (record {
       adds = meeting token both.0 both.1;
       has = λ other a b. record {
         number = length ms;
         meeting = record { first = s.next; second = t.next; reached = Some (record { before = before; token = token }) };
-        later = inside;
         is = get_last ms _;
         first_is = refl;
         second_is = refl;

@@ -128,13 +128,13 @@ same_tail : (p cs ds : List ℕ) → p ++ cs ≡ p ++ ds → cs ≡ ds
 same_tail [] cs ds e = e
 same_tail (c ∷ p) cs ds e = same_tail p cs ds (cc)
 
-same_word : (p cs ds : List ℕ) (ts us xs : List Token) → xs ≡ Word (p ++ cs) ∷ ts → xs ≡ Word (p ++ ds) ∷ us → (cs ≡ ds) × (ts ≡ us)
+pub same_word : (p cs ds : List ℕ) (ts us xs : List Token) → xs ≡ Word (p ++ cs) ∷ ts → xs ≡ Word (p ++ ds) ∷ us → (cs ≡ ds) × (ts ≡ us)
 same_word p cs ds ts us xs a b =
     let e : Word (p ++ cs) ∷ ts ≡ Word (p ++ ds) ∷ us = sym a ∙ b in
     let w : p ++ cs ≡ p ++ ds = cc in
     let t : ts ≡ us = cc in (same_tail p cs ds w, t)
 
-same_minus : (p cs ds : List ℕ) (ts us xs : List Token) → xs ≡ before_sign p (Sign 45 ∷ Word cs ∷ ts) → xs ≡ before_sign p (Sign 45 ∷ Word ds ∷ us) → (cs ≡ ds) × (ts ≡ us)
+pub same_minus : (p cs ds : List ℕ) (ts us xs : List Token) → xs ≡ before_sign p (Sign 45 ∷ Word cs ∷ ts) → xs ≡ before_sign p (Sign 45 ∷ Word ds ∷ us) → (cs ≡ ds) × (ts ≡ us)
 same_minus [] cs ds ts us xs a b = let e : Sign 45 ∷ Word cs ∷ ts ≡ Sign 45 ∷ Word ds ∷ us = sym a ∙ b in ((cc), (cc))
 same_minus (c ∷ p) cs ds ts us xs a b = let e : Word (c ∷ p) ∷ Sign 45 ∷ Word cs ∷ ts ≡ Word (c ∷ p) ∷ Sign 45 ∷ Word ds ∷ us = sym a ∙ b in ((cc), (cc))
 
@@ -142,7 +142,7 @@ longer : (p cs : List ℕ) → p ≡ p ++ cs → cs ≡ []
 longer p cs e = sym (same_tail p [] cs (append-nil p ∙ e))
 
 -- a number without a sign is no number with one
-not_both : (p cs ds : List ℕ) (n : ℕ) (ts us xs : List Token) → ends (upper n) cs ≡ true → xs ≡ Word (p ++ cs) ∷ ts → xs ≡ before_sign p (Sign 45 ∷ Word ds ∷ us) → ⊥
+pub not_both : (p cs ds : List ℕ) (n : ℕ) (ts us xs : List Token) → ends (upper n) cs ≡ true → xs ≡ Word (p ++ cs) ∷ ts → xs ≡ before_sign p (Sign 45 ∷ Word ds ∷ us) → ⊥
 not_both [] cs ds n ts us xs h a b = let e : Word cs ∷ ts ≡ Sign 45 ∷ Word ds ∷ us = sym a ∙ b in cc
 not_both (c ∷ p) cs ds n ts us xs h a b =
     let e : Word (c ∷ (p ++ cs)) ∷ ts ≡ Word (c ∷ p) ∷ Sign 45 ∷ Word ds ∷ us = sym a ∙ b in

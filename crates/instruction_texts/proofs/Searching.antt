@@ -3,7 +3,7 @@ use Rattle.std.proofs.Common.{◌≡◌, ℕ, zero, suc, ◌+◌, ◌^◌, ◌<�
 use Rattle.std.specs.Prelude.{Result, Ok, Err, OnOk}
 use Rattle.std.specs.List.{slice_get}
 use Rattle.std.proofs.lemmas.List.{length-append, reverse-append}
-use Rattle.std.proofs.lemmas.Bool.{and_parts, and_from, cases_order}
+use Rattle.std.proofs.lemmas.Bool.{and_parts, and_from, cases_lt}
 use Rattle.instruction_texts.specs.declared.shapes.Shape.{Shape}
 use Rattle.instruction_texts.specs.declared.shapes.Token.{Token}
 use Rattle.instruction_texts.specs.declared.places.Pending.TheVariants.{Nothing}
@@ -124,24 +124,57 @@ pub record Ahead (ss us : List Shape) (ms : List Meeting) (from : ℕ) : Type 0 
   pub is : slice_get ms number ≡ Some meeting
   pub told : BothTell ss us meeting text
 
+-- a meeting that tells what stands behind the first of these tokens
+pub record Onward (ss us : List Shape) (ms : List Meeting) (ts : List Token) : Type 0 where
+  pub token : Token
+  pub rest : List Token
+  pub splits : ts ≡ token ∷ rest
+  pub number : ℕ
+  pub meeting : Meeting
+  pub is : slice_get ms number ≡ Some meeting
+  pub told : BothTell ss us meeting rest
+
+-- whatever is told at a meeting that was left goes on at another
+abbrev IsLeft : List Shape → List Shape → List Meeting → Meeting → Type 0
+IsLeft ss us ms m = (ts : List Token) → BothTell ss us m ts → Onward ss us ms ts
+
+-- the first meeting, at which both texts are whole
+pub record Begun (ss us : List Shape) (ms : List Meeting) : Type 0 where
+  pub meeting : Meeting
+  pub is : slice_get ms 0 ≡ Some meeting
+  pub told : (ts : List Token) → BothSay ss us ts → BothTell ss us meeting ts
+
 pub record Searching (ss us : List Shape) (ms : List Meeting) (from : ℕ) : Type 0 where
   pub later : AreLater ms
   pub reached : AreReached ss us ms
-  pub live : (ts : List Token) → IsText ss ts → IsText us ts → Ahead ss us ms from
+  pub begun : Begun ss us ms
+  pub left : (k : ℕ) (m : Meeting) → k < from → slice_get ms k ≡ Some m → IsLeft ss us ms m
 
-next_comes : (ss us : List Shape) (ms : List Meeting) (before : ℕ) (s t : Option Step) (ts : List Token) → Through ss s ts → Through us t ts → HasNext ms before s t → Ahead ss us ms (before + 1)
-next_comes ss us ms before None t ts v w has = absurd v
-next_comes ss us ms before (Some s) None ts v w has = absurd w
-next_comes ss us ms before (Some s) (Some t) ts v w has =
+-- what is told at some meeting is told, from some token on, at one to come
+ahead : (ss us : List Shape) (ms : List Meeting) (from : ℕ) → Searching ss us ms from → (ts : List Token) (k : ℕ) (m : Meeting) → slice_get ms k ≡ Some m → BothTell ss us m ts → Ahead ss us ms from
+ahead ss us ms from s ts k m is told = go ts k m is told (cases_lt k from) where
+  go : (ts : List Token) (k : ℕ) (m : Meeting) → slice_get ms k ≡ Some m → BothTell ss us m ts → (k < from) ⊎ (from ≤ k) → Ahead ss us ms from
+  go ts k m is told (inr le) = record { number = k; meeting = m; text = ts; at_least = le; is = is; told = told }
+  go [] k m is told (inl lt) = absurd (let o = s.left k m lt is [] told in let e = o.splits in cc)
+  go (t ∷ ts) k m is told (inl lt) =
+      let o = s.left k m lt is (t ∷ ts) told in
+      let e : ts ≡ o.rest = (let h = o.splits in cc) in
+      go ts o.number o.meeting o.is (subst (λ (l : List Token). BothTell ss us o.meeting l) (sym e) o.told) (cases_lt o.number from)
+
+next_comes : (ss us : List Shape) (ms : List Meeting) (s t : Option Step) (ts : List Token) → Through ss s ts → Through us t ts → HasNext ms s t → Onward ss us ms ts
+next_comes ss us ms None t ts v w has = absurd v
+next_comes ss us ms (Some s) None ts v w has = absurd w
+next_comes ss us ms (Some s) (Some t) ts v w has =
     let e : v.token ∷ v.rest ≡ w.token ∷ w.rest = sym v.is ∙ w.is in
     let token : v.token ≡ w.token = cc in
     let rest : v.rest ≡ w.rest = cc in
-    let m : Comes ms before s.next t.next = has v.token v.accepted (subst (λ (x : Token). Accepts t.piece x) (sym token) w.accepted) in
+    let m : Comes ms s.next t.next = has v.token v.accepted (subst (λ (x : Token). Accepts t.piece x) (sym token) w.accepted) in
     record {
+      token = v.token;
+      rest = v.rest;
+      splits = v.is;
       number = m.number;
       meeting = m.meeting;
-      text = v.rest;
-      at_least = (let l = m.later in omega arith);
       is = m.is;
       told = (subst (λ (p : Place). Tells ss p v.rest) (sym m.first_is) v.told, subst (λ (p : Place). Tells us p v.rest) (sym m.second_is) (subst (λ (l : List Token). Tells us t.next l) (sym rest) w.told));
     }
@@ -208,21 +241,21 @@ module _ (ss us : List Shape) (old new : List Meeting) (number : ℕ) (f : Follo
       let e : weight ss (drop number old) ≡ 5 ^ room ss f.here.first + weight ss (drop (number + 1) old) = ap (λ (l : List Meeting). weight ss l) (drop_here old number f.here in_old) ∙ ap (λ (k : ℕ). 5 ^ room ss f.here.first + weight ss (drop k old)) (sym step) in
       omega arith
 
-  lift : (ms : List Meeting) → ((k : ℕ) (m : Meeting) → slice_get ms k ≡ Some m → slice_get new k ≡ Some m) → Ahead ss us ms (number + 1) → Ahead ss us new (number + 1)
-  lift ms more a = record { number = a.number; meeting = a.meeting; text = a.text; at_least = a.at_least; is = more a.number a.meeting a.is; told = a.told }
+  lift : (ms : List Meeting) → ((k : ℕ) (m : Meeting) → slice_get ms k ≡ Some m → slice_get new k ≡ Some m) → {ts : List Token} → Onward ss us ms ts → Onward ss us new ts
+  lift ms more o = record { token = o.token; rest = o.rest; splits = o.splits; number = o.number; meeting = o.meeting; is = more o.number o.meeting o.is; told = o.told }
 
-  onward : (t : Token) (ts : List Token) → BothTell ss us f.here (t ∷ ts) → Ahead ss us new (number + 1)
+  onward : (t : Token) (ts : List Token) → BothTell ss us f.here (t ∷ ts) → Onward ss us new (t ∷ ts)
   onward t ts both = elim (through_step ss f.here.first t ts both.0) [
     | inl v ↦ elim (through_step us f.here.second t ts both.1) [
       | inl w ↦ lift f.one (λ k m e. kept f.three number f.joins_four.adds k m (kept f.two number f.joins_three.adds k m (kept f.one number f.joins_two.adds k m e)))
-          (next_comes ss us f.one number (first_step ss f.here.first) (first_step us f.here.second) (t ∷ ts) v w f.joins_one.has)
+          (next_comes ss us f.one (first_step ss f.here.first) (first_step us f.here.second) (t ∷ ts) v w f.joins_one.has)
       | inr w ↦ lift f.two (λ k m e. kept f.three number f.joins_four.adds k m (kept f.two number f.joins_three.adds k m e))
-          (next_comes ss us f.two number (first_step ss f.here.first) (second_step us f.here.second) (t ∷ ts) v w f.joins_two.has)
+          (next_comes ss us f.two (first_step ss f.here.first) (second_step us f.here.second) (t ∷ ts) v w f.joins_two.has)
     ]
     | inr v ↦ elim (through_step us f.here.second t ts both.1) [
       | inl w ↦ lift f.three (λ k m e. kept f.three number f.joins_four.adds k m e)
-          (next_comes ss us f.three number (second_step ss f.here.first) (first_step us f.here.second) (t ∷ ts) v w f.joins_three.has)
-      | inr w ↦ next_comes ss us new number (second_step ss f.here.first) (second_step us f.here.second) (t ∷ ts) v w f.joins_four.has
+          (next_comes ss us f.three (second_step ss f.here.first) (first_step us f.here.second) (t ∷ ts) v w f.joins_three.has)
+      | inr w ↦ next_comes ss us new (second_step ss f.here.first) (second_step us f.here.second) (t ∷ ts) v w f.joins_four.has
     ]
   ]
 
@@ -231,19 +264,23 @@ module _ (ss us : List Shape) (old new : List Meeting) (number : ℕ) (f : Follo
   searches_on m at_m unfinished s = record {
     later = all_later s.later;
     reached = all_reached s.later s.reached;
-    live = λ ts a b. go (s.live ts a b);
+    begun = record { meeting = s.begun.meeting; is = all_kept 0 s.begun.meeting s.begun.is; told = s.begun.told };
+    left = left;
   } where
-    told_on : (ts : List Token) → BothTell ss us f.here ts → Ahead ss us new (number + 1)
+    told_on : (ts : List Token) → BothTell ss us f.here ts → Onward ss us new ts
     told_on [] both = absurd (let x = ends_here ss f.here.first both.0 in let y = ends_here us f.here.second both.1 in let e : (is_last (length ss) f.here.first && is_last (length us) f.here.second) ≡ true = and_from _ _ x y in let same : m ≡ f.here = same_get old number m f.here at_m in_old in let z : false ≡ true = sym unfinished ∙ ap (λ (x : Meeting). is_last (length ss) x.first && is_last (length us) x.second) same ∙ e in cc)
     told_on (t ∷ ts) both = onward t ts both
 
-    go : Ahead ss us old number → Ahead ss us new (number + 1)
-    go a = elim (cases_order number a.number) [
-      | inl same ↦ (
-          let e : a.meeting ≡ f.here = same_get old number a.meeting f.here (subst (λ (k : ℕ). slice_get old k ≡ Some a.meeting) (sym same) a.is) in_old in
-          told_on a.text (subst (λ (m : Meeting). BothTell ss us m a.text) e a.told))
-      | inr (inl lt) ↦ record { number = a.number; meeting = a.meeting; text = a.text; at_least = omega arith; is = all_kept a.number a.meeting a.is; told = a.told }
-      | inr (inr gt) ↦ absurd (let l = a.at_least in omega arith)
+    left : (k : ℕ) (n : Meeting) → k < number + 1 → slice_get new k ≡ Some n → IsLeft ss us new n
+    left k n lt is = elim (cases_lt k number) [
+      | inl before ↦ (
+          let g = some_get old k (let i = get_inside old number f.here in_old in omega arith) in
+          let same : g.0 ≡ n = same_get new k g.0 n (all_kept k g.0 g.1) is in
+          λ ts both. lift old all_kept (s.left k g.0 before g.1 ts (subst (λ (x : Meeting). BothTell ss us x ts) (sym same) both)))
+      | inr past ↦ (
+          let at : k ≡ number = omega arith in
+          let same : f.here ≡ n = same_get new number f.here n (all_kept number f.here in_old) (subst (λ (j : ℕ). slice_get new j ≡ Some n) at is) in
+          λ ts both. told_on ts (subst (λ (x : Meeting). BothTell ss us x ts) (sym same) both))
     ]
 
 -- ---- the beginning and the ends
@@ -253,14 +290,15 @@ begins ss us m e g r = record {
   later = λ k n h. subst (λ (x : Meeting). IsLater (m ∷ []) k x.reached) (only k n h) (subst (λ (o : Option Reached). IsLater (m ∷ []) k o) (sym r) tt);
   reached = λ k n h. subst (λ (x : Meeting). IsReached ss us (m ∷ []) x x.reached) (only k n h) (subst (λ (o : Option Reached). IsReached ss us (m ∷ []) m o) (sym r)
       (λ ts both. (subst (λ (p : Place). Tells ss p ts) e both.0, subst (λ (p : Place). Tells us p ts) g both.1)));
-  live = λ ts a b. record { number = 0; meeting = m; text = ts; at_least = omega arith; is = refl; told = (subst (λ (p : Place). Tells ss p ts) (sym e) a, subst (λ (p : Place). Tells us p ts) (sym g) b) };
+  begun = record { meeting = m; is = refl; told = λ ts both. (subst (λ (p : Place). Tells ss p ts) (sym e) both.0, subst (λ (p : Place). Tells us p ts) (sym g) both.1) };
+  left = λ k n lt h. absurd (omega arith);
 } where
   only : (k : ℕ) (n : Meeting) → slice_get (m ∷ []) k ≡ Some n → m ≡ n
   only zero n h = cc
   only (suc k) n h = absurd cc
 
 pub none_left : (ss us : List Shape) (ms : List Meeting) (from : ℕ) → length ms ≤ from → Searching ss us ms from → (ts : List Token) → IsText ss ts → IsText us ts → ⊥
-none_left ss us ms from past s ts a b = let h = s.live ts a b in let i = get_inside ms h.number h.meeting h.is in let l = h.at_least in omega arith
+none_left ss us ms from past s ts a b = let h = ahead ss us ms from s ts 0 s.begun.meeting s.begun.is (s.begun.told ts (a, b)) in let i = get_inside ms h.number h.meeting h.is in let l = h.at_least in omega arith
 
 along : (ss us : List Shape) (ms : List Meeting) → AreReached ss us ms → {k : ℕ} {ts ws : List Token} → Way ms k ts ws → (m : Meeting) → slice_get ms k ≡ Some m → BothTell ss us m ts → AreLater ms → BothSay ss us ws
 along ss us ms all (start {k = k} {ts = ts} n e r) m is both later =

@@ -32,11 +32,10 @@ AreLater ms = (k : ℕ) (m : Meeting) → slice_get ms k ≡ Some m → IsLater 
 abbrev pub AreReached : List Shape → List Shape → List Meeting → Type 0
 AreReached ss us ms = (k : ℕ) (m : Meeting) → slice_get ms k ≡ Some m → IsReached ss us ms m m.reached
 
--- a meeting of these places, behind the one with this number
-pub record Comes (ms : List Meeting) (before : ℕ) (first second : Place) : Type 0 where
+-- a meeting of these places
+pub record Comes (ms : List Meeting) (first second : Place) : Type 0 where
   pub number : ℕ
   pub meeting : Meeting
-  pub later : before < number
   pub is : slice_get ms number ≡ Some meeting
   pub first_is : meeting.first ≡ first
   pub second_is : meeting.second ≡ second
@@ -56,14 +55,14 @@ pub data Adds (ms : List Meeting) (before : ℕ) : Option Step → Option Step �
   meeting : {s t : Step} (token : Token) → Accepts s.piece token → Accepts t.piece token
       → Adds ms before (Some s) (Some t) (ms ++ record { first = s.next; second = t.next; reached = Some (record { before = before; token = token }) } ∷ [])
 
--- where a token is one of both steps, a meeting behind them comes
-abbrev pub HasNext : List Meeting → ℕ → Option Step → Option Step → Type 0
-HasNext ms before (Some s) (Some t) = (token : Token) → Accepts s.piece token → Accepts t.piece token → Comes ms before s.next t.next
-HasNext ms before _ _ = Unit {0}
+-- where a token is one of both steps, there is a meeting behind them
+abbrev pub HasNext : List Meeting → Option Step → Option Step → Type 0
+HasNext ms (Some s) (Some t) = (token : Token) → Accepts s.piece token → Accepts t.piece token → Comes ms s.next t.next
+HasNext ms _ _ = Unit {0}
 
 pub record Joins (old new : List Meeting) (before : ℕ) (s t : Option Step) : Type 0 where
   pub adds : Adds old before s t new
-  pub has : HasNext new before s t
+  pub has : HasNext new s t
 
 -- the meetings behind one meeting are added, for each pair of steps in turn
 pub record Follows (ss us : List Shape) (old new : List Meeting) (number : ℕ) : Type 0 where

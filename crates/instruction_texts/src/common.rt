@@ -8,12 +8,13 @@ ghost use Rattle.instruction_texts.specs.Moves.{is_last};
 ghost use Rattle.instruction_texts.specs.Written.{text_bytes};
 ghost use Rattle.instruction_texts.specs.Meetings.{Follows, Way, AreLater};
 
-use crate::meetings::join;
+use crate::meetings::{Numbers, join};
 use crate::moves::{first_move, is_last, second_move};
 use crate::places::{Meeting, Pending, Place};
 use crate::shapes::{Shape, Token};
 use crate::text::Text;
 use crate::writing::put_token;
+use indexmap::IndexMap;
 use lisa_words::NoMemory;
 use std::alloc::Global;
 
@@ -32,6 +33,7 @@ fn follow(
     first: &[Shape],
     second: &[Shape],
     meetings: &mut Vec<Meeting>,
+    numbers: &mut Numbers,
     number: usize,
 ) -> Result<(), NoMemory>
     requires inside { number < length meetings.old.items }
@@ -42,10 +44,10 @@ fn follow(
     let (here, there) = places(meetings, number);
     let (plain, negative) = (first_move(first, here), second_move(first, here));
     let (other_plain, other_negative) = (first_move(second, there), second_move(second, there));
-    join(alloc, meetings, number, plain, other_plain)?;
-    join(alloc, meetings, number, plain, other_negative)?;
-    join(alloc, meetings, number, negative, other_plain)?;
-    join(alloc, meetings, number, negative, other_negative)
+    join(alloc, meetings, numbers, number, plain, other_plain)?;
+    join(alloc, meetings, numbers, number, plain, other_negative)?;
+    join(alloc, meetings, numbers, number, negative, other_plain)?;
+    join(alloc, meetings, numbers, number, negative, other_negative)
 }
 
 // The tokens that lead to a meeting, the last one first.
@@ -99,7 +101,7 @@ pub fn common_text(
         shape: 0,
         pending: Pending::Nothing,
     };
-    let mut meetings = Vec::new(alloc);
+    let (mut meetings, mut numbers) = (Vec::new(alloc), IndexMap::new(alloc));
     meetings.push(Meeting {
         first: START,
         second: START,
@@ -111,7 +113,7 @@ pub fn common_text(
             let tokens = tokens_to(alloc, &meetings, number)?;
             return Ok(Some(lay_out(alloc, tokens)?));
         }
-        follow(alloc, first, second, &mut meetings, number)?;
+        follow(alloc, first, second, &mut meetings, &mut numbers, number)?;
         number += 1;
     }
     Ok(None)

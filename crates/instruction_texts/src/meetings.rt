@@ -7,26 +7,36 @@ ghost use Rattle.instruction_texts.specs.Meetings.{Comes, Joins};
 
 use crate::common_runs::common_token;
 use crate::places::{Meeting, Move, Place, Reached};
+use indexmap::IndexMap;
 use lisa_words::NoMemory;
 use std::alloc::Global;
 
-// Whether the meeting of two places is already to come.
-fn is_coming(meetings: &[Meeting], before: usize, first: Place, second: Place) -> bool
-    requires { before < length meetings.now }
-    ensures { result ≡ true → Comes meetings.now before first second }
+/// The number of the meeting of two places, where there is one.
+pub type Numbers = IndexMap<(Place, Place), usize>;
+
+// Whether the meeting with this number is that of the two places.
+#[tactic(auto, using(std::proofs::lemmas::Option::slice_get_read))]
+fn is_of(meetings: &[Meeting], number: usize, first: Place, second: Place) -> bool
+    ensures { result ≡ true → Comes meetings.now first second }
 {
-    'each: for number in before + 1..meetings.len() {
-        if meetings[number].first == first && meetings[number].second == second {
-            return true;
-        }
-    }
-    false
+    number < meetings.len() && meetings[number].first == first && meetings[number].second == second
 }
 
-// Adds the meeting behind two moves, where they share a token and it isn't to come anyway.
+// Whether there is a meeting of the two places.
+fn comes(meetings: &[Meeting], numbers: &Numbers, first: Place, second: Place) -> bool
+    ensures { result ≡ true → Comes meetings.now first second }
+{
+    match numbers.get(&(first, second)) {
+        Some(number) => is_of(meetings, *number, first, second),
+        None => false,
+    }
+}
+
+// Adds the meeting behind two moves, where they share a token and there is none of these places.
 pub fn join(
     alloc: Global,
     meetings: &mut Vec<Meeting>,
+    numbers: &mut Numbers,
     before: usize,
     first: Option<Move<'_>>,
     second: Option<Move<'_>>,
@@ -40,9 +50,10 @@ pub fn join(
     let Some(token) = common_token(alloc, first.said, second.said)? else {
         return Ok(());
     };
-    if is_coming(meetings, before, first.next, second.next) {
+    if comes(meetings, numbers, first.next, second.next) {
         return Ok(());
     }
+    numbers.insert((first.next, second.next), meetings.len())?;
     meetings.push(Meeting {
         first: first.next,
         second: second.next,

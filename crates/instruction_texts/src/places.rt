@@ -2,7 +2,7 @@
 use crate::shapes::{Ending, Token};
 
 /// What of a negative number is still to come: nothing, `-` and its digits, or the digits alone. Its size is at most the one that is given.
-#[derive(Clone, Copy, Debug, PartialEq, Eq)]
+#[derive(Clone, Copy, Debug, PartialEq, Eq, Hash)]
 pub enum Pending {
     Nothing,
     Minus(u64),
@@ -10,7 +10,7 @@ pub enum Pending {
 }
 
 /// A place in the texts of a form: what is still to come of the number before the piece `shape`, and then that piece.
-#[derive(Clone, Copy, Debug, PartialEq, Eq)]
+#[derive(Clone, Copy, Debug, PartialEq, Eq, Hash)]
 pub struct Place {
     pub shape: usize,
     pub pending: Pending,

@@ -10,7 +10,8 @@ use Rattle.lisa_outcomes.specs.RunFiles.{any_file, image_limit, schedule_limit}
 use Rattle.checked_descriptions.specs.Descriptions.{description_limit}
 use Rattle.module_commands.specs.Clocks.{module_limit}
 use Rattle.assembler_commands.specs.Links.{object_limit}
-use Rattle.lisa_cli.specs.Requests.{Request, Format, Check, Verilog, Assemble, Link, Disassemble, Generate, Soak, Simulate, Clock, IsAllowed, files_of}
+use Rattle.command_words.specs.Requests.{Request, Format, Check, Verilog, Assemble, Link, Disassemble, Generate, Soak, Simulate, Clock, IsAllowed}
+use Rattle.lisa_cli.specs.Files.{files_of}
 
 run_few : (first : NamedFile) (a b : Option (List ℕ)) (k l : ℕ) → length (first ∷ (any_file a k ++ any_file b l)) < 2 ^ 32
 run_few first None None k l = omega arith

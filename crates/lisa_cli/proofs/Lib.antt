@@ -1,4 +1,3 @@
-mod FieldTexts
 mod Ran
 mod Flushed
 mod FileCounts

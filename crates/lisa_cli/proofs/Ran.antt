@@ -14,12 +14,12 @@ use Rattle.lisa_outcomes.proofs.Told.{not_ok}
 use Rattle.description_commands.proofs.Stopped.{run_kept}
 use Rattle.module_commands.proofs.Stopped.{clock_kept}
 use Rattle.lisa_outcomes.specs.RunFiles.{run_bytes}
-use Rattle.lisa_cli.specs.Requests.{Request, Format, Check, Verilog, Assemble, Link, Disassemble, Generate, Soak, Simulate, Clock, Asks, reads_input}
+use Rattle.command_words.specs.Requests.{Request, Format, Check, Verilog, Assemble, Link, Disassemble, Generate, Soak, Simulate, Clock, Asks, reads_input}
 use Rattle.lisa_cli.specs.Gives.{Gives}
 use Rattle.lisa_cli.specs.Statuses.{status_of}
 use Rattle.lisa_cli.specs.Sent.{IsSentOn}
-use Rattle.lisa_cli.specs.Says.{status_text}
-use Rattle.lisa_cli.specs.Told.{IsTold}
+use Rattle.refusal_lines.specs.Says.{status_text}
+use Rattle.refusal_lines.specs.Told.{IsTold}
 use Rattle.lisa_cli.specs.Runs.{Stands}
 use Rattle.lisa_cli.specs.Headline.{IsAnswer, IsSomeRefusal}
 use Rattle.lisa_cli.specs.Worlds.{World, Readings, Writings, world, Blames, Blamed, file_failed, input_failed, IsCutOver, IsGiven, IsKnown, NoneFailed}

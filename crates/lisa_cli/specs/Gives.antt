@@ -14,7 +14,8 @@ use Rattle.assembler_commands.specs.Links.{GivesLink}
 use Rattle.assembler_commands.specs.Listed.{GivesListing}
 use Rattle.generator_commands.specs.Generates.{GivesProgram}
 use Rattle.generator_commands.specs.Soaks.{GivesSoak}
-use Rattle.lisa_cli.specs.Requests.{Request, Format, Check, Verilog, Assemble, Link, Disassemble, Generate, Soak, Simulate, Clock, files_of}
+use Rattle.command_words.specs.Requests.{Request, Format, Check, Verilog, Assemble, Link, Disassemble, Generate, Soak, Simulate, Clock}
+use Rattle.lisa_cli.specs.Files.{files_of}
 
 -- for the bytes of its files, in their order, and the bytes of the input
 abbrev pub GivesOver : Request → (bytes : List (List ℕ)) → (input : List ℕ) → Outcome → Type 0

@@ -7,9 +7,9 @@ use Rattle.lisa_outcomes.specs.declared.status.Refusal.{Refusal}
 use Rattle.lisa_outcomes.specs.declared.status.Status.{Status}
 use Rattle.lisa_outcomes.specs.declared.status.Status.TheVariants as statuses
 use Rattle.lisa_outcomes.specs.Outcomes.{Finished, Refusing, Given}
-use Rattle.lisa_cli.specs.Requests.{Request, Asks, reads_input}
+use Rattle.command_words.specs.Requests.{Request, Asks, reads_input}
 use Rattle.lisa_cli.specs.Gives.{Gives}
-use Rattle.lisa_cli.specs.Says.{status_text, has_line}
+use Rattle.refusal_lines.specs.Says.{status_text, has_line}
 use Rattle.lisa_cli.specs.Runs.{Stands}
 use Rattle.lisa_cli.specs.Worlds.{World, IsKnown, NoneFailed}
 

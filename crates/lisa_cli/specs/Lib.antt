@@ -1,16 +1,7 @@
-pub mod Requests
-pub mod Asked
-pub mod Lines
-pub mod LineViews
-pub mod DescriptionLines
-pub mod ModuleLines
-pub mod SourceLines
+pub mod Files
 pub mod Gives
 pub mod Worlds
-pub mod Says
 pub mod Runs
 pub mod Headline
-pub mod Told
 pub mod Sent
-pub mod OwnLines
 pub mod Statuses

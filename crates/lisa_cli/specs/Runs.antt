@@ -8,7 +8,7 @@ use Rattle.lisa_outcomes.specs.declared.status.Status.TheVariants as statuses
 use Rattle.lisa_outcomes.specs.Outcomes.{Finished, Refusing, Given}
 use Rattle.lisa_outcomes.specs.Refusals.{IsRefusal}
 use Rattle.lisa_outcomes.specs.Within.{IsWithin}
-use Rattle.lisa_cli.specs.Requests.{Request, Asks}
+use Rattle.command_words.specs.Requests.{Request, Asks}
 use Rattle.lisa_cli.specs.Gives.{Gives}
 use Rattle.lisa_cli.specs.Worlds.{World, Blamed, IsKnown}
 

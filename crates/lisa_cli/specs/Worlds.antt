@@ -8,7 +8,8 @@ use Rattle.lisa_outcomes.specs.NamedFiles.{AreFiles, SomeFailed}
 use Rattle.lisa_outcomes.specs.RunFiles.{run_bytes}
 use Rattle.description_commands.specs.Runs.{IsCutRun}
 use Rattle.module_commands.specs.Clocks.{IsCutClock}
-use Rattle.lisa_cli.specs.Requests.{Request, Format, Check, Verilog, Assemble, Link, Disassemble, Generate, Soak, Simulate, Clock, reads_input, files_of}
+use Rattle.command_words.specs.Requests.{Request, Format, Check, Verilog, Assemble, Link, Disassemble, Generate, Soak, Simulate, Clock, reads_input}
+use Rattle.lisa_cli.specs.Files.{files_of}
 
 -- what the files hold and what the input has left before and after, and how often each had failed before and after
 pub record Readings : Type 0 where

@@ -9,12 +9,13 @@ ghost use Rattle.lisa_outcomes.specs.RunViews.{names_of};
 ghost use Rattle.checked_descriptions.specs.Descriptions.{description_limit};
 ghost use Rattle.assembler_commands.specs.Links.{object_limit};
 ghost use Rattle.module_commands.specs.Clocks.{module_limit};
-ghost use Rattle.lisa_cli.specs.Requests.{reads_input, files_of};
-ghost use Rattle.lisa_cli.specs.Asked.{request_of};
+ghost use Rattle.command_words.specs.Requests.{reads_input};
+ghost use Rattle.lisa_cli.specs.Files.{files_of};
+ghost use Rattle.command_words.specs.Asked.{request_of};
 ghost use Rattle.lisa_cli.specs.Gives.{Gives, GivesOver};
 ghost use Rattle.lisa_cli.specs.Worlds.{readings, IsGiven, IsHeard, HasFailed, IsCutOver, Blamed};
 
-use crate::requests::Command;
+use command_words::Command;
 use assembler_commands::{assemble_source, link_objects, list_image};
 use description_commands::{check_description, do_with_description, format_description};
 use generator_commands::{soak, write_program};

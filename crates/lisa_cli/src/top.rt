@@ -5,11 +5,11 @@ ghost use Rattle.lisa_cli.specs.Worlds.{world, readings, writings};
 ghost use Rattle.lisa_cli.specs.Statuses.{status_of};
 
 use crate::commands::perform;
-use crate::requests::request;
 use crate::sending::sent_on;
-use crate::telling::tell;
+use command_words::request;
 use lisa_io::{Files, Flush, Sink, Source};
 use lisa_outcomes::{End, Status};
+use refusal_lines::tell;
 use std::alloc::Global;
 
 // The status of a command's end.

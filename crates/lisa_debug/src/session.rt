@@ -149,6 +149,10 @@ impl<E: Engine + Drop> Session<E> {
             (course_of (E.pin_list self.new.engine) (E.item_list self.new.engine) (E.array_list self.new.engine) (E.defined self.new.engine) self.new.schedule) (E.present self.new.engine) self.new.journal
             (length self.old.journal.entries.items + count)) }
     {
+        // the lines of the edges made aren't played again where none is made
+        if count == 0 {
+            return Ok(());
+        }
         let mut next = self.replay();
         for made in 0..count {
             next = self.make_edge(next)?;
@@ -166,6 +170,9 @@ impl<E: Engine + Drop> Session<E> {
             (course_of (E.pin_list self.new.engine) (E.item_list self.new.engine) (E.array_list self.new.engine) (E.defined self.new.engine) self.new.schedule) (E.present self.new.engine) self.new.journal
             (edges_until (is_met (course_of (E.pin_list self.old.engine) (E.item_list self.old.engine) (E.array_list self.old.engine) (E.defined self.old.engine) self.old.schedule) item value) (length self.old.journal.entries.items) count)) }
     {
+        if count == 0 {
+            return Ok(());
+        }
         let mut next = self.replay();
         for made in 0..count {
             if self.engine.value(item) == value {

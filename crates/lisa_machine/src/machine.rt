@@ -77,8 +77,8 @@ impl Machine {
         self.parts.memories[array as usize]
     }
 
-    /// The bits that `reset` gives to a register, by its place among those that are no arrays. A `reset` of more than 4,096 statements isn't
-    /// evaluated.
+    /// The bits that `reset` gives to a register, by its place among those that are no arrays. A `reset` of more than 4,096 statements or
+    /// 4,194,304 nodes isn't evaluated.
     pub fn first(&self, register: u32) -> u64
         requires register { register < length (registers_of (description_tree self.now)) }
         requires short { IsResetShort (description_tree self.now) }

@@ -7,13 +7,15 @@ ghost use Rattle.lisa_machine.specs.Machines.{IsResetShort, AreParts};
 use lisa_engine::{ArrayItem, Item};
 use lisa_tree::Names;
 use lisa_words::NoMemory;
-use machine_parts::{arrays, count_reset, first_values, memories, pins};
+use machine_parts::{arrays, count_reset, count_reset_nodes, first_values, memories, pins};
 use std::alloc::Global;
 
-// A `reset` with more statements isn't evaluated.
-const RESET_LIMIT: u64 = 4096;
+// A `reset` with more statements or nodes isn't evaluated.
+const STATEMENT_LIMIT: u64 = 4096;
 
-/// Arrays, for each whether it is a memory, pins, and the first values of registers, which are left out where `reset` is too long.
+const NODE_LIMIT: u64 = 4_194_304;
+
+/// Arrays, for each whether it is a memory, pins, and the first values of registers, which are left out where `reset` is too large.
 #[derive(Drop)]
 pub struct Parts {
     pub arrays: Vec<ArrayItem>,
@@ -26,8 +28,9 @@ pub struct Parts {
 fn short_firsts<N: Names>(alloc: Global, names: &N) -> Result<Vec<u64>, NoMemory>
     ensures { IfOk result (λ firsts. IsResetShort (N.tree names.now) → firsts.items ≡ first_values (N.tree names.now)) }
 {
-    let count = count_reset(alloc, names)?;
-    if count > RESET_LIMIT {
+    let statements = count_reset(alloc, names)?;
+    let nodes = count_reset_nodes(alloc, names)?;
+    if statements > STATEMENT_LIMIT || nodes > NODE_LIMIT {
         return Ok(Vec::new(alloc));
     }
     let firsts = first_values(alloc, names)?;

@@ -14,6 +14,7 @@ pub mod ImageWhole
 pub mod Puts
 pub mod TermLoop
 pub mod WideLaws
+pub mod SeenLaws
 pub mod LineLoop
 pub mod ObjectStart
 pub mod ObjectLineLaws

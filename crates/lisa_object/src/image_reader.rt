@@ -20,7 +20,7 @@ use crate::words::{
 use lisa_engine::{Image, ImageMemory};
 use lisa_words::Name;
 use std::alloc::Global;
-use std::collections::HashSet;
+use std::collections::BTreeSet;
 use text_lines::cut;
 
 /// How wide and deep a memory is, and how many of its cells an image has.
@@ -109,7 +109,7 @@ fn cells(
     requires { width ≤ 64 }
     ensures { Gives (λ x. (x.0.items, parts_behind 10 (option_copied x.1))) result (cells_of width count (parts_behind 10 (option_copied left.entry))) }
 {
-    let mut cells = Vec::with_capacity(alloc, count as usize)?;
+    let mut cells = Vec::new(alloc);
     let mut rest = left;
     'each: for _ in 0..count {
         let Some(text) = rest else {
@@ -130,7 +130,7 @@ fn cells(
 #[tactic(auto, unfolding(crate::specs::ImageReading::memory_of))]
 fn memory<'a>(
     alloc: Global,
-    seen: &mut HashSet<Name>,
+    seen: &mut BTreeSet<Name>,
     before: u32,
     place: usize,
     line: &[u8],
@@ -166,7 +166,7 @@ fn memories(alloc: Global, left: Option<&[u8]>) -> Result<Vec<ImageMemory>, Stop
     ensures { Gives (λ v. v.items) result (memories_in (parts_behind 10 (option_copied left.entry))) }
 {
     let mut all = Vec::new(alloc);
-    let mut seen = HashSet::new(alloc);
+    let mut seen = BTreeSet::new(alloc);
     let mut before = 0;
     let mut rest = left;
     'each: loop {

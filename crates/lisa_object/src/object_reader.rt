@@ -19,7 +19,7 @@ use crate::rules::{Standing, after, may_follow};
 use crate::words::{enter, is_end, is_last, line_number, opening};
 use lisa_words::Name;
 use std::alloc::Global;
-use std::collections::HashSet;
+use std::collections::BTreeSet;
 use text_lines::cut;
 
 // The name that a line defines, if it does.
@@ -34,7 +34,7 @@ fn defined_name(line: &ObjectLine) -> Option<&[u8]>
 }
 
 // Puts the name that a line defines to those that were seen, and answers whether it is new.
-fn enter_defined(alloc: Global, seen: &mut HashSet<Name>, line: &ObjectLine) -> Result<bool, Stop>
+fn enter_defined(alloc: Global, seen: &mut BTreeSet<Name>, line: &ObjectLine) -> Result<bool, Stop>
     ensures new { (names : List (List ℕ)) → Holds seen.old names → IfOk result (λ new. (new ≡ is_new names (defined (object_line_tree line.now))) × Holds seen.new (defined (object_line_tree line.now) ++ names)) }
     ensures cause { IfErr result (λ e. e ≡ NoMemory) }
 {
@@ -47,7 +47,7 @@ fn enter_defined(alloc: Global, seen: &mut HashSet<Name>, line: &ObjectLine) -> 
 // The line behind others, where so many bytes are left from it on.
 fn next_line(
     alloc: Global,
-    seen: &mut HashSet<Name>,
+    seen: &mut BTreeSet<Name>,
     standing: Standing,
     place: usize,
     line: &[u8],
@@ -70,11 +70,11 @@ fn next_line(
 }
 
 // The lines up to `end`.
-fn lines(alloc: Global, count: usize, left: Option<&[u8]>) -> Result<Vec<ObjectLine>, Stop>
+fn lines(alloc: Global, left: Option<&[u8]>) -> Result<Vec<ObjectLine>, Stop>
     ensures { Gives (λ v. map object_line_tree v.items) result (lines_of start [] (parts_behind 10 (option_copied left.entry))) }
 {
-    let mut all = Vec::with_capacity(alloc, count)?;
-    let mut seen = HashSet::new(alloc);
+    let mut all = Vec::new(alloc);
+    let mut seen = BTreeSet::new(alloc);
     let mut standing = Standing {
         width: 0,
         cell: 0,
@@ -107,8 +107,7 @@ fn whole(alloc: Global, bytes: &[u8]) -> Result<Object, Stop>
     let Some(digest) = opening(b"object", line) else {
         return Err(Stop::Misspelled { left: bytes.len() });
     };
-    let count = bytes.iter().filter(|b| **b == b'\n').count();
-    let lines = lines(alloc, count, left)?;
+    let lines = lines(alloc, left)?;
     Ok(Object { digest, lines })
 }
 

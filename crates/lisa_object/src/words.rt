@@ -12,7 +12,7 @@ ghost use Rattle.lisa_object.specs.Rules.{is_visible, is_visible_byte, is_depth,
 use crate::faults::Stop;
 use lisa_words::{Name, canonical_decimal, canonical_hex};
 use std::alloc::Global;
-use std::collections::HashSet;
+use std::collections::BTreeSet;
 use text_lines::cut;
 
 // The first word, and the words behind it, where there is one.
@@ -174,7 +174,7 @@ pub fn opening(keyword: &[u8], line: &[u8]) -> Option<[u8; 32]>
 }
 
 // Puts a name to those that were seen, and answers whether it is new.
-pub fn enter(alloc: Global, seen: &mut HashSet<Name>, name: &[u8]) -> Result<bool, Stop>
+pub fn enter(alloc: Global, seen: &mut BTreeSet<Name>, name: &[u8]) -> Result<bool, Stop>
     ensures new { (names : List (List ℕ)) → Holds seen.old names → IfOk result (λ new. (new ≡ not (list_any (bytes_eq name.now) names)) × Holds seen.new (name.now ∷ names)) }
     ensures cause { IfErr result (λ e. e ≡ NoMemory) }
 {

@@ -1,4 +1,4 @@
--- What a machine shows, in order of declaration: its arrays, its pins, its registers and what these hold first. And how long its `reset` is.
+-- What a machine shows, in order of declaration: its arrays, its pins, its registers and what these hold first. And how large its `reset` is.
 use Rattle.std.specs.Prelude.{codes, ℕ, ◌-◌, ◌^◌, Bool, true, false, List, filter_map, zip, min, Option, None, Some, option_map}
 use Rattle.lisa_tree.specs.declared.tokens.Shape.{Shape}
 use Rattle.lisa_tree.specs.Statements.{StmtTrees}
@@ -8,7 +8,7 @@ use Rattle.lisa_engine.specs.declared.parts.Item.{Item}
 use Rattle.lisa_engine.specs.declared.parts.ArrayItem.{ArrayItem}
 use Rattle.lisa_tree.specs.Operations.{number_of, behavior_in, sections_at}
 use Rattle.typed_values.specs.Words.{TypedWord}
-use Rattle.typed_values.specs.Counts.{statements_count}
+use Rattle.typed_values.specs.Counts.{statements_count, statements_nodes}
 use Rattle.typed_values.specs.ResetEffects.{reset_moment}
 
 abbrev pub item : Shape → List ℕ → Item
@@ -78,3 +78,11 @@ count_of (Some all) = statements_count all
 -- how many statements `reset` has once its loops are unrolled; 0 where there is none
 abbrev pub reset_count : DescriptionTree → ℕ
 reset_count d = count_of (behavior_of d (number_of d (codes "reset")))
+
+abbrev pub nodes_in : Option StmtTrees → ℕ
+nodes_in None = 0
+nodes_in (Some all) = statements_nodes all
+
+-- how many nodes it has, its statements and those of their expressions
+abbrev pub reset_node_count : DescriptionTree → ℕ
+reset_node_count d = nodes_in (behavior_of d (number_of d (codes "reset")))

@@ -1,15 +1,15 @@
-//! What `reset` gives to the registers, and how long it is.
+//! What `reset` gives to the registers, and how large it is.
 
 ghost use Rattle.std.specs.Prelude.{◌≡◌, ◌-◌, ◌^◌, min, map, zip, filter_map, IfOk};
 ghost use Rattle.lisa_tree.specs.Descriptions.{resource_tree};
 ghost use Rattle.typed_values.specs.Words.{typed_word};
-ghost use Rattle.machine_parts.specs.Parts.{register_bits, first_values, reset_count};
+ghost use Rattle.machine_parts.specs.Parts.{register_bits, first_values, reset_count, reset_node_count};
 
 use description_types::sections;
 use lisa_tree::{Names, Resource, behavior};
 use lisa_words::{Name, NoMemory};
 use std::alloc::Global;
-use typed_values::{Value, count_statements, reset_values};
+use typed_values::{Value, count_nodes, count_statements, reset_values};
 
 // The bits of a resource's value, where it is a register that is no array.
 fn register_bits(resource: &Resource, value: &Value) -> Option<u64>
@@ -49,6 +49,19 @@ pub fn count_reset<N: Names>(alloc: Global, names: &N) -> Result<u64, NoMemory>
     if let Some(number) = names.number_of(&reset) {
         if let Some(all) = behavior(sections(names, number)) {
             return Ok(count_statements(all));
+        }
+    }
+    Ok(0)
+}
+
+/// How many nodes it has then, its statements and those of their expressions, and 2^64 - 1 where there are more. A name is one node.
+pub fn count_reset_nodes<N: Names>(alloc: Global, names: &N) -> Result<u64, NoMemory>
+    ensures { IfOk result (λ count. count ≡ min (reset_node_count (N.tree names.now)) (2 ^ 64 - 1)) }
+{
+    let reset = Name::from_bytes(alloc, b"reset")?;
+    if let Some(number) = names.number_of(&reset) {
+        if let Some(all) = behavior(sections(names, number)) {
+            return Ok(count_nodes(all));
         }
     }
     Ok(0)

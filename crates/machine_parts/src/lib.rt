@@ -5,6 +5,6 @@ mod firsts;
 mod laws;
 mod listing;
 
-pub use firsts::{count_reset, first_values};
+pub use firsts::{count_reset, count_reset_nodes, first_values};
 pub use laws::{arrays_are_told, first_values_fit, registers_have_first_values};
 pub use listing::{arrays, memories, pins};

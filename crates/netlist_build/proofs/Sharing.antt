@@ -28,7 +28,7 @@ use Rattle.netlist_wires.specs.declared.keys.Body.TheVariants.{Copied, Inverse, 
 use Rattle.netlist_wires.specs.declared.keys.Key.{Key}
 use Rattle.netlist_wires.specs.declared.keys.Write.{Write}
 use Rattle.netlist_wires.specs.Tables.{HasDistinctNames}
-use Rattle.netlist_wires.specs.Wiring.{item_name, pin_name, array_name, wire_name, operator_of, named, body_tree, Made, Find, shared, share, behind, load, Sym, nothing, refit, changed, lower, settled, given_once, given, Going, aimed, gone, gone_all, begun_going, ended}
+use Rattle.netlist_wires.specs.Wiring.{item_name, pin_name, array_name, wire_name, operator_of, named, body_tree, Made, Find, shared, share, behind, load, Sym, nothing, refit, changed, settled, is_zero, keeps_right, keeps_left, combined_by, combined, lower, given_once, given, Going, aimed, gone, gone_all, begun_going, ended}
 use Rattle.netlist_wires.proofs.Members.{wire_nets}
 use Rattle.netlist_wires.proofs.Named.{item_names, item_at, array_at, wire_same, free_no_wire, items_apart, arrays_apart, pins_apart, items_no_pins, items_free, pins_free}
 use Rattle.netlist_wires.proofs.Growing.{IsBelow, IsBodyBelow, IsOrdered}
@@ -143,6 +143,20 @@ module _ (find : Find) (finds : Finds find) where
   changed_once (ones.Cut narrow) w f keys once = refit_once (nat_eq narrow w) narrow f keys once
   changed_once (ones.Widen wide) w f keys once = refit_once (nat_eq wide w) wide f keys once
 
+  settled_once : (w : ℕ) (f : Flat) (keys : List Key) → IsOnce keys → IsOnce (settled find w f keys).keys
+  settled_once w (Fixed v b) keys once = once
+  settled_once w (OfItem i) keys once = share_once w (Copied (OfItem i)) keys once
+  settled_once w (OfPin i) keys once = share_once w (Copied (OfPin i)) keys once
+  settled_once w (OfWire k) keys once = once
+
+  combined_by_once : (op : TwoOp) (w : ℕ) (right left : Bool) (f g : Flat) (keys : List Key) → IsOnce keys → IsOnce (combined_by find op w right left f g keys).keys
+  combined_by_once op w true left f g keys once = settled_once w g keys once
+  combined_by_once op w false true f g keys once = settled_once w f keys once
+  combined_by_once op w false false f g keys once = share_once w (Operate op f g) keys once
+
+  combined_once : (op : TwoOp) (w : ℕ) (f g : Flat) (keys : List Key) → IsOnce keys → IsOnce (combined find op w f g keys).keys
+  combined_once op w f g keys once = combined_by_once op w (keeps_right op && is_zero f) (keeps_left op && is_zero g) f g keys once
+
   lower_once : (p : Program) (s : Sym) (e : Expr) (keys : List Key) → IsOnce keys → IsOnce (lower find p s e keys).keys
   lower_once p s (Const w v) keys once = once
   lower_once p s (Now i) keys once = once
@@ -156,18 +170,12 @@ module _ (find : Find) (finds : Finds find) where
   lower_once p s (Two op a b) keys once =
       let x = lower find p s a keys in
       let y = lower find p s b x.keys in
-      share_once (width p (Two op a b)) (Operate op x.flat y.flat) y.keys (lower_once p s b x.keys (lower_once p s a keys once))
+      combined_once op (width p (Two op a b)) x.flat y.flat y.keys (lower_once p s b x.keys (lower_once p s a keys once))
   lower_once p s (Choose t a b) keys once =
       let c = lower find p s t keys in
       let x = lower find p s a c.keys in
       let y = lower find p s b x.keys in
       share_once (width p a) (Select c.flat x.flat y.flat) y.keys (lower_once p s b x.keys (lower_once p s a c.keys (lower_once p s t keys once)))
-
-  settled_once : (w : ℕ) (f : Flat) (keys : List Key) → IsOnce keys → IsOnce (settled find w f keys).keys
-  settled_once w (Fixed v b) keys once = once
-  settled_once w (OfItem i) keys once = share_once w (Copied (OfItem i)) keys once
-  settled_once w (OfPin i) keys once = share_once w (Copied (OfPin i)) keys once
-  settled_once w (OfWire k) keys once = once
 
   given_once_once : (w : ℕ) (zero : Bool) (v old : Flat) (keys : List Key) → IsOnce keys → IsOnce (given_once find w zero v old keys).keys
   given_once_once w true v old keys once = once

@@ -2,7 +2,7 @@
 ghost use Rattle.std.specs.Prelude.{◌≡◌, ◌≤◌, ◌%◌, ◌^◌, IfOk, OnOk, length, reverse, slice_index_or};
 ghost use Rattle.step_program.specs.Programs.{expr_tree, move_of, program_tree};
 ghost use Rattle.step_program.specs.Effects.{width};
-ghost use Rattle.netlist_wires.specs.Wiring.{share, behind, load, nothing, refit, changed, lower, settled, given_once, given, gone, gone_all, begun_going};
+ghost use Rattle.netlist_wires.specs.Wiring.{share, behind, load, nothing, refit, changed, settled, is_zero, keeps_right, keeps_left, combined, lower, given_once, given, gone, gone_all, begun_going};
 ghost use Rattle.netlist_build.specs.Symbolic.{sym_of, first, made, going};
 
 use crate::symbols::{Operand, Symbols};
@@ -105,6 +105,68 @@ fn now(flats: &[Flat], place: u32) -> Flat
     }
 }
 
+// A number or a wire, where the operand may be a name that stands for something else.
+fn settle(keys: &mut IndexSet<Key>, width: u32, flat: Flat) -> Result<Flat, AllocError>
+    ensures flat { IfOk result (λ settled_flat. settled_flat ≡ (settled (first ⟦<Key as PartialEq>⟧.eq) width flat keys.old.keys).flat) }
+    ensures keys { OnOk result (keys.new.keys ≡ (settled (first ⟦<Key as PartialEq>⟧.eq) width flat keys.old.keys).keys) }
+{
+    match flat {
+        Flat::Fixed(_, _) | Flat::OfWire(_) => Ok(flat),
+        Flat::OfItem(_) | Flat::OfPin(_) => share(keys, width, Body::Copied(flat)),
+    }
+}
+
+fn is_zero(flat: Flat) -> bool
+    ensures { result ≡ is_zero flat }
+{
+    match flat {
+        Flat::Fixed(_, bits) => bits == 0,
+        Flat::OfItem(_) | Flat::OfPin(_) | Flat::OfWire(_) => false,
+    }
+}
+
+// Whether an operator leaves its right operand as it is behind 0.
+fn keeps_right(two: TwoOp) -> bool
+    ensures { result ≡ keeps_right two }
+{
+    match two {
+        TwoOp::Add | TwoOp::Or | TwoOp::Xor => true,
+        TwoOp::Sub | TwoOp::Mul | TwoOp::And | TwoOp::Shl => false,
+        TwoOp::Shr | TwoOp::Equal | TwoOp::Less => false,
+    }
+}
+
+// Whether an operator leaves its left operand as it is before 0.
+fn keeps_left(two: TwoOp) -> bool
+    ensures { result ≡ keeps_left two }
+{
+    match two {
+        TwoOp::Add | TwoOp::Sub | TwoOp::Or | TwoOp::Xor => true,
+        TwoOp::Shl | TwoOp::Shr => true,
+        TwoOp::Mul | TwoOp::And | TwoOp::Equal | TwoOp::Less => false,
+    }
+}
+
+// What an operator makes of two operands.
+fn combine(
+    keys: &mut IndexSet<Key>,
+    two: TwoOp,
+    width: u32,
+    left: Flat,
+    right: Flat,
+) -> Result<Flat, AllocError>
+    ensures flat { IfOk result (λ flat. flat ≡ (combined (first ⟦<Key as PartialEq>⟧.eq) two width left right keys.old.keys).flat) }
+    ensures keys { OnOk result (keys.new.keys ≡ (combined (first ⟦<Key as PartialEq>⟧.eq) two width left right keys.old.keys).keys) }
+{
+    if keeps_right(two) && is_zero(left) {
+        return settle(keys, width, right);
+    }
+    if keeps_left(two) && is_zero(right) {
+        return settle(keys, width, left);
+    }
+    share(keys, width, Body::Operate(two, left, right))
+}
+
 // The operand that an expression is.
 fn lower(
     program: &StepProgram,
@@ -153,7 +215,7 @@ fn lower(
             let left = lower(program, symbols, keys, a)?;
             let right = lower(program, symbols, keys, b)?;
             let width = two_width(*two, left.width);
-            let flat = share(keys, width, Body::Operate(*two, left.flat, right.flat))?;
+            let flat = combine(keys, *two, width, left.flat, right.flat)?;
             Ok(Operand { flat, width })
         }
         StepExpr::Choose(test, this, other) => {
@@ -164,17 +226,6 @@ fn lower(
             let flat = share(keys, width, Body::Select(test.flat, this.flat, other.flat))?;
             Ok(Operand { flat, width })
         }
-    }
-}
-
-// A number or a wire, where the operand may be a name that stands for something else.
-fn settle(keys: &mut IndexSet<Key>, width: u32, flat: Flat) -> Result<Flat, AllocError>
-    ensures flat { IfOk result (λ settled_flat. settled_flat ≡ (settled (first ⟦<Key as PartialEq>⟧.eq) width flat keys.old.keys).flat) }
-    ensures keys { OnOk result (keys.new.keys ≡ (settled (first ⟦<Key as PartialEq>⟧.eq) width flat keys.old.keys).keys) }
-{
-    match flat {
-        Flat::Fixed(_, _) | Flat::OfWire(_) => Ok(flat),
-        Flat::OfItem(_) | Flat::OfPin(_) => share(keys, width, Body::Copied(flat)),
     }
 }
 

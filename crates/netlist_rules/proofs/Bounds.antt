@@ -1,5 +1,5 @@
 -- The text of a program's module is no longer than stated.
-use Rattle.std.proofs.Common.{◌≡◌, ℕ, zero, suc, ◌+◌, ◌*◌, ◌-◌, ◌%◌, ◌^◌, ◌<◌, ◌≤◌, Bool, true, false, List, [], ◌∷◌, ◌++◌, length, map, refl, sym, ap, ◌∙◌, subst, arith, nat_eq, cond, Option, Some, None, length-append, codes, if◌then◌else◌}
+use Rattle.std.proofs.Common.{◌≡◌, ℕ, zero, suc, ◌+◌, ◌*◌, ◌-◌, ◌%◌, ◌^◌, ◌<◌, ◌≤◌, Bool, true, false, ◌&&◌, List, [], ◌∷◌, ◌++◌, length, map, refl, sym, ap, ◌∙◌, subst, arith, nat_eq, cond, Option, Some, None, length-append, codes, if◌then◌else◌}
 use Rattle.std.specs.Prelude.{flat_map, slice_index_or, slice_set}
 use Rattle.std.specs.List.{slice_get}
 use Rattle.std.specs.Fmt.{decimal}
@@ -34,7 +34,7 @@ use Rattle.netlist_wires.specs.declared.keys.Key.{Key}
 use Rattle.netlist_wires.specs.declared.keys.Write.{Write}
 use Rattle.netlist_wires.specs.Tables.{program_names}
 use Rattle.netlist_wires.specs.Costs.{writes_to, arrays_after}
-use Rattle.netlist_wires.specs.Wiring.{item_name, pin_name, array_name, wire_name, operator_of, named, body_tree, Made, Find, shared, share, behind, load, Sym, nothing, refit, changed, lower, settled, given_once, given, Going, aimed, gone, gone_all, wires_from, set_items, put_cell, put_cells, actions, first_settings, clock_name, reg_members, array_members, module_at}
+use Rattle.netlist_wires.specs.Wiring.{item_name, pin_name, array_name, wire_name, operator_of, named, body_tree, Made, Find, shared, share, behind, load, Sym, nothing, refit, changed, settled, is_zero, keeps_right, keeps_left, combined_by, combined, lower, given_once, given, Going, aimed, gone, gone_all, wires_from, set_items, put_cell, put_cells, actions, first_settings, clock_name, reg_members, array_members, module_at}
 use Rattle.netlist_wires.proofs.Named.{item_names, array_names}
 use Rattle.netlist_wires.proofs.Growing.{IsBelow, IsBodyBelow, IsOrdered}
 use Rattle.netlist_rules.proofs.Lengths.{toks_size, toks_size-append}
@@ -200,6 +200,40 @@ module _ (find : Find) (most : ℕ) (least : 25 ≤ most) where
   refit_flat false to n (OfPin i) keys h = omega (arith, share_wire to (Copied (OfPin i)) keys)
   refit_flat false to n (OfWire k) keys h = omega (arith, share_wire to (Copied (OfWire k)) keys)
 
+  -- ---- operands that are held, and operands of two
+
+  settled_is : (w : ℕ) (f : Flat) (keys : List Key) → IsSettled (settled find w f keys).flat
+  settled_is w (Fixed v b) keys = tt
+  settled_is w (OfItem i) keys = share_settled w (Copied (OfItem i)) keys
+  settled_is w (OfPin i) keys = share_settled w (Copied (OfPin i)) keys
+  settled_is w (OfWire k) keys = tt
+
+  settled_any : (w : ℕ) (f : Flat) (keys : List Key) → keys_most most (settled find w f keys).keys ≤ keys_most most keys + (frame_most + flat_most most f)
+  settled_any w (Fixed v b) keys = omega arith
+  settled_any w (OfItem i) keys = share_short w (Copied (OfItem i)) keys
+  settled_any w (OfPin i) keys = share_short w (Copied (OfPin i)) keys
+  settled_any w (OfWire k) keys = omega arith
+
+  settled_short : (w : ℕ) (f : Flat) (keys : List Key) → keys_most most (settled find w f keys).keys ≤ keys_most most keys + (frame_most + name_most most)
+  settled_short w f keys = omega (arith, settled_any w f keys, flat_small f)
+
+  combined_by_settled : (op : TwoOp) (w : ℕ) (right left : Bool) (f g : Flat) (keys : List Key) → IsSettled (combined_by find op w right left f g keys).flat
+  combined_by_settled op w true left f g keys = settled_is w g keys
+  combined_by_settled op w false true f g keys = settled_is w f keys
+  combined_by_settled op w false false f g keys = share_settled w (Operate op f g) keys
+
+  combined_settled : (op : TwoOp) (w : ℕ) (f g : Flat) (keys : List Key) → IsSettled (combined find op w f g keys).flat
+  combined_settled op w f g keys = combined_by_settled op w (keeps_right op && is_zero f) (keeps_left op && is_zero g) f g keys
+
+  combined_by_short : (op : TwoOp) (w : ℕ) (right left : Bool) (f g : Flat) (keys : List Key)
+      → keys_most most (combined_by find op w right left f g keys).keys ≤ keys_most most keys + (frame_most + 3 + flat_most most f + flat_most most g)
+  combined_by_short op w true left f g keys = omega (arith, settled_any w g keys)
+  combined_by_short op w false true f g keys = omega (arith, settled_any w f keys)
+  combined_by_short op w false false f g keys = omega (arith, share_short w (Operate op f g) keys)
+
+  combined_short : (op : TwoOp) (w : ℕ) (f g : Flat) (keys : List Key) → keys_most most (combined find op w f g keys).keys ≤ keys_most most keys + (frame_most + 3 + flat_most most f + flat_most most g)
+  combined_short op w f g keys = combined_by_short op w (keeps_right op && is_zero f) (keeps_left op && is_zero g) f g keys
+
   -- ---- expressions
 
   lower_flat : (p : Program) (s : Sym) (e : Expr) (keys : List Key) → AreSettled s.temps → flat_most most (lower find p s e keys).flat ≤ operand_most p most e
@@ -218,7 +252,7 @@ module _ (find : Find) (most : ℕ) (least : 25 ≤ most) where
   lower_flat p s (Two op a b) keys ok =
       let x = lower find p s a keys in
       let y = lower find p s b x.keys in
-      omega (arith, share_wire (width p (Two op a b)) (Operate op x.flat y.flat) y.keys)
+      settled_small (combined find op (width p (Two op a b)) x.flat y.flat y.keys).flat (combined_settled op (width p (Two op a b)) x.flat y.flat y.keys)
   lower_flat p s (Choose t a b) keys ok =
       let c = lower find p s t keys in
       let x = lower find p s a c.keys in
@@ -238,7 +272,7 @@ module _ (find : Find) (most : ℕ) (least : 25 ≤ most) where
   lower_short p s (Two op a b) keys ok =
       let x = lower find p s a keys in
       let y = lower find p s b x.keys in
-      omega (arith, lower_short p s a keys ok, lower_short p s b x.keys ok, lower_flat p s a keys ok, lower_flat p s b x.keys ok, share_short (width p (Two op a b)) (Operate op x.flat y.flat) y.keys)
+      omega (arith, lower_short p s a keys ok, lower_short p s b x.keys ok, lower_flat p s a keys ok, lower_flat p s b x.keys ok, combined_short op (width p (Two op a b)) x.flat y.flat y.keys)
   lower_short p s (Choose t a b) keys ok =
       let c = lower find p s t keys in
       let x = lower find p s a c.keys in
@@ -246,12 +280,6 @@ module _ (find : Find) (most : ℕ) (least : 25 ≤ most) where
       omega (arith, lower_short p s t keys ok, lower_short p s a c.keys ok, lower_short p s b x.keys ok, lower_flat p s t keys ok, lower_flat p s a c.keys ok, lower_flat p s b x.keys ok, share_short (width p a) (Select c.flat x.flat y.flat) y.keys)
 
   -- ---- what targets hold
-
-  settled_is : (w : ℕ) (f : Flat) (keys : List Key) → IsSettled (settled find w f keys).flat
-  settled_is w (Fixed v b) keys = tt
-  settled_is w (OfItem i) keys = share_settled w (Copied (OfItem i)) keys
-  settled_is w (OfPin i) keys = share_settled w (Copied (OfPin i)) keys
-  settled_is w (OfWire k) keys = tt
 
   given_once_is : (w : ℕ) (zero : Bool) (v old : Flat) (keys : List Key) → IsSettled old → IsSettled (given_once find w zero v old keys).flat
   given_once_is w true v old keys is = is
@@ -269,12 +297,6 @@ module _ (find : Find) (most : ℕ) (least : 25 ≤ most) where
   settled_free w n (OfItem i) keys is = absurd is
   settled_free w n (OfPin i) keys is = absurd is
   settled_free w n (OfWire k) keys is = omega arith
-
-  settled_short : (w : ℕ) (f : Flat) (keys : List Key) → keys_most most (settled find w f keys).keys ≤ keys_most most keys + (frame_most + name_most most)
-  settled_short w (Fixed v b) keys = omega arith
-  settled_short w (OfItem i) keys = share_short w (Copied (OfItem i)) keys
-  settled_short w (OfPin i) keys = share_short w (Copied (OfPin i)) keys
-  settled_short w (OfWire k) keys = omega arith
 
   -- what is cut or extended is a number or a wire, but where its width stays
   refit_held : (same : Bool) (to w n : ℕ) (f : Flat) (keys now : List Key) → keys_most most (settled find w f now).keys ≤ keys_most most now + n
@@ -303,7 +325,7 @@ module _ (find : Find) (most : ℕ) (least : 25 ≤ most) where
   lower_held p s (Two op a b) w keys now ok =
       let x = lower find p s a keys in
       let y = lower find p s b x.keys in
-      settled_free w 0 (share find (width p (Two op a b)) (Operate op x.flat y.flat) y.keys).flat now (share_settled (width p (Two op a b)) (Operate op x.flat y.flat) y.keys)
+      settled_free w 0 (combined find op (width p (Two op a b)) x.flat y.flat y.keys).flat now (combined_settled op (width p (Two op a b)) x.flat y.flat y.keys)
   lower_held p s (Choose t a b) w keys now ok =
       let c = lower find p s t keys in
       let x = lower find p s a c.keys in
@@ -317,13 +339,7 @@ module _ (find : Find) (most : ℕ) (least : 25 ≤ most) where
 
   -- a guard of any kind, where the value and what was there are so long
   given_any : (w : ℕ) (g v old : Flat) (keys : List Key) → keys_most most (given find w g v old keys).keys ≤ keys_most most keys + (frame_most + 4 + flat_most most g + flat_most most v + flat_most most old)
-  given_any w (Fixed u n) v old keys = given_once_short w (frame_most + 4 + number_most + flat_most most v + flat_most most old) (nat_eq n 0) v old keys (held v)
-    where
-      held : (v : Flat) → keys_most most (settled find w v keys).keys ≤ keys_most most keys + (frame_most + 4 + number_most + flat_most most v + flat_most most old)
-      held (Fixed u n) = omega arith
-      held (OfItem i) = omega (arith, share_short w (Copied (OfItem i)) keys)
-      held (OfPin i) = omega (arith, share_short w (Copied (OfPin i)) keys)
-      held (OfWire k) = omega arith
+  given_any w (Fixed u n) v old keys = given_once_short w (frame_most + 4 + number_most + flat_most most v + flat_most most old) (nat_eq n 0) v old keys (omega (arith, settled_any w v keys))
   given_any w (OfItem i) v old keys = omega (arith, share_short w (Select (OfItem i) v old) keys)
   given_any w (OfPin i) v old keys = omega (arith, share_short w (Select (OfPin i) v old) keys)
   given_any w (OfWire k) v old keys = omega (arith, share_short w (Select (OfWire k) v old) keys)

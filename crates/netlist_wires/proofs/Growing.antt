@@ -1,5 +1,5 @@
 -- As wires are made, each reads what is there, and each operand is as wide as what it stands for; and how many there are.
-use Rattle.std.proofs.Common.{◌≡◌, ℕ, zero, suc, ◌+◌, ◌*◌, ◌^◌, ◌<◌, ◌≤◌, Bool, true, false, List, [], ◌∷◌, ◌++◌, length, map, refl, sym, ap, ◌∙◌, subst, arith, nat_eq, cond, length-append, ◌⊎◌, inl, inr, Option, Some, None}
+use Rattle.std.proofs.Common.{◌≡◌, ℕ, zero, suc, ◌+◌, ◌*◌, ◌^◌, ◌<◌, ◌≤◌, Bool, true, false, ◌&&◌, List, [], ◌∷◌, ◌++◌, length, map, refl, sym, ap, ◌∙◌, subst, arith, nat_eq, cond, length-append, ◌⊎◌, inl, inr, Option, Some, None}
 use Rattle.std.specs.Prelude.{All, slice_index, slice_index_or, slice_set}
 use Rattle.std.specs.List.{slice_get}
 use Rattle.std.specs.Option.{option_map}
@@ -16,7 +16,7 @@ use Rattle.step_program.specs.declared.expressions.TwoOp.{TwoOp}
 use Rattle.step_program.specs.declared.expressions.TwoOp.TheVariants as ops
 use Rattle.step_program.specs.Programs.{Expr, Const, Now, Before, Pin, Temp, Cell, One, Two, Choose, Aim, ToItem, ToTemp, ToCell, Move, Program}
 use Rattle.step_program.specs.Effects.{item_width, pin_width, array_width, array_depth, one_width, two_width, width}
-use Rattle.step_program.specs.WellFormed.{IsWidth, FitsOne, IsFit, IsAimed, IsMove, IsWellFormed}
+use Rattle.step_program.specs.WellFormed.{IsWidth, FitsOne, FitsTwo, IsFit, IsAimed, IsMove, IsWellFormed}
 use Rattle.step_program.proofs.Fits.{one_below}
 use Rattle.netlist_wires.specs.declared.keys.Flat.{Flat}
 use Rattle.netlist_wires.specs.declared.keys.Flat.TheVariants.{Fixed, OfItem, OfPin, OfWire}
@@ -26,8 +26,9 @@ use Rattle.netlist_wires.specs.declared.keys.Key.{Key}
 use Rattle.netlist_wires.specs.declared.keys.Write.{Write}
 use Rattle.netlist_wires.specs.Tables.{IsFind}
 use Rattle.netlist_wires.specs.Costs.{writes_to, expr_cost, aim_cost, arrays_after, move_cost, moves_cost}
-use Rattle.netlist_wires.specs.Wiring.{Made, Find, shared, share, behind, load, Sym, nothing, refit, changed, lower, settled, given_once, given, Going, aimed, gone, gone_all, own_items, begun_going}
+use Rattle.netlist_wires.specs.Wiring.{Made, Find, shared, share, behind, load, Sym, nothing, refit, changed, settled, is_zero, keeps_right, keeps_left, combined_by, combined, lower, given_once, given, Going, aimed, gone, gone_all, own_items, begun_going}
 use Rattle.netlist_wires.proofs.Longer.{IsLonger, same_longer, then_longer, longer_length}
+use Rattle.netlist_wires.proofs.Kept.{both_true, left_width, right_width}
 use Rattle.netlist_wires.proofs.Meanings.{at_end}
 
 -- ---- operands that are there
@@ -295,6 +296,22 @@ module _ (p : Program) (formed : IsWellFormed p) where
     changed_grown (ones.Cut narrow) w f keys small sound = refit_grown (nat_eq narrow w) narrow w f keys refl small sound
     changed_grown (ones.Widen wide) w f keys small sound = refit_grown (nat_eq wide w) wide w f keys refl small sound
 
+    settled_grown : (w : ℕ) (f : Flat) (keys : List Key) → IsWidth w → IsSound p keys f w → Grown p keys (settled find w f keys) 1 w
+    settled_grown w (Fixed v b) keys small sound = record { longer = same_longer keys; few = omega arith; ordered = λ h. h; sound = sound }
+    settled_grown w (OfItem i) keys small sound = share_grown w (Copied (OfItem i)) keys small sound.below tt
+    settled_grown w (OfPin i) keys small sound = share_grown w (Copied (OfPin i)) keys small sound.below tt
+    settled_grown w (OfWire k) keys small sound = record { longer = same_longer keys; few = omega arith; ordered = λ h. h; sound = sound }
+
+    combined_by_grown : (op : TwoOp) (w v : ℕ) (right left : Bool) (f g : Flat) (keys : List Key) → (keeps_right op && is_zero f) ≡ right → (keeps_left op && is_zero g) ≡ left → IsWidth (two_width op w) → FitsTwo op w v
+        → IsSound p keys f w → IsSound p keys g v → Grown p keys (combined_by find op (two_width op w) right left f g keys) 1 (two_width op w)
+    combined_by_grown op w v true left f g keys is_r is_l small fit sf sg = settled_grown (two_width op w) g keys small (subst (IsSound p keys g) (right_width op w v (both_true is_r).0 fit) sg)
+    combined_by_grown op w v false true f g keys is_r is_l small fit sf sg = settled_grown (two_width op w) f keys small (subst (IsSound p keys f) (left_width op w (both_true is_l).0) sf)
+    combined_by_grown op w v false false f g keys is_r is_l small fit sf sg = share_grown (two_width op w) (Operate op f g) keys small (sf.below, sg.below) tt
+
+    combined_grown : (op : TwoOp) (w v : ℕ) (f g : Flat) (keys : List Key) → IsWidth (two_width op w) → FitsTwo op w v → IsSound p keys f w → IsSound p keys g v
+        → Grown p keys (combined find op (two_width op w) f g keys) 1 (two_width op w)
+    combined_grown op w v f g keys small fit sf sg = combined_by_grown op w v (keeps_right op && is_zero f) (keeps_left op && is_zero g) f g keys refl refl small fit sf sg
+
     pub lower_grown : (s : Sym) (e : Expr) (keys : List Key) → IsSymSound keys s → IsFit p e → Grown p keys (lower find p s e keys) (expr_cost (arrays_of s.writes) e) (width p e)
     lower_grown s (Const w v) keys b fit = record { longer = same_longer keys; few = omega arith; ordered = λ h. h; sound = record { below = fit; wide = refl } }
     lower_grown s (Now i) keys b fit = record { longer = same_longer keys; few = omega arith; ordered = λ h. h; sound = b.items i fit }
@@ -317,9 +334,8 @@ module _ (p : Program) (formed : IsWellFormed p) where
         let y = lower find p s b x.keys in
         let gx : Grown p keys x (expr_cost arrays a) (width p a) = lower_grown s a keys bs fit.0 in
         let gy : Grown p x.keys y (expr_cost arrays b) (width p b) = lower_grown s b x.keys (sym_on s gx.longer bs) fit.1 in
-        let out = share find (width p (Two op a b)) (Operate op x.flat y.flat) y.keys in
-        let go : Grown p y.keys out 1 (width p (Two op a b)) = share_grown (width p (Two op a b)) (Operate op x.flat y.flat) y.keys (fit_small (Two op a b) fit)
-        (below_on p (length x.keys) (length y.keys) x.flat (longer_length gy.longer) gx.sound.below, gy.sound.below) tt in
+        let out = combined find op (width p (Two op a b)) x.flat y.flat y.keys in
+        let go : Grown p y.keys out 1 (width p (Two op a b)) = combined_grown op (width p a) (width p b) x.flat y.flat y.keys (fit_small (Two op a b) fit) fit.2 (sound_on p x.flat (width p a) gy.longer gx.sound) gy.sound in
         then_grown p keys x out gx (then_grown p x.keys y out gy go)
     lower_grown s (Choose t a b) keys bs fit =
         let arrays = arrays_of s.writes in
@@ -352,12 +368,6 @@ module _ (p : Program) (formed : IsWellFormed p) where
           (subst (λ (g : Flat). IsSound p keys g (slice_index ws i)) (sym (get_or-set_same fs i f nothing (omega (arith, many, less)))) new)
       | inr other ↦ subst (λ (g : Flat). IsSound p keys g (slice_index ws j)) (sym (get_or-set_other fs i j f nothing other)) (all j h)
     ]
-
-    settled_grown : (w : ℕ) (f : Flat) (keys : List Key) → IsWidth w → IsSound p keys f w → Grown p keys (settled find w f keys) 1 w
-    settled_grown w (Fixed v b) keys small sound = record { longer = same_longer keys; few = omega arith; ordered = λ h. h; sound = sound }
-    settled_grown w (OfItem i) keys small sound = share_grown w (Copied (OfItem i)) keys small sound.below tt
-    settled_grown w (OfPin i) keys small sound = share_grown w (Copied (OfPin i)) keys small sound.below tt
-    settled_grown w (OfWire k) keys small sound = record { longer = same_longer keys; few = omega arith; ordered = λ h. h; sound = sound }
 
     given_once_grown : (w : ℕ) (zero : Bool) (v old : Flat) (keys : List Key) → IsWidth w → IsSound p keys v w → IsSound p keys old w → Grown p keys (given_once find w zero v old keys) 1 w
     given_once_grown w true v old keys small bv bold = record { longer = same_longer keys; few = omega arith; ordered = λ h. h; sound = bold }

@@ -1,5 +1,6 @@
 pub mod Longer
 pub mod Operands
+pub mod Kept
 pub mod Meanings
 pub mod Members
 pub mod Named

@@ -1,11 +1,12 @@
 -- Keys are only added, behind the others.
-use Rattle.std.proofs.Common.{◌≡◌, ℕ, ◌<◌, ◌≤◌, Bool, true, false, List, [], ◌∷◌, ◌++◌, length, refl, sym, ap, ◌∙◌, arith, append_assoc, length-append, nat_eq, Option, Some, None}
+use Rattle.std.proofs.Common.{◌≡◌, ℕ, ◌<◌, ◌≤◌, Bool, true, false, ◌&&◌, List, [], ◌∷◌, ◌++◌, length, refl, sym, ap, ◌∙◌, arith, append_assoc, length-append, nat_eq, Option, Some, None}
 use Rattle.std.specs.List.{slice_get}
 use Rattle.std.specs.Prelude.{slice_index_or}
 use Rattle.std.proofs.lemmas.List.{append-nil, get_or_append_left}
 use Rattle.std.proofs.lemmas.Option.{slice_get_within, slice_get-get_or, get_or_from_slice_get}
 use Rattle.step_program.specs.declared.expressions.OneOp.{OneOp}
 use Rattle.step_program.specs.declared.expressions.OneOp.TheVariants as ones
+use Rattle.step_program.specs.declared.expressions.TwoOp.{TwoOp}
 use Rattle.step_program.specs.declared.expressions.TwoOp.TheVariants as ops
 use Rattle.step_program.specs.Programs.{Expr, Const, Now, Before, Pin, Temp, Cell, One, Two, Choose, Aim, ToItem, ToTemp, ToCell, Move, Program}
 use Rattle.step_program.specs.Effects.{array_width, width}
@@ -15,7 +16,7 @@ use Rattle.netlist_wires.specs.declared.keys.Body.{Body}
 use Rattle.netlist_wires.specs.declared.keys.Body.TheVariants.{Copied, Inverse, Load, Operate, Select}
 use Rattle.netlist_wires.specs.declared.keys.Key.{Key}
 use Rattle.netlist_wires.specs.declared.keys.Write.{Write}
-use Rattle.netlist_wires.specs.Wiring.{Made, Find, shared, share, behind, load, Sym, nothing, refit, changed, lower, settled, given_once, given, Going, aimed, gone, gone_all}
+use Rattle.netlist_wires.specs.Wiring.{Made, Find, shared, share, behind, load, Sym, nothing, refit, changed, settled, is_zero, keeps_right, keeps_left, combined_by, combined, lower, given_once, given, Going, aimed, gone, gone_all}
 
 pub record IsLonger (keys now : List Key) : Type 0 where
   pub more : List Key
@@ -72,6 +73,20 @@ module _ (find : Find) where
   changed_longer (ones.Cut narrow) w f keys = refit_longer (nat_eq narrow w) narrow f keys
   changed_longer (ones.Widen wide) w f keys = refit_longer (nat_eq wide w) wide f keys
 
+  pub settled_longer : (w : ℕ) (f : Flat) (keys : List Key) → IsLonger keys (settled find w f keys).keys
+  settled_longer w (Fixed v b) keys = same_longer keys
+  settled_longer w (OfItem i) keys = share_longer w (Copied (OfItem i)) keys
+  settled_longer w (OfPin i) keys = share_longer w (Copied (OfPin i)) keys
+  settled_longer w (OfWire k) keys = same_longer keys
+
+  combined_by_longer : (op : TwoOp) (w : ℕ) (right left : Bool) (f g : Flat) (keys : List Key) → IsLonger keys (combined_by find op w right left f g keys).keys
+  combined_by_longer op w true left f g keys = settled_longer w g keys
+  combined_by_longer op w false true f g keys = settled_longer w f keys
+  combined_by_longer op w false false f g keys = share_longer w (Operate op f g) keys
+
+  pub combined_longer : (op : TwoOp) (w : ℕ) (f g : Flat) (keys : List Key) → IsLonger keys (combined find op w f g keys).keys
+  combined_longer op w f g keys = combined_by_longer op w (keeps_right op && is_zero f) (keeps_left op && is_zero g) f g keys
+
   pub lower_longer : (p : Program) (s : Sym) (e : Expr) (keys : List Key) → IsLonger keys (lower find p s e keys).keys
   lower_longer p s (Const w v) keys = same_longer keys
   lower_longer p s (Now i) keys = same_longer keys
@@ -85,19 +100,13 @@ module _ (find : Find) where
   lower_longer p s (Two op a b) keys =
       let x = lower find p s a keys in
       let y = lower find p s b x.keys in
-      then_longer (lower_longer p s a keys) (then_longer (lower_longer p s b x.keys) (share_longer (width p (Two op a b)) (Operate op x.flat y.flat) y.keys))
+      then_longer (lower_longer p s a keys) (then_longer (lower_longer p s b x.keys) (combined_longer op (width p (Two op a b)) x.flat y.flat y.keys))
   lower_longer p s (Choose t a b) keys =
       let c = lower find p s t keys in
       let x = lower find p s a c.keys in
       let y = lower find p s b x.keys in
       then_longer (lower_longer p s t keys)
       (then_longer (lower_longer p s a c.keys) (then_longer (lower_longer p s b x.keys) (share_longer (width p a) (Select c.flat x.flat y.flat) y.keys)))
-
-  pub settled_longer : (w : ℕ) (f : Flat) (keys : List Key) → IsLonger keys (settled find w f keys).keys
-  settled_longer w (Fixed v b) keys = same_longer keys
-  settled_longer w (OfItem i) keys = share_longer w (Copied (OfItem i)) keys
-  settled_longer w (OfPin i) keys = share_longer w (Copied (OfPin i)) keys
-  settled_longer w (OfWire k) keys = same_longer keys
 
   given_once_longer : (w : ℕ) (zero : Bool) (v old : Flat) (keys : List Key) → IsLonger keys (given_once find w zero v old keys).keys
   given_once_longer w true v old keys = same_longer keys

@@ -1,5 +1,5 @@
 -- What is made stands for the present values.
-use Rattle.std.proofs.Common.{◌≡◌, ℕ, suc, ◌%◌, ◌^◌, ◌<◌, Bool, true, false, List, [], ◌∷◌, ◌++◌, length, map, refl, sym, ap, ap₂, ◌∙◌, subst, arith, nat_eq, cond, append_assoc, length-append, Option, Some, None}
+use Rattle.std.proofs.Common.{◌≡◌, ℕ, suc, ◌%◌, ◌^◌, ◌<◌, Bool, true, false, ◌&&◌, List, [], ◌∷◌, ◌++◌, length, map, refl, sym, ap, ap₂, ◌∙◌, subst, arith, nat_eq, cond, append_assoc, length-append, Option, Some, None}
 use Rattle.std.specs.Prelude.{fold, slice_index, slice_index_or, slice_set, All}
 use Rattle.std.specs.List.{slice_get}
 use Rattle.std.proofs.lemmas.Bool.{eqb-true, eqb-false}
@@ -16,11 +16,12 @@ use Rattle.lisa_engine.specs.declared.parts.ArrayItem.{ArrayItem}
 use Rattle.verilog_text.specs.Values.{Env, truth, assigned}
 use Rattle.step_program.specs.declared.expressions.OneOp.{OneOp}
 use Rattle.step_program.specs.declared.expressions.OneOp.TheVariants as ones
+use Rattle.step_program.specs.declared.expressions.TwoOp.{TwoOp}
 use Rattle.step_program.specs.declared.expressions.TwoOp.TheVariants as ops
 use Rattle.step_program.specs.Programs.{Expr, Const, Now, Before, Pin, Temp, Cell, One, Two, Choose, Aim, ToItem, ToTemp, ToCell, Move, Program}
-use Rattle.step_program.specs.Effects.{item_width, pin_width, array_width, array_depth, one_width, width, Moment, one_value, two_value, chosen, value, taken, effect, begun}
+use Rattle.step_program.specs.Effects.{item_width, pin_width, array_width, array_depth, one_width, two_width, width, Moment, one_value, two_value, chosen, value, taken, effect, begun}
 use Rattle.step_program.specs.WellFormed.{FitsTwo, IsFit, IsAimed, IsMove}
-use Rattle.step_program.proofs.Fits.{IsWithin, AreWithin, widths, array_widths, array_depths, cells_set, IsNow, value_below, effect_now, chosen_both, read_map}
+use Rattle.step_program.proofs.Fits.{IsWithin, AreWithin, widths, array_widths, array_depths, cells_set, IsNow, two_below, value_below, effect_now, chosen_both, read_map}
 use Rattle.netlist_wires.specs.declared.keys.Flat.{Flat}
 use Rattle.netlist_wires.specs.declared.keys.Flat.TheVariants.{Fixed, OfItem, OfPin, OfWire}
 use Rattle.netlist_wires.specs.declared.keys.Body.{Body}
@@ -28,9 +29,10 @@ use Rattle.netlist_wires.specs.declared.keys.Body.TheVariants.{Copied, Inverse, 
 use Rattle.netlist_wires.specs.declared.keys.Key.{Key}
 use Rattle.netlist_wires.specs.declared.keys.Write.{Write}
 use Rattle.netlist_wires.specs.Tables.{IsFind}
-use Rattle.netlist_wires.specs.Wiring.{item_name, pin_name, array_name, wire_name, body_tree, Made, Find, shared, share, behind, load, Sym, nothing, refit, changed, lower, settled, given_once, given, Going, aimed, gone, gone_all, own_items, begun_going}
-use Rattle.netlist_wires.proofs.Longer.{IsLonger, longer_get, share_longer, load_longer, changed_longer, lower_longer, aimed_longer, all_longer}
+use Rattle.netlist_wires.specs.Wiring.{item_name, pin_name, array_name, wire_name, body_tree, Made, Find, shared, share, behind, load, Sym, nothing, refit, changed, settled, is_zero, keeps_right, keeps_left, combined_by, combined, lower, given_once, given, Going, aimed, gone, gone_all, own_items, begun_going}
+use Rattle.netlist_wires.proofs.Longer.{IsLonger, longer_get, share_longer, load_longer, changed_longer, combined_longer, lower_longer, aimed_longer, all_longer}
 use Rattle.netlist_wires.proofs.Operands.{means, wide, copied, inverted, two_done, equal_done, load_done, select_done, picked}
+use Rattle.netlist_wires.proofs.Kept.{both_true, left_width, right_width, left_value, right_value, zero_means}
 
 -- what an edge's meaning of names tells of the program's items, pins and arrays
 pub record Knows (p : Program) (old : State) (pins : List ℕ) (env : Env) : Type 0 where
@@ -206,6 +208,39 @@ module _ (p : Program) (old : State) (pins : List ℕ) (items_fit : IsWithin (wi
   changed_good (ones.Cut narrow) w f x keys is at low solves = refit_good (nat_eq narrow w) narrow w f x keys refl is at low solves
   changed_good (ones.Widen wide) w f x keys is at low solves = refit_good (nat_eq wide w) wide w f x keys refl is at low solves
 
+  copied_good : (w : ℕ) (f : Flat) (x : ℕ) (keys : List Key) → means p env f ≡ x → x < 2 ^ w → Solves p env (share find w (Copied f) keys).keys → Good (share find w (Copied f) keys) x w
+  copied_good w f x keys is low solves =
+      let r = shared_is w (Copied f) keys solves in
+      (r.0 ∙ copied p env w f ∙ ap (λ (v : ℕ). v % 2 ^ w) is ∙ mod-eq_of_lt low, r.1)
+
+  settled_good : (w : ℕ) (f : Flat) (x : ℕ) (keys : List Key) → means p env f ≡ x → wide p env f ≡ w → x < 2 ^ w → Solves p env (settled find w f keys).keys → Good (settled find w f keys) x w
+  settled_good w (Fixed v b) x keys is at low solves = (is, at)
+  settled_good w (OfItem i) x keys is at low solves = copied_good w (OfItem i) x keys is low solves
+  settled_good w (OfPin i) x keys is at low solves = copied_good w (OfPin i) x keys is low solves
+  settled_good w (OfWire k) x keys is at low solves = (is, at)
+
+  combined_by_good : (op : TwoOp) (w : ℕ) (right left : Bool) (f g : Flat) (x y : ℕ) (keys : List Key) → (keeps_right op && is_zero f) ≡ right → (keeps_left op && is_zero g) ≡ left
+      → means p env f ≡ x → means p env g ≡ y → wide p env f ≡ w → FitsTwo op w (wide p env g) → x < 2 ^ w → y < 2 ^ wide p env g → Solves p env (combined_by find op (two_width op w) right left f g keys).keys
+      → Good (combined_by find op (two_width op w) right left f g keys) (two_value op w x y) (two_width op w)
+  combined_by_good op w true left f g x y keys is_r is_l is_f is_g at_f match low_x low_y solves =
+      let both = both_true is_r in
+      let same : two_value op w x y ≡ y = right_value op w (wide p env g) x y both.0 (sym is_f ∙ zero_means p env f both.1) match low_y in
+      settled_good (two_width op w) g (two_value op w x y) keys (is_g ∙ sym same) (right_width op w (wide p env g) both.0 match) (two_below op w (wide p env g) x y low_x low_y match) solves
+  combined_by_good op w false true f g x y keys is_r is_l is_f is_g at_f match low_x low_y solves =
+      let both = both_true is_l in
+      let same : two_value op w x y ≡ x = left_value op w x y both.0 (sym is_g ∙ zero_means p env g both.1) low_x in
+      settled_good (two_width op w) f (two_value op w x y) keys (is_f ∙ sym same) (at_f ∙ left_width op w both.0) (two_below op w (wide p env g) x y low_x low_y match) solves
+  combined_by_good op w false false f g x y keys is_r is_l is_f is_g at_f match low_x low_y solves =
+      let r = shared_is (two_width op w) (Operate op f g) keys solves in
+      let low_f : means p env f < 2 ^ w = subst (λ (v : ℕ). v < 2 ^ w) (sym is_f) low_x in
+      let low_g : means p env g < 2 ^ wide p env g = subst (λ (v : ℕ). v < 2 ^ wide p env g) (sym is_g) low_y in
+      (r.0 ∙ two_done p env op w f g at_f match low_f low_g ∙ ap₂ (two_value op w) is_f is_g, r.1)
+
+  combined_good : (op : TwoOp) (w : ℕ) (f g : Flat) (x y : ℕ) (keys : List Key) → means p env f ≡ x → means p env g ≡ y → wide p env f ≡ w → FitsTwo op w (wide p env g) → x < 2 ^ w → y < 2 ^ wide p env g
+      → Solves p env (combined find op (two_width op w) f g keys).keys → Good (combined find op (two_width op w) f g keys) (two_value op w x y) (two_width op w)
+  combined_good op w f g x y keys is_f is_g at_f match low_x low_y solves =
+      combined_by_good op w (keeps_right op && is_zero f) (keeps_left op && is_zero g) f g x y keys refl refl is_f is_g at_f match low_x low_y solves
+
   lower_good : (s : Sym) (now : Moment) (e : Expr) (keys : List Key) → Stands s now → IsNow p now → IsFit p e → Solves p env (lower find p s e keys).keys
       → Good (lower find p s e keys) (value p old.items pins now e) (width p e)
   lower_good s now (Const w v) keys st is fit solves = (refl, refl)
@@ -231,15 +266,12 @@ module _ (p : Program) (old : State) (pins : List ℕ) (items_fit : IsWithin (wi
   lower_good s now (Two op a b) keys st is fit solves =
       let x = lower find p s a keys in
       let y = lower find p s b x.keys in
-      let at_y = down (share_longer find (width p (Two op a b)) (Operate op x.flat y.flat) y.keys) solves in
+      let at_y = down (combined_longer find op (width p (Two op a b)) x.flat y.flat y.keys) solves in
       let gx : Good x (value p old.items pins now a) (width p a) = lower_good s now a keys st is fit.0 (down (lower_longer find p s b x.keys) at_y) in
       let gy : Good y (value p old.items pins now b) (width p b) = lower_good s now b x.keys st is fit.1 at_y in
-      let r = shared_is (width p (Two op a b)) (Operate op x.flat y.flat) y.keys solves in
-      let low_x : means p env x.flat < 2 ^ width p a = subst (λ (v : ℕ). v < 2 ^ width p a) (sym gx.0) (value_below p old.items pins items_fit pins_fit now a is fit.0) in
-      let low_y : means p env y.flat < 2 ^ wide p env y.flat = subst (λ (v : ℕ). v < 2 ^ wide p env y.flat) (sym gy.0)
-      (subst (λ (w : ℕ). value p old.items pins now b < 2 ^ w) (sym gy.1) (value_below p old.items pins items_fit pins_fit now b is fit.1)) in
-      let match : FitsTwo op (width p a) (wide p env y.flat) = subst (FitsTwo op (width p a)) (sym gy.1) fit.2 in
-      (r.0 ∙ two_done p env op (width p a) x.flat y.flat gx.1 match low_x low_y ∙ ap₂ (two_value op (width p a)) gx.0 gy.0, r.1)
+      let low_b : value p old.items pins now b < 2 ^ wide p env y.flat = subst (λ (w : ℕ). value p old.items pins now b < 2 ^ w) (sym gy.1) (value_below p old.items pins items_fit pins_fit now b is fit.1) in
+      combined_good op (width p a) x.flat y.flat (value p old.items pins now a) (value p old.items pins now b) y.keys gx.0 gy.0 gx.1 (subst (FitsTwo op (width p a)) (sym gy.1) fit.2)
+      (value_below p old.items pins items_fit pins_fit now a is fit.0) low_b solves
   lower_good s now (Choose t a b) keys st is fit solves =
       let c = lower find p s t keys in
       let x = lower find p s a c.keys in
@@ -263,17 +295,6 @@ module _ (p : Program) (old : State) (pins : List ℕ) (items_fit : IsWithin (wi
 
   same_set : (f : Flat → ℕ) (fs : List Flat) (i : ℕ) (new : Flat) (xs : List ℕ) (x : ℕ) → map f fs ≡ xs → f new ≡ x → map f (slice_set fs i new) ≡ slice_set xs i x
   same_set f fs i new xs x e h = map-set f fs i new ∙ ap₂ (λ (ys : List ℕ) (y : ℕ). slice_set ys i y) e h
-
-  copied_good : (w : ℕ) (f : Flat) (x : ℕ) (keys : List Key) → means p env f ≡ x → x < 2 ^ w → Solves p env (share find w (Copied f) keys).keys → Good (share find w (Copied f) keys) x w
-  copied_good w f x keys is low solves =
-      let r = shared_is w (Copied f) keys solves in
-      (r.0 ∙ copied p env w f ∙ ap (λ (v : ℕ). v % 2 ^ w) is ∙ mod-eq_of_lt low, r.1)
-
-  settled_good : (w : ℕ) (f : Flat) (x : ℕ) (keys : List Key) → means p env f ≡ x → wide p env f ≡ w → x < 2 ^ w → Solves p env (settled find w f keys).keys → Good (settled find w f keys) x w
-  settled_good w (Fixed v b) x keys is at low solves = (is, at)
-  settled_good w (OfItem i) x keys is at low solves = copied_good w (OfItem i) x keys is low solves
-  settled_good w (OfPin i) x keys is at low solves = copied_good w (OfPin i) x keys is low solves
-  settled_good w (OfWire k) x keys is at low solves = (is, at)
 
   given_once_good : (w : ℕ) (zero : Bool) (v old : Flat) (x y : ℕ) (keys : List Key) → means p env v ≡ x → wide p env v ≡ w → means p env old ≡ y → wide p env old ≡ w → x < 2 ^ w
       → Solves p env (given_once find w zero v old keys).keys → Good (given_once find w zero v old keys) (cond zero y x) w

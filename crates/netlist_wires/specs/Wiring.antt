@@ -1,6 +1,6 @@
 -- From a step program to a module: each step is taken on flat operands, and what is computed goes into wires of one operator each.
 -- Two equal keys are one wire, where the table finds the first.
-use Rattle.std.specs.Prelude.{ℕ, suc, ◌%◌, ◌^◌, List, [], ◌∷◌, ◌++◌, map, length, codes, nat_eq, slice_index_or, slice_set, Bool, true, false, Option, Some, None}
+use Rattle.std.specs.Prelude.{ℕ, suc, ◌%◌, ◌^◌, List, [], ◌∷◌, ◌++◌, map, length, codes, nat_eq, slice_index_or, slice_set, Bool, true, false, ◌&&◌, Option, Some, None}
 use Rattle.std.specs.Fmt.{decimal}
 use Rattle.lisa_engine.specs.declared.parts.Item.{Item}
 use Rattle.lisa_engine.specs.declared.parts.ArrayItem.{ArrayItem}
@@ -119,6 +119,44 @@ changed find Not w f keys = share find w (Inverse f) keys
 changed find (Cut narrow) w f keys = refit find (nat_eq narrow w) narrow f keys
 changed find (Widen wide) w f keys = refit find (nat_eq wide w) wide f keys
 
+-- a number or a wire, and no name that stands for something else
+abbrev pub settled : Find → ℕ → Flat → List Key → Made
+settled find w (Fixed v b) keys = record { flat = Fixed v b; keys = keys }
+settled find w (OfItem item) keys = share find w (Copied (OfItem item)) keys
+settled find w (OfPin pin) keys = share find w (Copied (OfPin pin)) keys
+settled find w (OfWire wire) keys = record { flat = OfWire wire; keys = keys }
+
+abbrev pub is_zero : Flat → Bool
+is_zero (Fixed w v) = nat_eq v 0
+is_zero (OfItem item) = false
+is_zero (OfPin pin) = false
+is_zero (OfWire wire) = false
+
+-- whether an operator leaves its right operand as it is behind 0, and its left operand before 0
+abbrev pub keeps_right : TwoOp → Bool
+keeps_right ops.Add = true
+keeps_right ops.Or = true
+keeps_right ops.Xor = true
+keeps_right _ = false
+
+abbrev pub keeps_left : TwoOp → Bool
+keeps_left ops.Add = true
+keeps_left ops.Sub = true
+keeps_left ops.Or = true
+keeps_left ops.Xor = true
+keeps_left ops.Shl = true
+keeps_left ops.Shr = true
+keeps_left _ = false
+
+-- what an operator makes of two operands: one of them, where it is told that this is kept
+abbrev pub combined_by : Find → TwoOp → (w : ℕ) → (right left : Bool) → (f g : Flat) → List Key → Made
+combined_by find op w true left f g keys = settled find w g keys
+combined_by find op w false true f g keys = settled find w f keys
+combined_by find op w false false f g keys = share find w (Operate op f g) keys
+
+abbrev pub combined : Find → TwoOp → (w : ℕ) → (f g : Flat) → List Key → Made
+combined find op w f g keys = combined_by find op w (keeps_right op && is_zero f) (keeps_left op && is_zero g) f g keys
+
 -- the operand that an expression is
 abbrev pub lower : Find → Program → Sym → Expr → List Key → Made
 lower find p s (Const w v) keys = record { flat = Fixed w v; keys = keys }
@@ -133,7 +171,7 @@ lower find p s (One one a) keys =
 lower find p s (Two op a b) keys =
     let x = lower find p s a keys in
     let y = lower find p s b x.keys in
-    share find (width p (Two op a b)) (Operate op x.flat y.flat) y.keys
+    combined find op (width p (Two op a b)) x.flat y.flat y.keys
 lower find p s (Choose test this other) keys =
     let c = lower find p s test keys in
     let x = lower find p s this c.keys in
@@ -141,13 +179,6 @@ lower find p s (Choose test this other) keys =
     share find (width p this) (Select c.flat x.flat y.flat) y.keys
 
 -- ---- steps
-
--- an item or a temp holds a number or a wire, and no name that stands for something else
-abbrev pub settled : Find → ℕ → Flat → List Key → Made
-settled find w (Fixed v b) keys = record { flat = Fixed v b; keys = keys }
-settled find w (OfItem item) keys = share find w (Copied (OfItem item)) keys
-settled find w (OfPin pin) keys = share find w (Copied (OfPin pin)) keys
-settled find w (OfWire wire) keys = record { flat = OfWire wire; keys = keys }
 
 -- what a target holds under a guard that is a number, which is 0 or isn't
 abbrev pub given_once : Find → ℕ → (zero : Bool) → (value old : Flat) → List Key → Made

@@ -3,7 +3,7 @@ use Rattle.std.proofs.Common.{◌≡◌, ◌∙◌, ℕ, true, false, List, [], 
 use Rattle.std.specs.Io.KnownBytes.{Appends}
 use Rattle.lisa_outcomes.specs.declared.status.Status.TheVariants as statuses
 use Rattle.lisa_outcomes.specs.Outcomes.{Finished, FileMap, Given}
-use Rattle.lisa_cli.specs.Requests.{Request, Asks, reads_input}
+use Rattle.command_words.specs.Requests.{Request, Asks, reads_input}
 use Rattle.lisa_cli.specs.Gives.{Gives}
 use Rattle.lisa_cli.specs.Worlds.{World, IsKnown}
 use Rattle.lisa_cli.specs.Runs.{IsDone}

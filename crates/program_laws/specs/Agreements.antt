@@ -7,7 +7,7 @@ use Rattle.lisa_outcomes.specs.RunFiles.{RunNames}
 use Rattle.engine_commands.specs.declared.tasks.Task.{Task}
 use Rattle.engine_commands.specs.Tasks.{takes_input}
 use Rattle.headline_laws.specs.Files.{over_file}
-use Rattle.lisa_cli.specs.Requests.{Request, Verilog, Simulate, Clock, Asks}
+use Rattle.command_words.specs.Requests.{Request, Verilog, Simulate, Clock, Asks}
 use Rattle.lisa_cli.specs.Worlds.{World, NoneFailed}
 use Rattle.lisa_cli.specs.Headline.{IsAnswer}
 

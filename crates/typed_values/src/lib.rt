@@ -14,7 +14,7 @@ mod running;
 mod values;
 mod wholes;
 
-pub use counts::{count_statement, count_statements};
+pub use counts::{count_nodes, count_statement, count_statements};
 pub use effects::{Does, perform};
 pub use expressions::{Reads, evaluate};
 pub use laws::{values_fit, whole_literals};

@@ -1,7 +1,7 @@
 // Compiled expressions. An operator gets the length of its context, or that of its operands, as the standard has it.
 ghost use Rattle.std.specs.Prelude.{◌≡◌, ◌≤◌, ◌<◌, ◌+◌, ◌-◌, ◌*◌, ◌^◌, ℕ, List, IfOk};
 ghost use Rattle.verilog_text.specs.Trees.{vexpr_tree, vexpr_trees, Bits as BitsTree};
-ghost use Rattle.verilog_text.specs.Values.{v_width, parts_width as width_of_parts, two_width as width_of_two, left_length, right_length, parts_value, repeated, operate as operated};
+ghost use Rattle.verilog_text.specs.Values.{v_width, parts_width as width_of_parts, left_length, right_length, parts_value, repeated, operate as operated};
 ghost use Rattle.verilog_text.specs.Clocked.{widths_of, env_of};
 ghost use Rattle.verilog_text.specs.Clockable.{IsNarrow, AreNarrow};
 ghost use Rattle.verilog_clock.specs.Compiled.{code_value};
@@ -14,29 +14,6 @@ use crate::scope::Scope;
 use lisa_words::{Name, Operator};
 use std::alloc::{AllocError, Global};
 use verilog_text::{VExpr, VOne};
-
-// The own length of an operator with two operands, from theirs.
-fn two_width(operator: Operator, a: u32, b: u32) -> u32
-    ensures { result ≡ width_of_two operator a b }
-{
-    match operator {
-        Operator::Equal
-        | Operator::Unequal
-        | Operator::Less
-        | Operator::LessEqual
-        | Operator::Greater
-        | Operator::GreaterEqual
-        | Operator::BothTrue
-        | Operator::OneTrue => 1,
-        Operator::Left | Operator::Right => a,
-        Operator::Add
-        | Operator::Sub
-        | Operator::Mul
-        | Operator::And
-        | Operator::Or
-        | Operator::Xor => a.max(b),
-    }
-}
 
 /// The own length of an expression.
 #[cycle(widths)]
@@ -52,11 +29,23 @@ pub fn own_width(scope: &Scope<'_>, e: &VExpr) -> u32
         VExpr::Cell(name, _) => scope.cell_width(name),
         VExpr::One(VOne::Complement, a) => own_width(scope, a),
         VExpr::One(VOne::Negate, _) => 1,
-        VExpr::Two(operator, a, b) => two_width(
-            *operator,
-            own_width(scope, a),
-            own_width(scope, b),
-        ),
+        VExpr::Two(operator, a, b) => match operator {
+            Operator::Equal
+            | Operator::Unequal
+            | Operator::Less
+            | Operator::LessEqual
+            | Operator::Greater
+            | Operator::GreaterEqual
+            | Operator::BothTrue
+            | Operator::OneTrue => 1,
+            Operator::Left | Operator::Right => own_width(scope, a),
+            Operator::Add
+            | Operator::Sub
+            | Operator::Mul
+            | Operator::And
+            | Operator::Or
+            | Operator::Xor => own_width(scope, a).max(own_width(scope, b)),
+        },
         VExpr::Choose(_, this, other) => own_width(scope, this).max(own_width(scope, other)),
         VExpr::Join(parts) => parts_width(scope, parts),
         VExpr::Repeat(times, a) => *times * own_width(scope, a),
@@ -76,11 +65,20 @@ fn parts_width(scope: &Scope<'_>, parts: &[VExpr]) -> u32
     own_width(scope, first) + parts_width(scope, rest)
 }
 
-// The lengths of an operator's operands, from the length of its context and their own.
-fn operand_lengths(operator: Operator, length: u32, a: u32, b: u32) -> (u32, u32)
-    ensures left { result.0 ≡ left_length operator length a b }
-    ensures right { result.1 ≡ right_length operator length a b }
-    ensures small { length ≤ 64 → a ≤ 64 → b ≤ 64 → (result.0 ≤ 64) × (result.1 ≤ 64) }
+// The lengths of an operator's operands, from the length of its context and, where it asks for them, their own.
+fn operand_lengths(
+    scope: &Scope<'_>,
+    operator: Operator,
+    length: u32,
+    a: &VExpr,
+    b: &VExpr,
+) -> (u32, u32)
+    requires narrow_left { IsNarrow (widths_of (module_in scope.now)) (vexpr_tree a.now) }
+    requires narrow_right { IsNarrow (widths_of (module_in scope.now)) (vexpr_tree b.now) }
+    requires small { length ≤ 64 }
+    ensures left { result.0 ≡ left_length operator length (v_width (widths_of (module_in scope.now)) (vexpr_tree a.now)) (v_width (widths_of (module_in scope.now)) (vexpr_tree b.now)) }
+    ensures right { result.1 ≡ right_length operator length (v_width (widths_of (module_in scope.now)) (vexpr_tree a.now)) (v_width (widths_of (module_in scope.now)) (vexpr_tree b.now)) }
+    ensures small { (result.0 ≤ 64) × (result.1 ≤ 64) }
 {
     match operator {
         Operator::Equal
@@ -88,9 +86,12 @@ fn operand_lengths(operator: Operator, length: u32, a: u32, b: u32) -> (u32, u32
         | Operator::Less
         | Operator::LessEqual
         | Operator::Greater
-        | Operator::GreaterEqual => (a.max(b), a.max(b)),
-        Operator::BothTrue | Operator::OneTrue => (a, b),
-        Operator::Left | Operator::Right => (length, b),
+        | Operator::GreaterEqual => {
+            let both = own_width(scope, a).max(own_width(scope, b));
+            (both, both)
+        }
+        Operator::BothTrue | Operator::OneTrue => (own_width(scope, a), own_width(scope, b)),
+        Operator::Left | Operator::Right => (length, own_width(scope, b)),
         Operator::Add
         | Operator::Sub
         | Operator::Mul
@@ -204,12 +205,7 @@ pub fn compile(alloc: Global, scope: &Scope<'_>, e: &VExpr, length: u32) -> Resu
             Ok(Code::Negate(Box::new(alloc, a)?))
         }
         VExpr::Two(operator, a, b) => {
-            let (left, right) = operand_lengths(
-                *operator,
-                length,
-                own_width(scope, a),
-                own_width(scope, b),
-            );
+            let (left, right) = operand_lengths(scope, *operator, length, a, b);
             let a = compile(alloc, scope, a, left)?;
             let b = compile(alloc, scope, b, right)?;
             two(alloc, *operator, Length::of(length), a, b)

@@ -2,3 +2,4 @@ pub mod FirstLaws
 pub mod OrderLaws
 pub mod TextLaws
 pub mod ClockLaws
+pub mod OutcomeLaws

@@ -35,7 +35,7 @@ use Rattle.verilog_reader.proofs.OrderLaws.{wide_of, is_too_wide, none_wide, bre
 
 -- ---- tokens
 
-lexes_same : {bytes : List ℕ} {ts us : PlacedToks} → Lexes 0 bytes ts → Lexes 0 bytes us → ts ≡ us
+pub lexes_same : {bytes : List ℕ} {ts us : PlacedToks} → Lexes 0 bytes ts → Lexes 0 bytes us → ts ≡ us
 lexes_same d e = let both = sym (lex_complete d) ∙ lex_complete e in cc
 
 lexes_whole : {bytes : List ℕ} {ts : PlacedToks} {at : ℕ} → Lexes 0 bytes ts → Breaks 0 bytes at → ⊥

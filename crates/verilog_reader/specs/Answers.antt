@@ -4,7 +4,7 @@ use Rattle.verilog_text.specs.declared.faults.VerilogFault.{VerilogFault}
 use Rattle.verilog_text.specs.declared.faults.VerilogFault.TheVariants as faults
 use Rattle.verilog_text.specs.declared.modules.Module.{Module}
 use Rattle.verilog_text.specs.Trees.{ModuleTree, module_tree}
-use Rattle.verilog_text.specs.Faults.{VFault}
+use Rattle.verilog_text.specs.Faults.{VAccepts, VFault}
 
 -- the first fault of the text, or want of memory
 abbrev pub IsFault : List ℕ → VerilogFault → Type 0
@@ -25,3 +25,8 @@ IsSameFault f g = g ≡ f
 abbrev pub IsRefused : VerilogFault → Result Module VerilogFault → Type 0
 IsRefused fault (Ok x) = ⊥
 IsRefused fault (Err answered) = (answered ≡ faults.NoMemory) ⊎ IsSameFault fault answered
+
+-- the bytes spell some module that breaks no condition, or have some fault
+pub data HasOutcome (bytes : List ℕ) : Type 0 where
+  accepts : (m : ModuleTree) → VAccepts bytes m → HasOutcome bytes
+  refuses : (fault : VerilogFault) → VFault bytes fault → HasOutcome bytes

@@ -5,11 +5,12 @@ ghost use Rattle.verilog_text.specs.declared.faults.VerilogFault.{VerilogFault};
 ghost use Rattle.verilog_text.specs.Trees.{ModuleTree};
 ghost use Rattle.verilog_text.specs.Spelling.{VSpells};
 ghost use Rattle.verilog_text.specs.Faults.{VAccepts, VFault};
-ghost use Rattle.verilog_reader.specs.Answers.{IsSameFault};
+ghost use Rattle.verilog_reader.specs.Answers.{HasOutcome, IsSameFault};
 
-/// Bytes spell one module at most, have a fault only where they spell none that is accepted, and one fault at most. A law: the
-/// function does nothing.
+/// Bytes spell a module that breaks no condition or have a first fault, and neither both nor two of them. A law: the function does
+/// nothing.
 pub fn modules_are_unique(bytes: &[u8])
+    ensures some { HasOutcome bytes.now }
     ensures one { (m n : ModuleTree) → VSpells bytes.now m → VSpells bytes.now n → m ≡ n }
     ensures whole { (m : ModuleTree) (fault : VerilogFault) → VAccepts bytes.now m → VFault bytes.now fault → ⊥ }
     ensures first { (f g : VerilogFault) → VFault bytes.now f → VFault bytes.now g → IsSameFault f g }

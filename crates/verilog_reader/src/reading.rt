@@ -26,6 +26,7 @@ fn read(alloc: Global, bytes: &[u8]) -> Result<Module, VerilogFault>
         return Err(VerilogFault::TooDeep { at });
     }
     let placed = read_placed(alloc, &tokens)?;
+    drop(tokens);
     check_names(alloc, &placed)?;
     check_sizes(alloc, &placed)?;
     Ok(strip(alloc, placed)?)

@@ -14,10 +14,10 @@ pub returns-in_default-2 : goal.returns-in_default-2
 returns-in_default-2 c =
     rw (c.in-Some-Some.is-0, c.in-Some-Some.is-1) (none_joins c.args.meetings.now.items c.args.before (step_of c.in-Some-Some.first) (step_of c.in-Some-Some.second) (rw c.in_default-2.is at c.in_ok-token.ensures))
 
-pub returns-then-is_coming : goal.returns-then-is_coming
-returns-then-is_coming c =
-    rw (c.in-Some-Some.is-0, c.in-Some-Some.is-1) (coming_joins c.args.meetings.now.items c.args.before (step_of c.in-Some-Some.first) (step_of c.in-Some-Some.second) (rw c.deref.ensures.value at c.is_coming.ensures c.if-is_coming.true))
+pub returns-then-comes : goal.returns-then-comes
+returns-then-comes c =
+    rw (c.in-Some-Some.is-0, c.in-Some-Some.is-1) (coming_joins c.args.meetings.now.items c.args.before (step_of c.in-Some-Some.first) (step_of c.in-Some-Some.second) (rw c.deref.ensures.value at c.comes.ensures c.if-comes.true))
 
 pub returns : goal.returns
 returns c =
-    rw (c.in-Some-Some.is-0, c.in-Some-Some.is-1) (pushed_joins c.args.meetings.now.items c.push.new.self.items c.args.before (step_of c.in-Some-Some.first) (step_of c.in-Some-Some.second) c.in-Some.token c.requires (rw c.in-Some.is at c.in_ok-token.ensures) c.in_ok-push.ensures.items)
+    rw (c.in-Some-Some.is-0, c.in-Some-Some.is-1) (pushed_joins c.args.meetings.now.items c.push.new.self.items c.args.before (step_of c.in-Some-Some.first) (step_of c.in-Some-Some.second) c.in-Some.token (rw c.in-Some.is at c.in_ok-token.ensures) c.in_ok-push.ensures.items)

@@ -4,7 +4,7 @@ use Rattle.lisa_outcomes.specs.Outcomes.{Given}
 use Rattle.lisa_outcomes.specs.FileViews.{all_bytes}
 use Rattle.lisa_outcomes.proofs.Endings.{ends_within, wanting_ends}
 use Rattle.lisa_outcomes.proofs.Files.{after_files, no_files}
-use Rattle.lisa_cli.specs.Asked.{request_of}
+use Rattle.command_words.specs.Asked.{request_of}
 use Rattle.lisa_cli.specs.Gives.{GivesOver}
 use Rattle.lisa_cli.specs.Worlds.{input_failed, file_failed}
 use Rattle.lisa_cli.proofs.commands.perform.Goals as goal

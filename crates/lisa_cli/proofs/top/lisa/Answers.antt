@@ -1,6 +1,6 @@
 use Rattle.std.proofs.Common.{refl}
 use Rattle.lisa_outcomes.proofs.Told.{some_is, none_is_no_some}
-use Rattle.lisa_cli.specs.Asked.{request_of}
+use Rattle.command_words.specs.Asked.{request_of}
 use Rattle.lisa_cli.proofs.FileCounts.{few_files}
 use Rattle.lisa_cli.proofs.Ran.{ran_answer, sent_ran, usage_answer}
 use Rattle.lisa_cli.proofs.top.lisa.Goals as goal

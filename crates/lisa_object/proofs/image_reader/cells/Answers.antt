@@ -8,7 +8,7 @@ use Rattle.lisa_object.proofs.image_reader.cells.Goals as goal
 pub each-init : goal.each-init
 each-init c =
     let whole : c.args.count - 0 ≡ c.args.count = omega arith in
-    ap (λ (l : List ℕ). cells_with l (cells_of c.args.width (c.args.count - 0) (parts_behind 10 (option_copied c.args.left)))) c.in_ok-cells.ensures.items
+    ap (λ (l : List ℕ). cells_with l (cells_of c.args.width (c.args.count - 0) (parts_behind 10 (option_copied c.args.left)))) c.new-cells.ensures.items
     ∙ begins (cells_of c.args.width (c.args.count - 0) (parts_behind 10 (option_copied c.args.left))) ∙ ap (λ (n : ℕ). cells_of c.args.width n (parts_behind 10 (option_copied c.args.left))) whole
 
 pub returns-in_default : goal.returns-in_default

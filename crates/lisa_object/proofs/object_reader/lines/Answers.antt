@@ -18,7 +18,7 @@ each-init c = (
   (
     [],
     (λ name. rw c.new-seen.ensures.empty refl),
-    ap (λ (l : List ObjectLine). lines_with (map object_line_tree l) (lines_of start [] (parts_behind 10 (option_copied c.args.left)))) c.in_ok-all.ensures.items ∙ begins (lines_of start [] (parts_behind 10 (option_copied c.args.left))),
+    ap (λ (l : List ObjectLine). lines_with (map object_line_tree l) (lines_of start [] (parts_behind 10 (option_copied c.args.left)))) c.new-all.ensures.items ∙ begins (lines_of start [] (parts_behind 10 (option_copied c.args.left))),
   ),
 )
 
@@ -39,7 +39,7 @@ returns-else-is_last c =
 
 pub returns-in_err-line : goal.returns-in_err-line
 returns-in_err-line c =
-    let p = err_from_is_err_and c.from_residual-in_err-line.result c.from_residual-in_err-line.ensures.1 in
+    let p = err_from_is_err_and c.from_residual.result c.from_residual.ensures.1 in
     let first : parts_behind 10 (option_copied c.each.rest) ≡ c.cut.result.0.now ∷ parts_behind 10 (option_copied c.cut.result.1) = ap (λ o. parts_behind 10 (option_copied o)) c.in-Some.is ∙ c.cut.ensures.parts in
     rw (p.1, p.2) (fails (map object_line_tree c.each.all.items) _ _ _ _ c.each.invariant.2.2 _ _ first c.in_err-line.field-0.0 (sym c.is_end.ensures ∙ c.if-is_end.false) (c.in_err-line.ensures.exact c.each.invariant.2.0 c.each.invariant.2.1))
 

@@ -1,0 +1,18 @@
+-- The requests of the code as plain ones.
+use Rattle.std.specs.Prelude.{map, string_bytes}
+use Rattle.command_words.specs.declared.requests.Command.{Command}
+use Rattle.command_words.specs.declared.requests.Command.TheVariants as commands
+use Rattle.lisa_outcomes.specs.RunViews.{names_of}
+use Rattle.command_words.specs.Requests.{Request, Format, Check, Verilog, Assemble, Link, Disassemble, Generate, Soak, Simulate, Clock}
+
+abbrev pub request_of : Command → Request
+request_of (commands.Format description) = Format description.now
+request_of (commands.Check description) = Check description.now
+request_of (commands.Verilog description) = Verilog description.now
+request_of (commands.Assemble description source) = Assemble description.now source.now
+request_of (commands.Link description objects) = Link description.now (map string_bytes objects.now)
+request_of (commands.Disassemble description image) = Disassemble description.now image.now
+request_of (commands.Generate description number count) = Generate description.now number count
+request_of (commands.Soak description verilog number count edges) = Soak description.now verilog.now number count edges
+request_of (commands.Simulate names task) = Simulate task (names_of names)
+request_of (commands.Clock names task) = Clock task (names_of names)

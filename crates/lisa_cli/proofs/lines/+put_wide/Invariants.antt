@@ -1,4 +1,0 @@
-use Rattle.lisa_cli.proofs.lines.+put_wide.Given as goal
-
-abbrev pub decreases-put_wide : goal.decreases-put_wide
-decreases-put_wide g l = l.value
