@@ -1,4 +1,5 @@
 -- A source is assembled as its lines are read.
+use Rattle.std.specs.Prelude.{IfOk, IfErr, OnOk}
 use Rattle.std.proofs.Common.{◌≡◌, ◌⊎◌, inl, inr, ℕ, List, [], ◌∷◌, ◌++◌, Option, None, Result, Ok, Err, refl, sym, subst, ◌∙◌, append_assoc}
 use Rattle.std.specs.Option.{IfSome, option_copied}
 use Rattle.std.specs.HashSet.{HashSet}
@@ -42,38 +43,44 @@ module _ (d : DescriptionTree) (read : List PlainLine) (l : PlainLine) where
   faulty : (f : SourceFault) → ((left : List PlainLine) → IsSourceFault d None [] (read ++ l ∷ left) f) → (left : List PlainLine) → IsSourceFault d None [] ((read ++ l ∷ []) ++ left) f
   faulty f is left = subst (λ (all : List PlainLine). IsSourceFault d None [] all f) (one_more left) (is left)
 
-  -- a line without a fault more
-  pub goes_so_far : (here next : Option (Bor ArrayItem)) (seen entered : Names) (old new : List PlainObjectLine) → IsSoFar d read (Ok here) seen old
-      → IfSome (option_copied next) HasWords → option_copied next ≡ section_behind d (option_copied here) l.part
-      → ((names : List (List ℕ)) → Holds seen names → Holds entered (line_names l ++ names))
-      → ((names : List (List ℕ)) → Holds seen names → IsStep d (option_copied here) names l old new)
-      → IsSoFar d (read ++ l ∷ []) (Ok next) entered new
-  goes_so_far here next seen entered old new s words behind held step =
-      let i = s.1 in
-      (
-        words,
-        (
-          line_names l ++ i.0,
-          held i.0 i.1,
-          λ left. subst (λ (all : List PlainLine). AreAssembled d all (option_copied next) (line_names l ++ i.0) new left) (one_more left)
-              (assembled_on d (read ++ l ∷ left) (option_copied here) (option_copied next) i.0 old new l left (i.2 (l ∷ left)) (step i.0 i.1) behind),
-        ),
-      )
+  module _ (here : Option (Bor ArrayItem)) (seen entered : Names) (old new : List PlainObjectLine) (so : IsSoFar d read (Ok here) seen old) where
+    -- a line without a fault more
+    goes_on : (next : Option (Bor ArrayItem)) → IfSome (option_copied next) HasWords → option_copied next ≡ section_behind d (option_copied here) l.part
+        → ((names : List (List ℕ)) → Holds seen names → Holds entered (line_names l ++ names))
+        → ((names : List (List ℕ)) → Holds seen names → IsStep d (option_copied here) names l old new)
+        → IsSoFar d (read ++ l ∷ []) (Ok next) entered new
+    goes_on next words behind held step =
+        let i = so.1 in (
+          words,
+          (
+            line_names l ++ i.0,
+            held i.0 i.1,
+            λ left. subst (λ (all : List PlainLine). AreAssembled d all (option_copied next) (line_names l ++ i.0) new left) (one_more left)
+                (assembled_on d (read ++ l ∷ left) (option_copied here) (option_copied next) i.0 old new l left (i.2 (l ∷ left)) (step i.0 i.1) behind),
+          ),
+        )
 
-  -- the first line with a fault
-  pub stops_so_far : (here : Option (Bor ArrayItem)) (seen entered : Names) (old new : List PlainObjectLine) (f : SourceFault) → IsSoFar d read (Ok here) seen old
-      → ((names : List (List ℕ)) → Holds seen names → (f ≡ faults.NoMemory) ⊎ IsFaultOf d (option_copied here) names l f)
-      → IsSoFar d (read ++ l ∷ []) (Err f) entered new
-  stops_so_far here seen entered old new f s fault = at (fault s.1.0 s.1.1)
-    where
-      at : (f ≡ faults.NoMemory) ⊎ IsFaultOf d (option_copied here) s.1.0 l f → IsSoFar d (read ++ l ∷ []) (Err f) entered new
-      at (inl e) = inl e
-      at (inr x) = inr (faulty f (λ left. assembled_stops d (read ++ l ∷ left) (option_copied here) s.1.0 old l left f (s.1.2 (l ∷ left)) x))
+    -- the first line with a fault
+    stops : (f : SourceFault) → (f ≡ faults.NoMemory) ⊎ IsFaultOf d (option_copied here) so.1.0 l f → IsSoFar d (read ++ l ∷ []) (Err f) entered new
+    stops f (inl e) = inl e
+    stops f (inr x) = inr (faulty f (λ left. assembled_stops d (read ++ l ∷ left) (option_copied here) so.1.0 old l left f (so.1.2 (l ∷ left)) x))
 
-  -- a line behind it
-  pub stays_so_far : (seen entered : Names) (old new : List PlainObjectLine) (f : SourceFault) → IsSoFar d read (Err f) seen old → IsSoFar d (read ++ l ∷ []) (Err f) entered new
-  stays_so_far seen entered old new f (inl e) = inl e
-  stays_so_far seen entered old new f (inr is) = inr (faulty f (λ left. is (l ∷ left)))
+    pub next_so_far : (result : Result (Option (Bor ArrayItem)) SourceFault)
+        → IfOk result (λ next. IfSome (option_copied next) HasWords)
+        → IfOk result (λ next. option_copied next ≡ section_behind d (option_copied here) l.part)
+        → ((names : List (List ℕ)) → Holds seen names → OnOk result (Holds entered (line_names l ++ names)))
+        → ((names : List (List ℕ)) → Holds seen names → OnOk result (IsStep d (option_copied here) names l old new))
+        → ((names : List (List ℕ)) → Holds seen names → IfErr result (λ f. (f ≡ faults.NoMemory) ⊎ IsFaultOf d (option_copied here) names l f))
+        → IsSoFar d (read ++ l ∷ []) result entered new
+    next_so_far (Ok next) words behind held step fault = goes_on next words behind held step
+    next_so_far (Err f) words behind held step fault = stops f (fault so.1.0 so.1.1)
+
+  -- a line behind one with a fault
+  pub stays_so_far : (was : Result (Option (Bor ArrayItem)) SourceFault) (seen : Names) (old : List PlainObjectLine) → ((here : Option (Bor ArrayItem)) → was ≡ Ok here → ⊥) → IsSoFar d read was seen old
+      → IsSoFar d (read ++ l ∷ []) was seen old
+  stays_so_far (Ok here) seen old none so = absurd (none here refl)
+  stays_so_far (Err f) seen old none (inl e) = inl e
+  stays_so_far (Err f) seen old none (inr is) = inr (faulty f (λ left. is (l ∷ left)))
 
 module _ (d : DescriptionTree) (bytes : List ℕ) where
   pub missed_fault : (f : SourceFault) → Misses f (source_of bytes) → (f ≡ faults.NoMemory) ⊎ IsFaultOfBytes d bytes f

@@ -1,8 +1,7 @@
 // Assembling sources.
 #![tactic(auto, using(crate::proofs::Lists::one_line))]
 
-ghost use Rattle.std.specs.Prelude.{◌≡◌, ◌⊎◌, ◌<◌, ◌^◌, [], None, IfErr, IfOk, length, map};
-ghost use Rattle.std.specs.Str.Lines.{lines};
+ghost use Rattle.std.specs.Prelude.{◌≡◌, ◌⊎◌, [], None, IfErr, IfOk, map};
 ghost use Rattle.lisa_tree.specs.Descriptions.{description_tree};
 ghost use Rattle.asm_source.specs.Plain.{line_tree};
 ghost use Rattle.asm_source.specs.declared.flaw.SourceFault.TheVariants as faults;
@@ -10,15 +9,13 @@ ghost use Rattle.lisa_object.specs.Objects.{object_tree};
 ghost use Rattle.lisa_assembler.specs.Faults.{IsSourceFault};
 ghost use Rattle.lisa_assembler.specs.Tooling.{AreTools};
 ghost use Rattle.lisa_assembler.specs.Objects.{digest_of, IsObjectOf};
-ghost use Rattle.lisa_assembler.specs.Sourced.{IsObjectOfBytes, IsFaultOfBytes};
 
 use crate::line::assemble_line;
 use crate::tools::Tools;
-use asm_source::{SourceFault, SourceLine, read_line};
+use asm_source::{SourceFault, SourceLine};
 use indexmap::IndexSet;
 use lisa_object::Object;
 use std::alloc::Global;
-use text_lines::next_line;
 
 /// The object of a source of a description with this digest, or the fault of its first line that has one.
 pub fn assemble(
@@ -39,38 +36,4 @@ pub fn assemble(
         here = assemble_line(alloc, tools, here, &mut seen, &mut own, line)?;
     }
     Ok(Object { digest, lines: own })
-}
-
-/// The object of the source that bytes are, of a description with this digest, or the fault of its first line that says nothing, or else
-/// of its first line that has one. A line is assembled once it is read, and isn't kept.
-pub fn assemble_bytes(
-    alloc: Global,
-    tools: &Tools<'_>,
-    digest: [u8; 32],
-    bytes: &[u8],
-) -> Result<Object, SourceFault>
-    requires tools { AreTools tools.now }
-    requires digest { digest ≡ digest_of (description_tree tools.now.machine.now) }
-    requires short { length (lines bytes.now) < 2 ^ 32 }
-    ensures object { IfOk result (λ o. IsObjectOfBytes (description_tree tools.now.machine.now) bytes.now (object_tree o)) }
-    ensures fault { IfErr result (λ f. (f ≡ faults.NoMemory) ⊎ IsFaultOfBytes (description_tree tools.now.machine.now) bytes.now f) }
-{
-    let mut seen = IndexSet::new(alloc);
-    let mut own = Vec::new(alloc);
-    let mut here = Ok(None);
-    let mut number: u32 = 0;
-    let mut rest = bytes;
-    'each: while let Some((text, after)) = next_line(rest) {
-        number += 1;
-        let line = read_line(alloc, number, text)?;
-        here = match here {
-            Ok(here) => assemble_line(alloc, tools, here, &mut seen, &mut own, &line),
-            Err(fault) => Err(fault),
-        };
-        rest = after;
-    }
-    match here {
-        Ok(_) => Ok(Object { digest, lines: own }),
-        Err(fault) => Err(fault),
-    }
 }

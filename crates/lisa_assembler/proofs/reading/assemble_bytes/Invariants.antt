@@ -6,7 +6,7 @@ use Rattle.asm_source.specs.Source.{source_from, source_of}
 use Rattle.asm_source.specs.Gives.{lines_with}
 use Rattle.lisa_object.specs.Objects.{object_line_tree}
 use Rattle.lisa_assembler.proofs.ReadOn.{IsSoFar}
-use Rattle.lisa_assembler.proofs.assembling.assemble_bytes.Given as goal
+use Rattle.lisa_assembler.proofs.reading.assemble_bytes.Given as goal
 
 abbrev pub invariant-each : goal.invariant-each
 invariant-each l = (l.number + length (lines l.rest) ≡ length (lines l.bytes))
