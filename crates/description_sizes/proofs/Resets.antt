@@ -2,7 +2,7 @@
 use Rattle.std.proofs.Common.{◌≡◌, ◌<◌, ◌≤◌, ◌+◌, ◌*◌, ◌-◌, ◌^◌, ℕ, zero, suc, List, [], ◌∷◌, Option, None, Some, min, length, refl, sym, ap, ◌∙◌, subst, arith, ⊎_elim}
 use Rattle.std.specs.Prelude.{codes}
 use Rattle.std.specs.Option.{option_map_or}
-use Rattle.std.proofs.Math.Nat.{mul-le-mul_left}
+use Rattle.std.proofs.Math.Nat.{mul-le-mul_left, mul-le-mul_right}
 use Rattle.std.proofs.lemmas.Bool.{cases_lt}
 use Rattle.lisa_tree.specs.Expressions as exprs
 use Rattle.lisa_tree.specs.Expressions.{ExprTree}
@@ -34,43 +34,64 @@ use Rattle.description_sizes.proofs.Defined.{IsChosen, lower}
 use Rattle.description_sizes.proofs.Sums.{are_counted}
 
 -- a count, where it is known, isn't below a number, up to 2 ^ 64 - 1
-abbrev IsAtLeast : ℕ → Option ℕ → Type 0
-IsAtLeast n None = Unit {0}
-IsAtLeast n (Some m) = capped n ≤ m
+abbrev Least : ℕ → Option ℕ → Type 0
+Least n None = Unit {0}
+Least n (Some m) = capped n ≤ m
+
+record IsAtLeast (n : ℕ) (x : Option ℕ) : Type 0 where
+  pub least : Least n x
+
+told_least : (n m : ℕ) → capped n ≤ m → IsAtLeast n (Some m)
+told_least n m h = record { least = h }
+
+one_least : IsAtLeast 1 (Some 1)
+one_least = told_least 1 1 (omega arith)
+
+none_least : IsAtLeast 0 (Some 0)
+none_least = told_least 0 0 (omega arith)
 
 any_least : (x : Option ℕ) → IsAtLeast 0 x
-any_least None = tt
-any_least (Some m) = omega arith
+any_least None = record { least = tt }
+any_least (Some m) = told_least 0 m (omega arith)
 
 plus_least : (m n : ℕ) (x y : Option ℕ) → IsAtLeast m x → IsAtLeast n y → IsAtLeast (m + n) (plus x y)
-plus_least m n None y h k = tt
-plus_least m n (Some a) None h k = tt
-plus_least m n (Some a) (Some b) h k = omega (arith, h, k)
+plus_least m n None y h k = record { least = tt }
+plus_least m n (Some a) None h k = record { least = tt }
+plus_least m n (Some a) (Some b) h k =
+    let left : capped m ≤ a = h.least in
+    let right : capped n ≤ b = k.least in
+    told_least (m + n) (capped (a + b)) (omega (arith, left, right))
 
 more_least : (n : ℕ) (x : Option ℕ) → IsAtLeast n x → IsAtLeast (1 + n) (one_more x)
-more_least n x h = plus_least 1 n (Some 1) x (omega arith) h
+more_least n x h = plus_least 1 n (Some 1) x one_least h
+
+times_told : (k n m : ℕ) → capped n ≤ m → capped (k * n) ≤ capped (k * m)
+times_told zero n m h = omega arith
+times_told (suc j) n m h = ⊎_elim
+    (λ below. let within : n ≤ m = omega (arith, h, below) in let more : suc j * n ≤ suc j * m = mul-le-mul_left (suc j) within in omega (arith, more))
+    (λ above. let enough : 1 * m ≤ suc j * m = mul-le-mul_right m (one_within j) in omega (arith, h, above, enough))
+    (cases_lt n (2 ^ 64 - 1))
+  where
+    one_within : (i : ℕ) → 1 ≤ suc i
+    one_within i = omega arith
 
 times_least : (k n : ℕ) (x : Option ℕ) → IsAtLeast n x → IsAtLeast (k * n) (times k x)
-times_least k n None h = tt
-times_least zero n (Some m) h = omega arith
-times_least (suc j) n (Some m) h = ⊎_elim
-    (λ below. let more : suc j * n ≤ suc j * m = mul-le-mul_left (suc j) (omega (arith, h, below)) in omega (arith, more))
-    (λ above. omega (arith, h, above))
-    (cases_lt n (2 ^ 64 - 1))
+times_least k n None h = record { least = tt }
+times_least k n (Some m) h = told_least (k * n) (capped (k * m)) (times_told k n m h.least)
 
 -- ---- expressions
 
 read_least : (known : Counts) (all : List ℕ) → IsAtLeast 1 (read_nodes known all)
-read_least known [] = omega arith
+read_least known [] = one_least
 read_least known (a ∷ rest) =
-    plus_least 1 0 (plus (Some 1) (known a)) (sum_of 1 known rest) (plus_least 1 0 (Some 1) (known a) (omega arith) (any_least (known a))) (any_least (sum_of 1 known rest))
+    plus_least 1 0 (plus (Some 1) (known a)) (sum_of 1 known rest) (plus_least 1 0 (Some 1) (known a) one_least (any_least (known a))) (any_least (sum_of 1 known rest))
 
 module _ (d : DescriptionTree) where
   entry_least : (known : Counts) (i : ℕ) (w : Option What) → IsAtLeast 1 (entry_count (chosen_by d) (expressions_counting d) known i w)
-  entry_least known i None = tt
-  entry_least known i (Some (whats.Group c)) = tt
-  entry_least known i (Some (whats.Instance c)) = tt
-  entry_least known i (Some whats.Label) = tt
+  entry_least known i None = record { least = tt }
+  entry_least known i (Some (whats.Group c)) = record { least = tt }
+  entry_least known i (Some (whats.Instance c)) = record { least = tt }
+  entry_least known i (Some whats.Label) = record { least = tt }
   entry_least known i (Some whats.Reference) = read_least known (chosen_by d i)
 
   node_least : (known : Counts) (x : Node) → IsChosen x → IsAtLeast 1 (node_count_of d (chosen_by d) (expressions_counting d) known x)
@@ -87,17 +108,17 @@ module _ (d : DescriptionTree) (ranks : Ranks d) (o : ℕ) where
   name_least n = by (counted_of d o n) refl
     where
       by : (x : Option ℕ) → counted_of d o n ≡ x → IsAtLeast 1 (known_or 1 (expression_counts d) x)
-      by None e = omega arith
+      by None e = one_least
       by (Some a) e = chosen_least d a (lower d ranks o n a e).chosen
 
   expression_least : (e : ExprTree) → IsAtLeast (typed.expression_nodes e) (expression_nodes (expression_counts d) d o e)
-  expression_least (exprs.Number v base) = omega arith
+  expression_least (exprs.Number v base) = one_least
   expression_least (exprs.Named n) = name_least n
   expression_least (exprs.Element n index) = more_least _ _ (expression_least index)
-  expression_least (exprs.Input field) = omega arith
-  expression_least (exprs.Output field) = omega arith
-  expression_least (exprs.Boundary pipe before after field) = omega arith
-  expression_least exprs.Decoded = omega arith
+  expression_least (exprs.Input field) = one_least
+  expression_least (exprs.Output field) = one_least
+  expression_least (exprs.Boundary pipe before after field) = one_least
+  expression_least exprs.Decoded = one_least
   expression_least (exprs.Cast shape a) = more_least _ _ (expression_least a)
   expression_least (exprs.Complement a) = more_least _ _ (expression_least a)
   expression_least (exprs.Negate a) = more_least _ _ (expression_least a)
@@ -112,7 +133,7 @@ same_turns (Some b) = refl
 
 module _ (weigh : ExprTree → Option ℕ) (call : List ℕ → Option ℕ) (weighs : (e : ExprTree) → IsAtLeast (typed.expression_nodes e) (weigh e)) where
   initial_least : (e : Option ExprTree) → IsAtLeast (typed.initial_nodes e) (initial weigh e)
-  initial_least None = omega arith
+  initial_least None = none_least
   initial_least (Some e) = weighs e
 
   turns_least : (head : HeadTree) (n : ℕ) (x : Option ℕ) → IsAtLeast n x → IsAtLeast (typed.turns_of (bounds_of head) * n) (times (turns_of head) x)
@@ -120,7 +141,7 @@ module _ (weigh : ExprTree → Option ℕ) (call : List ℕ → Option ℕ) (wei
 
   mutual
     statement_least : (s : StmtTree) → IsAtLeast (typed.statement_nodes s) (statement_count weigh call s)
-    statement_least stmts.Empty = omega arith
+    statement_least stmts.Empty = one_least
     statement_least (stmts.Block all) = more_least _ _ (statements_least all)
     statement_least (stmts.Local shape n value) = more_least _ _ (initial_least value)
     statement_least (stmts.Assign place value) = more_least _ _ (plus_least _ _ _ _ (weighs place) (weighs value))
@@ -129,20 +150,20 @@ module _ (weigh : ExprTree → Option ℕ) (call : List ℕ → Option ℕ) (wei
     statement_least (stmts.While test body) = more_least _ _ (plus_least _ _ _ _ (weighs test) (statement_least body))
     statement_least (stmts.For head body) = more_least _ _ (turns_least head _ _ (statement_least body))
     statement_least (stmts.Call n) = more_least 0 _ (any_least (call n))
-    statement_least (stmts.Stall pipe stage) = omega arith
-    statement_least (stmts.Flush pipe stage) = omega arith
-    statement_least (stmts.Execute pipe) = omega arith
-    statement_least (stmts.Shift pipe) = omega arith
+    statement_least (stmts.Stall pipe stage) = one_least
+    statement_least (stmts.Flush pipe stage) = one_least
+    statement_least (stmts.Execute pipe) = one_least
+    statement_least (stmts.Shift pipe) = one_least
 
     statements_least : (all : StmtTrees) → IsAtLeast (typed.statements_nodes all) (statements_count weigh call all)
-    statements_least stmts.End = omega arith
+    statements_least stmts.End = none_least
     statements_least (stmts.Then s rest) = plus_least _ _ _ _ (statement_least s) (statements_least rest)
 
 -- ---- of an operation
 
 module _ (d : DescriptionTree) (none : IsFirstCircularOperation d None) (o : ℕ) (there : o < length d.operations) where
   behavior_least : (known : Counts) (b : Option StmtTrees) → IsAtLeast (nodes_in b) (behavior_count (Some (expression_counts d)) known d o b)
-  behavior_least known None = omega arith
+  behavior_least known None = none_least
   behavior_least known (Some all) =
       statements_least (weight (Some (expression_counts d)) d o) (called known d o) (λ e. expression_least d (node_ranks d none) o e) all
 
@@ -157,8 +178,9 @@ module _ (d : DescriptionTree) (none : IsFirstCircularOperation d None) (o : ℕ
   text_least =
       let n = nodes_in (behavior_in (sections_at d o)) in
       let least : IsAtLeast (n + 0) (nodes_of (texts d) o) = plus_least n 0 ((texts d).behaviors o) ((texts d).activations o) own_least (any_least ((texts d).activations o)) in
-      let told : capped (n + 0) ≤ nodes_at d o = subst (IsAtLeast (n + 0)) (are_counted d none o there).nodes least in
-      omega (arith, told)
+      let told = subst (IsAtLeast (n + 0)) (are_counted d none o there).nodes least in
+      let within : capped (n + 0) ≤ nodes_at d o = told.least in
+      omega (arith, within)
 
 -- of `reset`
 pub reset_least : (d : DescriptionTree) → IsFirstCircularOperation d None → capped (reset_node_count d) ≤ reset_nodes d

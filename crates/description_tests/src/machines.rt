@@ -5,7 +5,7 @@ use description_tables::Tables;
 use lisa_machine::{Machine, check};
 use lisa_reader::read_description;
 use lisa_words::NoMemory;
-use machine_parts::{count_reset, first_values, registers_have_first_values};
+use machine_parts::{count_reset, count_reset_nodes, first_values, registers_have_first_values};
 use std::alloc::{AllocError, Global};
 use std::test::Fail;
 
@@ -33,10 +33,11 @@ fn put_pins(alloc: Global, machine: &Machine, text: &mut String) -> Result<(), A
 // What a register holds first, where there is one of this number.
 fn first(alloc: Global, machine: &Machine, register: u32) -> Result<Option<u64>, NoMemory> {
     let tables = Tables::make(alloc, machine.description())?;
-    let count = count_reset(alloc, &tables)?;
+    let statements = count_reset(alloc, &tables)?;
+    let nodes = count_reset_nodes(alloc, &tables)?;
     let all = first_values(alloc, &tables)?;
     registers_have_first_values();
-    if count > 4096 || register as usize >= all.len() {
+    if statements > 4096 || nodes > 4_194_304 || register as usize >= all.len() {
         return Ok(None);
     }
     Ok(Some(machine.first(register)))

@@ -8,7 +8,7 @@ ghost use Rattle.lisa_object.specs.ImageReading.{is_extent, extent_in, extent_of
 ghost use Rattle.lisa_object.specs.declared.parts.Stamped.{Stamped};
 ghost use Rattle.lisa_object.specs.Rules.{IsStamped};
 ghost use Rattle.lisa_object.specs.Texts.{image_text};
-ghost use Rattle.lisa_object.specs.Seen.{Holds};
+ghost use Rattle.lisa_object.specs.Seen.{HoldsSorted};
 ghost use Rattle.lisa_object.specs.Gives.{Gives, IsThis, IsRefusal};
 
 use crate::faults::{ImageFault, Stop};
@@ -137,8 +137,8 @@ fn memory<'a>(
     left: Option<&'a [u8]>,
 ) -> Result<(ImageMemory, u32, Option<&'a [u8]>), Stop>
     requires { before ≤ 4194304 }
-    ensures exact { (names : List (List ℕ)) → Holds seen.old names → Gives (λ x. (x.0, parts_behind 10 (option_copied x.2))) result (memory_of before names line.now (parts_behind 10 (option_copied left.entry))) }
-    ensures seen { (names : List (List ℕ)) → Holds seen.old names → IfOk result (λ x. Holds seen.new (x.0.name ∷ names)) }
+    ensures exact { (names : List (List ℕ)) → HoldsSorted seen.old names → Gives (λ x. (x.0, parts_behind 10 (option_copied x.2))) result (memory_of before names line.now (parts_behind 10 (option_copied left.entry))) }
+    ensures seen { (names : List (List ℕ)) → HoldsSorted seen.old names → IfOk result (λ x. HoldsSorted seen.new (x.0.name ∷ names)) }
     ensures total { IfOk result (λ x. (x.1 ≡ before + length x.0.cells) × (x.1 ≤ 4194304)) }
 {
     let Some((name, extent)) = head_at(line) else {

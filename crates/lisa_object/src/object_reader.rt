@@ -4,7 +4,7 @@ ghost use Rattle.std.specs.List.{slice_split};
 ghost use Rattle.std.specs.Option.{option_copied, option_to_list};
 ghost use Rattle.text_lines.specs.Cuts.{parts_behind};
 ghost use Rattle.lisa_object.specs.declared.faults.Stop.TheVariants.{NoMemory};
-ghost use Rattle.lisa_object.specs.Seen.{Holds};
+ghost use Rattle.lisa_object.specs.Seen.{HoldsSorted};
 ghost use Rattle.lisa_object.specs.Gives.{Gives};
 ghost use Rattle.lisa_object.specs.Objects.{PlainObject, object_line_tree, object_tree};
 ghost use Rattle.lisa_object.specs.ObjectText.{object_text};
@@ -35,7 +35,7 @@ fn defined_name(line: &ObjectLine) -> Option<&[u8]>
 
 // Puts the name that a line defines to those that were seen, and answers whether it is new.
 fn enter_defined(alloc: Global, seen: &mut BTreeSet<Name>, line: &ObjectLine) -> Result<bool, Stop>
-    ensures new { (names : List (List ℕ)) → Holds seen.old names → IfOk result (λ new. (new ≡ is_new names (defined (object_line_tree line.now))) × Holds seen.new (defined (object_line_tree line.now) ++ names)) }
+    ensures new { (names : List (List ℕ)) → HoldsSorted seen.old names → IfOk result (λ new. (new ≡ is_new names (defined (object_line_tree line.now))) × HoldsSorted seen.new (defined (object_line_tree line.now) ++ names)) }
     ensures cause { IfErr result (λ e. e ≡ NoMemory) }
 {
     match defined_name(line) {
@@ -54,8 +54,8 @@ fn next_line(
 ) -> Result<ObjectLine, Stop>
     requires wide { standing.width ≤ 64 }
     requires below { standing.below ≤ 64 }
-    ensures exact { (names : List (List ℕ)) → Holds seen.old names → Gives object_line_tree result (next_line standing names line.now) }
-    ensures seen { (names : List (List ℕ)) → Holds seen.old names → IfOk result (λ l. Holds seen.new (defined (object_line_tree l) ++ names)) }
+    ensures exact { (names : List (List ℕ)) → HoldsSorted seen.old names → Gives object_line_tree result (next_line standing names line.now) }
+    ensures seen { (names : List (List ℕ)) → HoldsSorted seen.old names → IfOk result (λ l. HoldsSorted seen.new (defined (object_line_tree l) ++ names)) }
     ensures wide { IfOk result (λ l. (after standing (object_line_tree l)).width ≤ 64) }
     ensures below { IfOk result (λ l. (after standing (object_line_tree l)).below ≤ 64) }
 {

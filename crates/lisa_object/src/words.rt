@@ -6,7 +6,7 @@ ghost use Rattle.text_lines.specs.Cuts.{parts_behind};
 ghost use Rattle.lisa_object.specs.Reading.{first_of, is_nil, decimal_of, small_of, hex_of, nibble, pair_of, digest_of, digest_behind, opening_of, is_last};
 ghost use Rattle.std.specs.Str.{bytes_eq};
 ghost use Rattle.lisa_object.specs.declared.faults.Stop.TheVariants.{NoMemory};
-ghost use Rattle.lisa_object.specs.Seen.{Holds};
+ghost use Rattle.lisa_object.specs.Seen.{HoldsSorted};
 ghost use Rattle.lisa_object.specs.Rules.{is_visible, is_visible_byte, is_depth, depths};
 
 use crate::faults::Stop;
@@ -175,7 +175,7 @@ pub fn opening(keyword: &[u8], line: &[u8]) -> Option<[u8; 32]>
 
 // Puts a name to those that were seen, and answers whether it is new.
 pub fn enter(alloc: Global, seen: &mut BTreeSet<Name>, name: &[u8]) -> Result<bool, Stop>
-    ensures new { (names : List (List ℕ)) → Holds seen.old names → IfOk result (λ new. (new ≡ not (list_any (bytes_eq name.now) names)) × Holds seen.new (name.now ∷ names)) }
+    ensures new { (names : List (List ℕ)) → HoldsSorted seen.old names → IfOk result (λ new. (new ≡ not (list_any (bytes_eq name.now) names)) × HoldsSorted seen.new (name.now ∷ names)) }
     ensures cause { IfErr result (λ e. e ≡ NoMemory) }
 {
     let name = Name::from_bytes(alloc, name)?;

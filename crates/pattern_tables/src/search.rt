@@ -32,7 +32,7 @@ fn place_of<L: Ledger>(table: &PatternTable, key: u64, steps: &mut Steps<L>) -> 
     None
 }
 
-/// The form of this table that has the word.
+/// The form of this table that has the word. It takes at most one probe more than the number of its patterns has binary digits.
 pub fn form_in<L: Ledger>(table: &PatternTable, word: u64, steps: &mut Steps<L>) -> Option<u32>
     ensures found { IfSome result (λ k. In (entry table.now.mask (bit_and word table.now.mask) k) (entries_of table.now)) }
     ensures none { IfNone result ((k : ℕ) → In (entry table.now.mask (bit_and word table.now.mask) k) (entries_of table.now) → ⊥) }

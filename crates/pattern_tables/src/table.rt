@@ -23,12 +23,8 @@ pub struct PatternTable {
 }
 
 impl PatternTable {
-    /// The table of these forms, which have one mask.
-    pub(crate) fn make(
-        alloc: Global,
-        mask: u64,
-        entries: &[Entry],
-    ) -> Result<PatternTable, NoMemory>
+    /// The table of these forms, which have one mask, in the order of their patterns.
+    pub fn make(alloc: Global, mask: u64, entries: &[Entry]) -> Result<PatternTable, NoMemory>
         requires rising { IsRising (map (λ e. e.pattern) entries.now) }
         requires few { length entries.now < 2 ^ 32 }
         ensures mask { IfOk result (λ t. t.mask ≡ mask) }
@@ -48,20 +44,22 @@ impl PatternTable {
         })
     }
 
-    pub(crate) fn mask(&self) -> u64
+    /// The mask that all of them have.
+    pub fn mask(&self) -> u64
         ensures { result ≡ self.now.mask }
     {
         self.mask
     }
 
-    pub(crate) fn size(&self) -> u32
+    /// How many patterns there are.
+    pub fn size(&self) -> u32
         ensures { result ≡ length self.now.patterns.items }
     {
         self.patterns.len() as u32
     }
 
     /// The number of the form whose pattern stands at this place.
-    pub(crate) fn form(&self, place: u32) -> u32
+    pub fn form(&self, place: u32) -> u32
         requires { place < length self.now.patterns.items }
         ensures { result ≡ slice_index self.now.forms.items place }
     {

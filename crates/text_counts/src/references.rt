@@ -8,36 +8,34 @@ ghost use Rattle.lisa_tree.specs.declared.declared.What.TheVariants as whats;
 ghost use Rattle.lisa_tree.specs.Declarations.{what_at};
 ghost use Rattle.description_graph.specs.Graph.{IsGraph};
 ghost use Rattle.text_counts.specs.References.{AreMeanings};
-ghost use Rattle.text_counts.specs.Gathering.{IsGathered, shown};
+ghost use Rattle.text_counts.specs.Gathering.{IsGathered};
 
-use crate::gathering::{Graph, Numbers, list_at, visit};
+use crate::gathering::{Graph, list_at, visit};
 use lisa_tree::Names;
 use lisa_words::NoMemory;
 use std::alloc::{AllocError, Global};
 use std::marker::Model;
-use std::rc::Rc;
 
 /// What each reference of a description may choose: operations that are no aliases, each once, in the order of their numbers.
 #[derive(Drop)]
 pub struct Meanings {
-    lists: Vec<Numbers>,
+    lists: Vec<Vec<usize>>,
 }
 
 impl Model for Meanings {
     ghost Value = { List (Vec ℕ) };
 
-    ghost view = { λ m. shown m.lists.items };
+    ghost view = { λ m. m.lists.items };
 }
 
 // An empty list for each of so many.
-fn no_lists(alloc: Global, count: usize) -> Result<Vec<Numbers>, AllocError>
+fn no_lists(alloc: Global, count: usize) -> Result<Vec<Vec<usize>>, AllocError>
     ensures length { IfOk result (λ lists. length lists.items ≡ count) }
-    ensures none { IfOk result (λ lists. (i : ℕ) → targets (shown lists.items) i ≡ []) }
+    ensures none { IfOk result (λ lists. (i : ℕ) → targets lists.items i ≡ []) }
 {
-    let empty = Rc::new(alloc, Vec::new(alloc))?;
     let mut lists = Vec::new(alloc);
     for _number in 0..count {
-        lists.push(empty.clone()?)?;
+        lists.push(Vec::new(alloc))?;
     }
     Ok(lists)
 }

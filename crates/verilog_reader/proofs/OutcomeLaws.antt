@@ -1,7 +1,6 @@
 -- Each text spells a module that breaks no condition, or has a fault.
 use Rattle.std.proofs.Common.{◌≡◌, ℕ, ◌≤◌, List, [], length, Option, Some, None, Ok, Err, refl, sym, subst, arith}
 use Rattle.std.specs.Prelude.{flat_map}
-use Rattle.verilog_text.specs.declared.faults.VerilogFault.{VerilogFault}
 use Rattle.verilog_text.specs.declared.faults.VerilogFault.TheVariants as faults
 use Rattle.verilog_text.specs.Trees.{ModuleTree, members_depth}
 use Rattle.verilog_text.specs.Clocked.{blocks}
