@@ -33,6 +33,10 @@ IsSoFar d read (Ok here) seen lines = IfSome (option_copied here) HasWords
     × ((names : List (List ℕ)) × Holds seen names × ((left : List PlainLine) → AreAssembled d (read ++ left) (option_copied here) names lines left))
 IsSoFar d read (Err f) seen lines = (f ≡ faults.NoMemory) ⊎ ((left : List PlainLine) → IsSourceFault d None [] (read ++ left) f)
 
+pub same_so_far : (d : DescriptionTree) (read : List PlainLine) (was here : Result (Option (Bor ArrayItem)) SourceFault) (seen : Names) (lines : List PlainObjectLine) → was ≡ here
+    → IsSoFar d read was seen lines → IsSoFar d read here seen lines
+same_so_far d read was here seen lines e so = subst (λ (r : Result (Option (Bor ArrayItem)) SourceFault). IsSoFar d read r seen lines) e so
+
 pub nothing_so_far : (d : DescriptionTree) (seen : Names) → Holds seen [] → IsSoFar d [] (Ok None) seen []
 nothing_so_far d seen held = (tt, ([], held, λ left. assembled_first d left))
 

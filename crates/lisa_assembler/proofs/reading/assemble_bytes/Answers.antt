@@ -1,4 +1,4 @@
-use Rattle.std.proofs.Common.{◌≡◌, ◌∷◌, ◌++◌, ◌+◌, [], ℕ, List, length, map, option_copied, ap, sym, ◌∙◌, arith}
+use Rattle.std.proofs.Common.{◌≡◌, ◌∷◌, ◌++◌, ◌+◌, [], ℕ, List, Ok, length, map, option_copied, ap, sym, ◌∙◌, arith}
 use Rattle.std.specs.Str.Lines.{lines}
 use Rattle.std.proofs.lemmas.List.{map_push}
 use Rattle.std.proofs.lemmas.Result.{err_from_is_err_and}
@@ -9,7 +9,7 @@ use Rattle.asm_source.specs.Gives.{lines_with}
 use Rattle.asm_source.proofs.LineLoop.{begins, goes_on, misses_on, all_read}
 use Rattle.lisa_object.specs.Objects.{PlainObjectLine, object_line_tree}
 use Rattle.lisa_object.specs.declared.parts.ObjectLine.{ObjectLine}
-use Rattle.lisa_assembler.proofs.ReadOn.{IsSoFar, nothing_so_far, next_so_far, stays_so_far, missed_fault, whole_object, whole_fault}
+use Rattle.lisa_assembler.proofs.ReadOn.{IsSoFar, same_so_far, nothing_so_far, next_so_far, stays_so_far, missed_fault, whole_object, whole_fault}
 use Rattle.lisa_assembler.proofs.reading.assemble_bytes.Goals as goal
 
 pub each-init : goal.each-init
@@ -36,7 +36,7 @@ each-preserved-in-Ok c =
         i.0 ++ l ∷ [],
         goes_on i.0 (c.each.number + 1) c.in-Some.text.now (lines c.in-Some.after.now) l _ c.in_ok-line.ensures same,
         next_so_far d i.0 l c.in-Ok.before c.each.seen c.assemble_line.new.seen (map object_line_tree c.each.own.items) (map object_line_tree c.assemble_line.new.lines.items)
-            (rw c.in-Ok.is at i.2) c.assemble_line.result e.words e.section e.held e.step e.fault,
+            (same_so_far d i.0 _ _ c.each.seen (map object_line_tree c.each.own.items) c.in-Ok.is i.2) c.assemble_line.result e.words e.section e.held e.step e.fault,
       ),
     )
 
@@ -59,11 +59,17 @@ returns-in-Ok-clause-object c =
     let i = c.each.invariant.1 in
     let same = ap (λ (ls : List (List ℕ)). lines_with i.0 (source_from (c.each.number + 1) ls)) (sym c.in_default.ensures.lines) ∙ i.1 in
     whole_object (description_tree c.args.tools.now.machine.now) c.args.bytes.now i.0 (all_read i.0 (c.each.number + 1) _ same) c.each.seen (map object_line_tree c.each.own.items)
-    c.in-Ok.field-0 c.args.digest c.requires.digest (rw c.in-Ok.is at i.2)
+    c.in-Ok.field-0 c.args.digest c.requires.digest (same_so_far (description_tree c.args.tools.now.machine.now) i.0 _ _ c.each.seen (map object_line_tree c.each.own.items) c.in-Ok.is i.2)
 
 pub returns-in-Err-clause-fault : goal.returns-in-Err-clause-fault
 returns-in-Err-clause-fault c =
     let i = c.each.invariant.1 in
     let same = ap (λ (ls : List (List ℕ)). lines_with i.0 (source_from (c.each.number + 1) ls)) (sym c.in_default.ensures.lines) ∙ i.1 in
     whole_fault (description_tree c.args.tools.now.machine.now) c.args.bytes.now i.0 (all_read i.0 (c.each.number + 1) _ same) c.each.seen (map object_line_tree c.each.own.items)
-    c.in-Err.fault (rw c.in-Err.is at i.2)
+    c.in-Err.fault (same_so_far (description_tree c.args.tools.now.machine.now) i.0 _ _ c.each.seen (map object_line_tree c.each.own.items) c.in-Err.is i.2)
+
+pub assemble_line-requires-clause-words : goal.assemble_line-requires-clause-words
+assemble_line-requires-clause-words c =
+    let d = description_tree c.args.tools.now.machine.now in
+    let i = c.each.invariant.1 in
+    (same_so_far d i.0 c.each.here (Ok c.in-Ok.before) c.each.seen (map object_line_tree c.each.own.items) c.in-Ok.is i.2).0
