@@ -1,7 +1,10 @@
 // Assembling the bytes of sources.
-ghost use Rattle.std.specs.Prelude.{◌≡◌, ◌⊎◌, ◌<◌, ◌^◌, IfErr, IfOk, length};
+ghost use Rattle.std.specs.Prelude.{◌≡◌, ◌⊎◌, ◌<◌, ◌^◌, List, Ok, IfErr, IfOk, length};
 ghost use Rattle.std.specs.Str.Lines.{lines};
 ghost use Rattle.lisa_tree.specs.Descriptions.{description_tree};
+ghost use Rattle.asm_source.specs.Plain.{PlainLine};
+ghost use Rattle.asm_source.specs.Source.{source_of};
+ghost use Rattle.asm_source.specs.Gives.{Misses};
 ghost use Rattle.asm_source.specs.declared.flaw.SourceFault.TheVariants as faults;
 ghost use Rattle.lisa_object.specs.Objects.{object_tree};
 ghost use Rattle.lisa_assembler.specs.Tooling.{AreTools};
@@ -10,11 +13,22 @@ ghost use Rattle.lisa_assembler.specs.Sourced.{IsObjectOfBytes, IsFaultOfBytes};
 
 use crate::line::assemble_line;
 use crate::tools::Tools;
-use asm_source::{SourceFault, read_line};
+use asm_source::{SourceFault, read_line, read_source};
 use indexmap::IndexSet;
 use lisa_object::Object;
 use std::alloc::Global;
 use text_lines::next_line;
+
+// The first fault of a source in which a line has this one, and none before it: that of the first line that says nothing, if there is one.
+fn first_fault(alloc: Global, bytes: &[u8], fault: SourceFault) -> SourceFault
+    requires { length (lines bytes.now) < 2 ^ 32 }
+    ensures { Misses result (source_of bytes.now) ⊎ ((ls : List PlainLine) × (source_of bytes.now ≡ Ok ls) × (result ≡ fault)) }
+{
+    match read_source(alloc, bytes) {
+        Ok(_) => fault,
+        Err(unread) => unread,
+    }
+}
 
 /// The object of the source that bytes are, of a description with this digest, or the fault of its first line that says nothing, or else
 /// of its first line that has one. A line is assembled once it is read, and isn't kept.
@@ -32,19 +46,17 @@ pub fn assemble_bytes(
 {
     let mut seen = IndexSet::new(alloc);
     let mut own = Vec::new(alloc);
-    let mut here = Ok(None);
+    let mut here = None;
     let mut number: u32 = 0;
     let mut rest = bytes;
     'each: while let Some((text, after)) = next_line(rest) {
         number += 1;
         let line = read_line(alloc, number, text)?;
-        if let Ok(before) = here {
-            here = assemble_line(alloc, tools, before, &mut seen, &mut own, &line);
-        }
+        here = match assemble_line(alloc, tools, here, &mut seen, &mut own, &line) {
+            Ok(next) => next,
+            Err(fault) => return Err(first_fault(alloc, bytes, fault)),
+        };
         rest = after;
     }
-    match here {
-        Ok(_) => Ok(Object { digest, lines: own }),
-        Err(fault) => Err(fault),
-    }
+    Ok(Object { digest, lines: own })
 }
