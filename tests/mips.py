@@ -1,17 +1,21 @@
 #!/usr/bin/env python3
-"""The machine of examples/mips.lisa beside a plain interpreter of its instructions, and beside GNU's assembler.
+"""The machine of examples/mips.lisa beside a plain interpreter of its instructions, and beside GNU's tools.
 
-    tests/mips.py PROGRAM [--programs N] [--seed N]
+    tests/mips.py PROGRAM [--programs N] [--words N] [--seed N]
 
-Random programs with interrupts are run by PROGRAM, and must leave the registers and the memory that the interpreter leaves,
-which runs one instruction after the other and knows no pipeline. Where an assembler of GNU for MIPS is installed
-(mips-linux-gnu-as), each instruction with random operands has the word that it makes. The handler of interrupts counts in the
-last cell of the data memory and takes $13 and $14, so these are left out. The last line is `N passed, M failed`."""
+Each instruction with random operands is assembled, linked and listed by PROGRAM: it has its word, and is listed as it was
+written. Random programs with interrupts are run by PROGRAM, and must leave the registers and the memory that the interpreter
+leaves, which runs one instruction after the other and knows no pipeline; the module that PROGRAM wrote, clocked by it, prints
+the same bytes. A dozen errors, planted in the description one by one, must be caught by these. Where GNU's tools for MIPS are
+installed (mips-linux-gnu-as, -objcopy, -objdump), they make the same words and list the same texts, up to spacing and the
+targets of branches and jumps, of the instructions and of the programs in examples/. The handler of interrupts counts in the last
+cell of the data memory and takes $13 and $14, so these are left out. The last line is `N passed, M failed`."""
 
 import argparse
 import hashlib
 import os
 import random
+import re
 import shutil
 import subprocess
 import sys
@@ -113,7 +117,7 @@ def gnu_text(name, at):
     if name in SHIFT or name in SIGNED or name in PLAIN:
         return f"{name} ${at[0]}, ${at[1]}, {at[2]}"
     if name == "mult":
-        return f".word {word(name, *at):#x}" if False else f"mult ${at[0]}, ${at[1]}"
+        return f"mult ${at[0]}, ${at[1]}"
     if name == "lui":
         return f"lui ${at[0]}, {at[1]}"
     if name in MEMORY:
@@ -129,6 +133,32 @@ def gnu_text(name, at):
     if name in ("mfc0", "mtc0"):
         return f"{name} ${at[0]}, ${14 if name == 'mfc0' else 12}"
     return " ".join([name, *(f"${r}" for r in at)])
+
+
+def own_text(name, at):
+    """The instruction as the description has it: a branch by its distance and a jump by its place, in words."""
+    if name in SHIFT or name in PLAIN:
+        return f"{name} ${at[0]},${at[1]},{at[2]:#x}"
+    if name in SIGNED:
+        return f"{name} ${at[0]},${at[1]},{at[2]}"
+    if name == "lui":
+        return f"{name} ${at[0]},{at[1]:#x}"
+    if name in MEMORY:
+        return f"{name} ${at[0]},{at[1]}(${at[2]})"
+    if name in COMPARE or name in TEST:
+        return f"{name} " + ",".join(f"${r}" for r in at[:-1]) + f",{at[-1]}"
+    if name in JUMP:
+        return f"{name} {at[0]:#x}"
+    if name in ("mfc0", "mtc0"):
+        return f"{name} ${at[0]},${14 if name == 'mfc0' else 12}"
+    return " ".join([name, ",".join(f"${r}" for r in at)]).strip()
+
+
+def parts(text, targets=True):
+    """The name of an instruction and its operands, without the target of a branch or jump where that isn't asked for."""
+    name, rest = re.fullmatch(r"\s*(mfc0|mtc0|[a-z]+)(.*)", text).groups()
+    found = [it if it[0] == "$" else int(it, 0) for it in re.findall(r"\$\d+|-?0x[0-9a-f]+|-?\d+", rest)]
+    return name, found if targets or name not in (*COMPARE, *TEST, *JUMP) else [it for it in found if isinstance(it, str)]
 
 
 # ---- the interpreter
@@ -240,7 +270,7 @@ def random_program(draw):
         kind = draw.random()
         if kind < 0.12:
             inner = [i for i in (simple(draw) for _ in range(4)) if is_safe(i)]
-            body += inner[:0] + [("beq", 0, 0, 0)] if not inner else jumping(draw, len(inner)) + inner + [("addu", 0, 0, 0)] * 5
+            body += [("beq", 0, 0, 0)] if not inner else jumping(draw, len(inner)) + inner + [("addu", 0, 0, 0)] * 5
         elif kind < 0.18:
             inner = [i for i in (simple(draw) for _ in range(3)) if is_safe(i) and i[1] != 12]
             body += [("addiu", 12, 0, draw.randrange(1, 5)), *inner, ("addiu", 12, 12, -1), ("bgtz", 12, -len(inner) - 2)]
@@ -264,11 +294,38 @@ def random_program(draw):
 # ---- the program
 
 class Lisa:
-    def __init__(self, program, folder):
-        self.program, self.folder = program, folder
-        self.description = os.path.join(TOP, "examples", "mips.lisa")
+    """The program over a description of the machine, in a folder."""
+
+    def __init__(self, program, folder, description=os.path.join(TOP, "examples", "mips.lisa")):
+        self.program, self.folder, self.description = program, folder, description
         text = self.run("fmt", self.description)[1]
         self.digest = hashlib.sha256(text).hexdigest()
+
+    def save(self, name, *words):
+        """What the program prints with these words, put into a file; the fault where there is one."""
+        status, out, err = self.run(*words)
+        with open(os.path.join(self.folder, name), "wb") as file:
+            file.write(out)
+        return err.decode("latin-1").strip() if status else None
+
+    def read(self, name):
+        with open(os.path.join(self.folder, name), encoding="ascii") as file:
+            return file.read()
+
+    def assembled(self, texts):
+        """The words of instructions, and the lines of their listing; the fault where there is one."""
+        with open(os.path.join(self.folder, "t.s"), "w", encoding="ascii") as file:
+            file.write(".section prog\n" + "".join(it + "\n" for it in texts))
+        fault = (self.save("t.o", "asm", self.description, "t.s") or self.save("t.image", "link", self.description, "t.o")
+                 or self.save("t.list", "dis", self.description, "t.image"))
+        if fault:
+            return [], [], fault
+        return [int(it, 16) for it in self.read("t.image").splitlines()[2:-1]], self.read("t.list").splitlines()[1:], None
+
+    def clocks_alike(self, image, schedule, edges):
+        """Whether the module `m.v` prints what the description prints."""
+        ours = self.run("run", self.description, image, schedule, str(edges))
+        return ours == self.run("clock", "m.v", image, schedule, str(edges))
 
     def run(self, *words):
         done = subprocess.run([self.program, *words], cwd=self.folder, capture_output=True, timeout=300, check=False)
@@ -295,8 +352,8 @@ def differences(machine, state):
     return [(n, wanted.get(n, 0), shown.get(n, 0)) for n in sorted(names) if wanted.get(n, 0) != shown.get(n, 0)]
 
 
-def try_program(lisa, draw):
-    """Whether a random program leaves what the interpreter leaves, and how many interrupts it took."""
+def try_program(lisa, draw, clocked):
+    """How many interrupts a random program took, or the fault where it leaves something else than the interpreter, or the module does."""
     words = random_program(draw)
     machine = Machine(words)
     steps = 0
@@ -310,42 +367,153 @@ def try_program(lisa, draw):
     with open(os.path.join(lisa.folder, "s"), "w", encoding="ascii") as file:
         file.writelines(f"{e} irq={int(e in at)}\n" for e in rises)
     lisa.image("i", words)
-    state, fault = lisa.state("i", "s", edges + 60 * len(at))
+    edges += 60 * len(at)
+    state, fault = lisa.state("i", "s", edges)
     if fault is not None:
         return None, fault
     wrong = differences(machine, state)
-    return (None, str(wrong[:5])) if wrong else (int(state.get(f"data[{COUNT}]", "0x0"), 16), None)
+    if wrong:
+        return None, str(wrong[:5])
+    if clocked and not lisa.clocks_alike("i", "s", edges):
+        return None, "the module prints something else"
+    return int(state.get(f"data[{COUNT}]", "0x0"), 16), None
 
 
-# ---- GNU's assembler
+# ---- words and texts
 
-def gnu_words(assembler, texts, folder):
+def drawn_instructions(draw, count):
+    """Each instruction so many times, with random operands; GNU's assembler takes no jump out of the first mebibyte here."""
+    for name in NAMES:
+        for _ in range(count):
+            at = operands(name, draw)
+            yield name, (at[0] & 0x3FFFF,) if name in JUMP else at
+
+
+def compare_texts(lisa, instructions):
+    """The names of instructions that are assembled or listed otherwise than they are meant."""
+    wrong = set()
+    for first in range(0, len(instructions), CELLS):
+        some = instructions[first:first + CELLS]
+        words, listed, fault = lisa.assembled([own_text(name, at) for name, at in some])
+        if fault:
+            return {fault}
+        for (name, at), got, text in zip(some, words, listed):
+            if got != word(name, *at) or parts(text) != parts(own_text(name, at)):
+                wrong.add(name)
+    return wrong
+
+
+# ---- errors that are planted in the description
+
+ERRORS = [
+    ("nothing is forwarded", "n == PIPELINE_REGISTER(pipe, EX/ME).dst ? PIPELINE_REGISTER(pipe, EX/ME).res : R[n]", "R[n]"),
+    ("$0 is forwarded", "n == 0 ? 0 : n ==", "n =="),
+    ("$0 is written", "if (IN.dst != 0) R[IN.dst]", "R[IN.dst]"),
+    ("nothing waits for a load", "pipe.ID.stall();", ";"),
+    ("the second operand doesn't wait for a load", " || rt == (uint4) (PIPELINE_REGISTER(pipe, FE/ID).ir >> 16)", ""),
+    ("behind a taken branch one instruction is done", "if (rs != rt) { pc = IN.npc + ((int32) off << 2); pipe.FE.flush(); pipe.ID.flush(); }",
+     "if (rs != rt) { pc = IN.npc + ((int32) off << 2); pipe.FE.flush(); }"),
+    ("slt has no sign", "(int32) rs < (int32) rt", "rs < rt"),
+    ("sra fills with zeros", "(int32) rt >> by;", "rt >> by;"),
+    ("bytes stand from the other end", "uint5 low = (uint5) ~(uint2) IN.res << 3; OUT", "uint5 low = (uint5) (uint2) IN.res << 3; OUT"),
+    ("a byte is loaded with its sign", "OUT.res = (uint8) (data", "OUT.res = (int8) (data"),
+    ("an interrupt doesn't drop what is in EX", "pipe.FE.flush(); pipe.ID.flush(); pipe.EX.flush();", "pipe.FE.flush(); pipe.ID.flush();"),
+    ("a call links to itself", "OUT.dst = 15; OUT.res = IN.npc;", "OUT.dst = 15; OUT.res = IN.npc - 4;"),
+    ("slti has its registers exchanged", "CODING { 0b001010 rs rt imm", "CODING { 0b001010 rt rs imm"),
+]
+
+
+def catches(program, folder, error, instructions, seed, count):
+    """None where an error is caught by a word or a random program, else what is said of it."""
+    name, old, new = error
+    with open(os.path.join(TOP, "examples", "mips.lisa"), encoding="ascii") as file:
+        text = file.read()
+    if text.count(old) != 1:
+        return f"{name}: what it changes stands {text.count(old)} times"
+    with open(os.path.join(folder, "planted.lisa"), "w", encoding="ascii") as file:
+        file.write(text.replace(old, new))
+    lisa, draw = Lisa(program, folder, os.path.join(folder, "planted.lisa")), random.Random(seed)
+    status, _, err = lisa.run("check", lisa.description)
+    if status:
+        return f"{name}: the description is refused: {err.decode('latin-1').strip()}"
+    if compare_texts(lisa, instructions) or any(try_program(lisa, draw, False)[1] for _ in range(count)):
+        return None
+    return f"{name}: not caught"
+
+
+# ---- GNU's tools
+
+GNU = "mips-linux-gnu-"
+
+
+def gnu_made(texts, folder):
+    """The words that GNU's assembler makes of a source, and the texts that GNU's objdump lists of them."""
     source, made, raw = (os.path.join(folder, n) for n in ("g.s", "g.o", "g.bin"))
     with open(source, "w", encoding="ascii") as file:
         file.write(".set noreorder\n.set nomacro\n.set noat\n" + "".join(t + "\n" for t in texts))
-    subprocess.run([assembler, "-mips1", "-EB", "-no-pad-sections", "-o", made, source], check=True, capture_output=True)
-    subprocess.run([assembler[:-2] + "objcopy", "-O", "binary", "-j", ".text", made, raw], check=True, capture_output=True)
+    subprocess.run([GNU + "as", "-mips1", "-EB", "-no-pad-sections", "-o", made, source], check=True, capture_output=True)
+    subprocess.run([GNU + "objcopy", "-O", "binary", "-j", ".text", made, raw], check=True, capture_output=True)
     with open(raw, "rb") as file:
         data = file.read()
-    return [int.from_bytes(data[i:i + 4], "big") for i in range(0, len(data), 4)]
+    shown = subprocess.run([GNU + "objdump", "-D", "-z", "-b", "binary", "-EB", "-m", "mips:3000", "-M", "no-aliases,gpr-names=numeric,cp0-names=numeric", raw],
+                           check=True, capture_output=True, text=True).stdout
+    listed = [line.split("\t", 2)[2].replace("\t", " ").split("<")[0] for line in shown.splitlines() if re.match(r"\s*[0-9a-f]+:\t", line)]
+    # (one alias is listed all the same)
+    listed = [re.sub(r"^negu\s+(\$\d+),(\$\d+)", r"subu \1,$0,\2", it) for it in listed]
+    return [int.from_bytes(data[i:i + 4], "big") for i in range(0, len(data), 4)], listed
 
 
-def compare_words(draw, folder, count):
-    assembler = shutil.which("mips-linux-gnu-as")
-    if not assembler:
-        print("GNU's assembler for MIPS isn't installed (mips-linux-gnu-as): no word was compared with its")
-        return 0, 0
-    failed = 0
+def compare_with_gnu(lisa, instructions):
+    """The names of instructions of which GNU's tools make another word or text; each whole program of examples/ counts as one."""
+    words, listed = gnu_made([gnu_text(name, at) for name, at in instructions], lisa.folder)
+    wrong = {name for (name, at), got, text in zip(instructions, words, listed)
+             if got != word(name, *at) or parts(text, False) != parts(own_text(name, at), False)}
+    if len(words) != len(instructions) or len(listed) != len(words):
+        wrong.add("the number of words")
+    for name in ("sieve", "ticks"):
+        with open(os.path.join(TOP, "examples", name + ".s"), encoding="ascii") as file:
+            source = [gnu_line(line) for line in file]
+        with open(os.path.join(TOP, "examples", name + ".image"), encoding="ascii") as file:
+            cells = [int(it, 16) for it in file.read().splitlines()[2:-1]]
+        if gnu_made(source, lisa.folder)[0] != cells:
+            wrong.add(name)
+    return wrong
+
+
+def gnu_line(line):
+    """A line of a source of examples/ as GNU's assembler takes it."""
+    line = line.split(";")[0].replace(".section prog", ".text").rstrip()
+    line = re.sub(r"@\((\w+)-\$-1\)|@(\w+)", lambda it: it[1] or it[2], line)
+    return re.sub(r"\.space (\d+)", lambda it: f".space {4 * int(it[1])}", line)
+
+
+# ---- all
+
+class Counts:
+    def __init__(self):
+        self.passed = self.failed = 0
+
+    def note(self, fault):
+        self.passed, self.failed = self.passed + (fault is None), self.failed + (fault is not None)
+        if fault is not None:
+            print(fault)
+
+
+def try_instructions(counts, lisa, draw, count):
+    """All instructions by the program, and by GNU's tools where they are installed."""
+    instructions = list(drawn_instructions(draw, count))
+    wrong = compare_texts(lisa, instructions)
     for name in NAMES:
-        drawn = [operands(name, draw) for _ in range(count)]
-        if name in JUMP:
-            drawn = [(a[0] & 0x3FFFF,) for a in drawn]
-        made = gnu_words(assembler, [gnu_text(name, at) for at in drawn], folder)
-        wrong = [(at, made[i]) for i, at in enumerate(drawn) if made[i] != word(name, *at)]
-        failed += bool(wrong)
-        for at, got in wrong[:2]:
-            print(f"{name} {at}: {word(name, *at):#x}, and {got:#x} by GNU's")
-    return len(NAMES) - failed, failed
+        counts.note(f"{name} has another word or text" if name in wrong else None)
+    for other in wrong - set(NAMES):
+        counts.note(other)
+    missing = [GNU + it for it in ("as", "objcopy", "objdump") if not shutil.which(GNU + it)]
+    if missing:
+        print(f"not installed: {', '.join(missing)}; nothing was compared with GNU's tools")
+        return
+    wrong = compare_with_gnu(lisa, instructions)
+    for name in (*NAMES, "sieve", "ticks", *(wrong - {*NAMES, "sieve", "ticks"})):
+        counts.note(f"{name} is another one by GNU's tools" if name in wrong else None)
 
 
 def main():
@@ -355,18 +523,21 @@ def main():
     parser.add_argument("--words", type=int, default=200)
     parser.add_argument("--seed", type=int, default=1)
     given = parser.parse_args()
-    draw = random.Random(given.seed)
+    program, draw, counts, taken = os.path.abspath(given.program), random.Random(given.seed), Counts(), 0
     with tempfile.TemporaryDirectory() as folder:
-        passed, failed = compare_words(draw, folder, given.words)
-        lisa, taken = Lisa(os.path.abspath(given.program), folder), 0
+        lisa = Lisa(program, folder)
+        try_instructions(counts, lisa, draw, given.words)
+        counts.note(lisa.save("m.v", "verilog", lisa.description))
         for number in range(given.programs):
-            count, fault = try_program(lisa, draw)
-            passed, failed, taken = passed + (fault is None), failed + (fault is not None), taken + (count or 0)
-            if fault is not None:
-                print(f"random program {number}: {fault}")
+            count, fault = try_program(lisa, draw, True)
+            taken += count or 0
+            counts.note(None if fault is None else f"random program {number}: {fault}")
         print(f"{given.programs} random programs, {taken} interrupts taken")
-    print(f"{passed} passed, {failed} failed")
-    return 1 if failed else 0
+        few = list(drawn_instructions(random.Random(given.seed), 2))
+        for error in ERRORS:
+            counts.note(catches(program, folder, error, few, given.seed, 60))
+    print(f"{counts.passed} passed, {counts.failed} failed")
+    return 1 if counts.failed else 0
 
 
 if __name__ == "__main__":

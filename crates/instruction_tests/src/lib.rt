@@ -4,8 +4,6 @@
 #[cfg(test)]
 mod lines;
 #[cfg(test)]
-mod probes;
-#[cfg(test)]
 mod programs;
 #[cfg(test)]
 mod rows;

@@ -19,7 +19,7 @@ weight (Some nodes) d o e = expression_nodes nodes d o e
 abbrev pub called : Counts → DescriptionTree → ℕ → List ℕ → Option ℕ
 called known d o n = known_or 0 known (counted_of d o n)
 
-abbrev turns_in : Option Bounds → ℕ
+abbrev pub turns_in : Option Bounds → ℕ
 turns_in None = 0
 turns_in (Some b) = turns b
 

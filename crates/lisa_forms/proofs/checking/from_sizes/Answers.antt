@@ -1,20 +1,12 @@
-use Rattle.std.proofs.Common.{◌≡◌, ℕ, None, Some, Result, MatchResult, subst, inr}
+use Rattle.std.proofs.Common.{◌≡◌, ℕ, Some, Result, MatchResult, subst, inr}
 use Rattle.lisa_tree.specs.declared.faults.DescFault.{DescFault}
 use Rattle.description_sizes.specs.declared.unfolding.Unfolded.{Unfolded}
 use Rattle.description_sizes.specs.Outcomes.{IsUnfolded}
-use Rattle.description_sizes.specs.Sizes.{first_too_many, size_fault}
+use Rattle.description_sizes.specs.Sizes.{size_fault}
 use Rattle.lisa_forms.specs.Verdicts.{IsSizeVerdict, from_texts}
-use Rattle.lisa_forms.proofs.Walking.{here, past}
-use Rattle.lisa_forms.proofs.Counts.{size_refused, size_fits}
+use Rattle.lisa_forms.proofs.Walking.{here}
+use Rattle.lisa_forms.proofs.Counts.{size_refused}
 use Rattle.lisa_forms.proofs.checking.from_sizes.Goals as goal
-
-pub from_texts-requires-clause-before : goal.from_texts-requires-clause-before
-from_texts-requires-clause-before g c =
-    let d = g.N.Names.tree c.args.names.now in
-    let width = c.width_of-width.result in
-    let told : IsUnfolded d width c.in_ok-count.count c.in-Ok.unfolded = subst (λ (found : Result Unfolded DescFault). MatchResult found (IsUnfolded d width c.in_ok-count.count) (λ fault. size_fault d width c.in_ok-count.count ≡ Some fault)) c.in-Ok.is c.in_ok-unfolded.ensures in
-    let fits = subst (λ (n : ℕ). first_too_many d width n ≡ None) c.in_ok-count.ensures told.fits in
-    λ later. c.requires.before (past (IsSizeVerdict d) (from_texts d) None (size_fits d width c.width_of-width.ensures fits) later)
 
 pub returns-in-Err-clause-fault : goal.returns-in-Err-clause-fault
 returns-in-Err-clause-fault g c =

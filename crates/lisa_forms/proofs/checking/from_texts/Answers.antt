@@ -1,8 +1,5 @@
-use Rattle.std.proofs.Common.{subst, ◌<◌, List, None, length, option_map, refl, sym, ap, ◌∙◌}
+use Rattle.std.proofs.Common.{subst, ◌<◌, List, length, sym, ◌∙◌}
 use Rattle.instruction_forms.specs.declared.form.Form.{Form}
-use Rattle.lisa_machine.specs.Verdicts.{nothing}
-use Rattle.lisa_forms.specs.Verdicts.{bad_text, IsTextVerdict}
-use Rattle.lisa_forms.proofs.Walking.{past}
 use Rattle.lisa_forms.proofs.Parts.{bad_is_one}
 use Rattle.lisa_forms.proofs.checking.from_texts.Goals as goal
 
@@ -11,8 +8,3 @@ bad_text-requires-clause-within g c =
     let d = g.N.Names.tree c.args.names.now in
     subst (λ (all : List Form). c.in-Some.number < length all) (sym c.deref-in-Some.ensures.value)
     (bad_is_one d c.in_ok-all.all.items c.in-Some.number c.in_ok-all.ensures (sym c.in_ok-first_bad_text.ensures ∙ c.in-Some.is))
-
-pub kept-requires-clause-whole : goal.kept-requires-clause-whole
-kept-requires-clause-whole g c =
-    let d = g.N.Names.tree c.args.names.now in
-    c.requires.before (past (IsTextVerdict d) nothing None (ap (option_map (bad_text d)) (sym c.in-None.is ∙ c.in_ok-first_bad_text.ensures)) refl)
