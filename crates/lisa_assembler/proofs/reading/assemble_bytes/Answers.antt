@@ -52,6 +52,81 @@ each-preserved c =
       ),
     )
 
+pub each-preserved-in-Ok : goal.each-preserved-in-Ok
+each-preserved-in-Ok c =
+    let i = c.each.invariant.2 in
+    let l : PlainLine = line_tree c.in_ok-line.line in
+    let same = ap (λ (ls : List (List ℕ)). lines_with i.0 (source_from (c.each.number + 1) ls)) (sym c.in-Some.ensures.lines) ∙ i.1 in (
+      c.in-Ok.ensures.words,
+      omega (arith, c.each.invariant.1, ap length c.in-Some.ensures.lines),
+      (
+        i.0 ++ l ∷ [],
+        goes_on i.0 (c.each.number + 1) c.in-Some.text.now (lines c.in-Some.after.now) l _ c.in_ok-line.ensures same,
+        next_so_far (description_tree c.args.tools.now.machine.now) i.0 l (option_copied c.each.here) (option_copied c.in-Ok.next) c.each.seen c.assemble_line.new.seen (map object_line_tree c.each.own.items)
+            (map object_line_tree c.assemble_line.new.lines.items) i.2 c.in-Ok.ensures.section c.in-Ok.ensures.held c.in-Ok.ensures.step,
+      ),
+    )
+
+pub each-preserved-in-Ok-2 : goal.each-preserved-in-Ok-2
+each-preserved-in-Ok-2 c =
+    let i = c.each.invariant.2 in
+    let l : PlainLine = line_tree c.in_ok-line.line in
+    let same = ap (λ (ls : List (List ℕ)). lines_with i.0 (source_from (c.each.number + 1) ls)) (sym c.in-Some.ensures.lines) ∙ i.1 in (
+      c.in-Ok.ensures.words,
+      omega (arith, c.each.invariant.1, ap length c.in-Some.ensures.lines),
+      (
+        i.0 ++ l ∷ [],
+        goes_on i.0 (c.each.number + 1) c.in-Some.text.now (lines c.in-Some.after.now) l _ c.in_ok-line.ensures same,
+        next_so_far (description_tree c.args.tools.now.machine.now) i.0 l (option_copied c.each.here) (option_copied c.in-Ok.next) c.each.seen c.assemble_line.new.seen (map object_line_tree c.each.own.items)
+            (map object_line_tree c.assemble_line.new.lines.items) i.2 c.in-Ok.ensures.section c.in-Ok.ensures.held c.in-Ok.ensures.step,
+      ),
+    )
+
+pub each-preserved-in-Ok-3 : goal.each-preserved-in-Ok-3
+each-preserved-in-Ok-3 c =
+    let i = c.each.invariant.2 in
+    let l : PlainLine = line_tree c.in_ok-line.line in
+    let same = ap (λ (ls : List (List ℕ)). lines_with i.0 (source_from (c.each.number + 1) ls)) (sym c.in-Some.ensures.lines) ∙ i.1 in (
+      c.in-Ok.ensures.words,
+      omega (arith, c.each.invariant.1, ap length c.in-Some.ensures.lines),
+      (
+        i.0 ++ l ∷ [],
+        goes_on i.0 (c.each.number + 1) c.in-Some.text.now (lines c.in-Some.after.now) l _ c.in_ok-line.ensures same,
+        next_so_far (description_tree c.args.tools.now.machine.now) i.0 l (option_copied c.each.here) (option_copied c.in-Ok.next) c.each.seen c.assemble_line.new.seen (map object_line_tree c.each.own.items)
+            (map object_line_tree c.assemble_line.new.lines.items) i.2 c.in-Ok.ensures.section c.in-Ok.ensures.held c.in-Ok.ensures.step,
+      ),
+    )
+
+pub each-preserved-in-Ok-4 : goal.each-preserved-in-Ok-4
+each-preserved-in-Ok-4 c =
+    let i = c.each.invariant.2 in
+    let l : PlainLine = line_tree c.in_ok-line.line in
+    let same = ap (λ (ls : List (List ℕ)). lines_with i.0 (source_from (c.each.number + 1) ls)) (sym c.in-Some.ensures.lines) ∙ i.1 in (
+      c.in-Ok.ensures.words,
+      omega (arith, c.each.invariant.1, ap length c.in-Some.ensures.lines),
+      (
+        i.0 ++ l ∷ [],
+        goes_on i.0 (c.each.number + 1) c.in-Some.text.now (lines c.in-Some.after.now) l _ c.in_ok-line.ensures same,
+        next_so_far (description_tree c.args.tools.now.machine.now) i.0 l (option_copied c.each.here) (option_copied c.in-Ok.next) c.each.seen c.assemble_line.new.seen (map object_line_tree c.each.own.items)
+            (map object_line_tree c.assemble_line.new.lines.items) i.2 c.in-Ok.ensures.section c.in-Ok.ensures.held c.in-Ok.ensures.step,
+      ),
+    )
+
+pub each-preserved-in-Ok-5 : goal.each-preserved-in-Ok-5
+each-preserved-in-Ok-5 c =
+    let i = c.each.invariant.2 in
+    let l : PlainLine = line_tree c.in_ok-line.line in
+    let same = ap (λ (ls : List (List ℕ)). lines_with i.0 (source_from (c.each.number + 1) ls)) (sym c.in-Some.ensures.lines) ∙ i.1 in (
+      c.in-Ok.ensures.words,
+      omega (arith, c.each.invariant.1, ap length c.in-Some.ensures.lines),
+      (
+        i.0 ++ l ∷ [],
+        goes_on i.0 (c.each.number + 1) c.in-Some.text.now (lines c.in-Some.after.now) l _ c.in_ok-line.ensures same,
+        next_so_far (description_tree c.args.tools.now.machine.now) i.0 l (option_copied c.each.here) (option_copied c.in-Ok.next) c.each.seen c.assemble_line.new.seen (map object_line_tree c.each.own.items)
+            (map object_line_tree c.assemble_line.new.lines.items) i.2 c.in-Ok.ensures.section c.in-Ok.ensures.held c.in-Ok.ensures.step,
+      ),
+    )
+
 pub returns-clause-object : goal.returns-clause-object
 returns-clause-object c =
     let i = c.each.invariant.2 in
