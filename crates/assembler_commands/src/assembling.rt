@@ -10,13 +10,14 @@ ghost use Rattle.lisa_object.specs.ObjectText.{object_text};
 ghost use Rattle.lisa_assembler.specs.Objects.{IsObjectOf};
 ghost use Rattle.lisa_assembler.specs.Faults.{IsSourceFault};
 ghost use Rattle.lisa_assembler.specs.Memories.{memory_items};
+ghost use Rattle.lisa_assembler.specs.Sourced.{IsObjectOfBytes, IsFaultOfBytes};
 ghost use Rattle.lisa_linker.specs.Memories.{AreMemories};
 ghost use Rattle.lisa_outcomes.specs.Replies.{Replies};
 ghost use Rattle.lisa_outcomes.specs.Stages.{Finds};
 ghost use Rattle.lisa_outcomes.specs.Writes.{Writes};
 ghost use Rattle.checked_descriptions.specs.Checked.{AfterChecks};
 ghost use Rattle.checked_descriptions.specs.ToolViews.{checked_of, AreTools};
-ghost use Rattle.assembler_commands.specs.Assembled.{IsSource, IsNoSource, IsUnassembled, Assembles, AssemblesChecked, GivesObject};
+ghost use Rattle.assembler_commands.specs.Assembled.{IsSource, IsNoSource, IsUnassembled, AssemblesChecked, GivesObject};
 ghost use Rattle.assembler_commands.specs.Unlinked.{unassembled_end};
 
 use crate::memories::memories_of;
@@ -24,7 +25,7 @@ use crate::writing::write_text;
 use asm_source::{SourceFault, SourceLine, read_source};
 use checked_descriptions::{Tools, description_of, tools_of};
 use description_digest::digest;
-use lisa_assembler::{Tools as Assembler, assemble};
+use lisa_assembler::{Tools as Assembler, assemble, assemble_bytes};
 use lisa_engine::ArrayItem;
 use lisa_io::Sink;
 use lisa_object::{Object, print_object};
@@ -114,24 +115,51 @@ fn write_object<O: Sink>(alloc: Global, object: &Object, out: &mut O) -> Result<
     }
 }
 
-// The object of lines that were read.
-fn assemble_read<O: Sink>(
+// The object of the source that bytes are, of a description with these memories and this digest.
+fn assembled_bytes(
     alloc: Global,
     tools: &Tools,
-    lines: &[SourceLine],
-    out: &mut O,
-) -> Result<(), End>
+    memories: &[ArrayItem],
+    digest: [u8; 32],
+    source: &[u8],
+) -> Result<Object, SourceFault>
     requires tools { AreTools tools.now }
-    ensures { Replies (Assembles (checked_of tools.now).tree (map line_tree lines.now)) (O.written out.old) (O.written out.new) (O.faults out.old) (O.faults out.new) result }
+    requires memories { memories.now ≡ memory_items (checked_of tools.now).tree }
+    requires places { AreMemories memories.now }
+    requires digest { digest ≡ digest_of (checked_of tools.now).tree }
+    requires short { length source.now < 2 ^ 32 }
+    ensures object { IfOk result (λ o. IsObjectOfBytes (checked_of tools.now).tree source.now (object_tree o)) }
+    ensures fault { IfErr result (λ f. (f ≡ faults.NoMemory) ⊎ IsFaultOfBytes (checked_of tools.now).tree source.now f) }
+{
+    match Assembler::make(
+        alloc,
+        &tools.machine,
+        &tools.forms,
+        &tools.coding,
+        &tools.syntax,
+        memories,
+    ) {
+        Ok(assembler) => assemble_bytes(alloc, &assembler, digest, source),
+        Err(_) => Err(SourceFault::NoMemory),
+    }
+}
+
+// The object of the source that bytes are.
+fn object_of_bytes(alloc: Global, tools: &Tools, source: &[u8]) -> Result<Object, SourceFault>
+    requires tools { AreTools tools.now }
+    requires short { length source.now < 2 ^ 32 }
+    ensures object { IfOk result (λ o. IsObjectOfBytes (checked_of tools.now).tree source.now (object_tree o)) }
+    ensures fault { IfErr result (λ f. (f ≡ faults.NoMemory) ⊎ IsFaultOfBytes (checked_of tools.now).tree source.now f) }
 {
     let digest = match digest(alloc, tools.machine.description()) {
         Ok(digest) => digest,
-        Err(_) => return Err(End::NoMemory),
+        Err(_) => return Err(SourceFault::NoMemory),
     };
-    match object_of(alloc, tools, digest, lines) {
-        Ok(object) => write_object(alloc, &object, out),
-        Err(end) => Err(end),
-    }
+    let memories = match memories_of(alloc, &tools.machine) {
+        Ok(memories) => memories,
+        Err(_) => return Err(SourceFault::NoMemory),
+    };
+    assembled_bytes(alloc, tools, &memories, digest, source)
 }
 
 // `asm` over a description that is checked.
@@ -145,9 +173,10 @@ fn assemble_with_tools<O: Sink>(
     requires short { length source.now < 2 ^ 32 }
     ensures { Replies (AssemblesChecked source.now (checked_of tools.now)) (O.written out.old) (O.written out.new) (O.faults out.old) (O.faults out.new) result }
 {
-    match lines_of(alloc, source) {
-        Ok(lines) => assemble_read(alloc, tools, &lines, out),
-        Err(end) => Err(end),
+    sources_have_one_answer();
+    match object_of_bytes(alloc, tools, source) {
+        Ok(object) => write_object(alloc, &object, out),
+        Err(fault) => Err(unassembled(fault)),
     }
 }
 

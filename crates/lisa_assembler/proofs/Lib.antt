@@ -3,6 +3,7 @@ pub mod Doubles
 pub mod Written
 pub mod Stepping
 pub mod Assembled
+pub mod ReadOn
 pub mod FieldsMade
 pub mod Falling
 pub mod Ranges

@@ -1,6 +1,7 @@
 pub mod Memories
 pub mod Sources
 pub mod Objects
+pub mod Sourced
 pub mod Faults
 pub mod Places
 pub mod Fields

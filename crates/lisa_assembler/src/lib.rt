@@ -9,7 +9,9 @@ mod fixes;
 mod line;
 mod memories;
 mod names;
+mod reading;
 mod tools;
 
 pub use assembling::assemble;
+pub use reading::assemble_bytes;
 pub use tools::Tools;
