@@ -14,7 +14,7 @@ use Rattle.use_promises.specs.Using.{IsStartable}
 use Rattle.activation_trees.specs.declared.parts.Occurrence.{Occurrence}
 use Rattle.activation_trees.specs.Starting.{Activated, activated, plain_named}
 use Rattle.activation_trees.specs.Unfolding.{occurrences}
-use Rattle.activation_trees.specs.Unfolding as unfolding
+use Rattle.activation_trees.specs.Unfolding as trees_of
 use Rattle.activation_trees.specs.Activators.{IsChild, HasActivator}
 use Rattle.activation_trees.specs.Places.{IsBelow, IsBelowBy, HasName, place, name_by}
 use Rattle.activation_trees.proofs.Lying.{has_activator}
@@ -26,7 +26,7 @@ use Rattle.lisa_forms.specs.Choosing.{child_place, child_at, operation_of}
 use Rattle.lisa_forms.specs.Ways.{by_place, by_name, by_activator, way_below, way}
 use Rattle.lisa_forms.specs.Standings.{part_in, matched, matched_in, matched_child, beside, stood}
 use Rattle.lisa_meaning.specs.Standings.{Stood, standing}
-use Rattle.lisa_meaning.specs.Scenes.{Link, Scene, link, instruction_with, home, part_at, child_part, chosen, onto, child_at_home, child, occurrence_part, scene_by, has_word, scene_with, scene_of}
+use Rattle.lisa_meaning.specs.Scenes.{Link, link, instruction_with, home, part_at, child_part, chosen, onto, child_at_home, child, occurrence_part, scene_by, has_word, scene_with, scene_of}
 use Rattle.lisa_meaning.specs.Cores.{is_root_at, chooses}
 use Rattle.lisa_meaning.proofs.Onward.{root_named, past_inside}
 use Rattle.meaning_promises.specs.Forms.{IsPartOf}
@@ -42,12 +42,12 @@ use Rattle.child_promises.proofs.Lined.{Line, line_is, inside_part, Alike, same_
 -- one of what the activator's operation activates
 record Item (d : DescriptionTree) (k p : ℕ) (x a : Occurrence) : Type 0 where
   pub one : Activated
-  pub is : x ≡ unfolding.child d p a one
+  pub is : x ≡ trees_of.child d p a one
   pub name : HasName d a.operation (place (occurrences d) p k) one
 
-one_there : (d : DescriptionTree) (p : ℕ) (a x : Occurrence) (all : List Activated) (i : ℕ) → slice_get (map (unfolding.child d p a) all) i ≡ Some x → (c : Activated) × (slice_get all i ≡ Some c) × (x ≡ unfolding.child d p a c)
+one_there : (d : DescriptionTree) (p : ℕ) (a x : Occurrence) (all : List Activated) (i : ℕ) → slice_get (map (trees_of.child d p a) all) i ≡ Some x → (c : Activated) × (slice_get all i ≡ Some c) × (x ≡ trees_of.child d p a c)
 one_there d p a x [] i e = absurd (cc e)
-one_there d p a x (c ∷ all) zero e = (c, refl, sym (same_Some (unfolding.child d p a c) x e))
+one_there d p a x (c ∷ all) zero e = (c, refl, sym (same_Some (trees_of.child d p a c) x e))
 one_there d p a x (c ∷ all) (suc i) e = one_there d p a x all i e
 
 -- a coding has no place for a child of what isn't coded
@@ -142,7 +142,7 @@ module _ (d : DescriptionTree) (s : IsSound d) where
     -- ---- an occurrence and its activator
 
     module _ (n : List ℕ) (k p : ℕ) (x a : Occurrence) (b : IsBelowBy d n k x p a) where
-      all : List ℕ
+      abbrev all : List ℕ
       all = plain_named d a.operation n
 
       its : Item d k p x a
@@ -169,10 +169,10 @@ module _ (d : DescriptionTree) (s : IsSound d) where
 
       -- ---- paths
 
-      here : Option FormTree → Link
+      abbrev here : Option FormTree → Link
       here g = link a.operation (occurrence_part d g p)
 
-      own : Option FormTree → Link
+      abbrev own : Option FormTree → Link
       own f = link x.operation (occurrence_part d f k)
 
       abbrev Meets : Option FormTree → Option FormTree → Type 0
@@ -236,7 +236,7 @@ module _ (d : DescriptionTree) (s : IsSound d) where
       -- ---- past it
 
       module _ (w : ℕ) (f : FormTree) (is : instruction_with d w ≡ Some f) (part : Option FormTree) (stands : standing d f k ≡ Some part) where
-        form : Option FormTree
+        abbrev form : Option FormTree
         form = Some f
 
         own_part : occurrence_part d form k ≡ part

@@ -1,4 +1,0 @@
-pub mod Few
-pub mod Walked
-pub mod Called
-pub mod Limited
