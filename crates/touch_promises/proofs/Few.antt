@@ -1,5 +1,5 @@
 -- How many cells assignments write.
-use Rattle.std.proofs.Common.{◌≡◌, ◌≤◌, ◌+◌, ◌%◌, ◌∙◌, ◌++◌, ℕ, zero, suc, List, [], ◌∷◌, Option, None, Some, length, refl, sym, ap, arith, length-append}
+use Rattle.std.proofs.Common.{◌≤◌, ◌+◌, ◌%◌, ◌∙◌, ◌++◌, ℕ, zero, suc, List, [], ◌∷◌, Option, None, Some, refl, sym, ap, arith, length-append}
 use Rattle.std.specs.Prelude.{fold}
 use Rattle.std.specs.Map.{lookup}
 use Rattle.std.proofs.lemmas.List.Sums.{fold-append}
@@ -18,7 +18,7 @@ use Rattle.lisa_meaning.specs.Scenes.{Link, Scene, at_path, running, home, child
 use Rattle.lisa_meaning.specs.Moments.{Moment, with_stall, with_flush, bare}
 use Rattle.lisa_meaning.specs.Values.{Array, named_array, field_place, shape_at, expression_at, value_of}
 use Rattle.lisa_meaning.specs.Effects.{Given, PutBelow, resource_put, element_put, out_with, out_put, put_below, meant_put, name_put, put, put_within, at_level, bits_for}
-use Rattle.touch_promises.specs.Writes.{Write, write_cell, FewWrites}
+use Rattle.touch_promises.specs.Writes.{write_cell, FewWrites}
 
 -- ---- few writes after few
 

@@ -1,5 +1,5 @@
 -- The behaviours of occurrences write few cells.
-use Rattle.std.proofs.Common.{◌≡◌, max, ◌<◌, ◌≤◌, ◌+◌, ◌∙◌, ◌^◌, ◌-◌, ℕ, zero, suc, Bool, true, false, cond, List, [], ◌∷◌, Option, None, Some, length, refl, sym, ap, subst, arith}
+use Rattle.std.proofs.Common.{◌≡◌, max, ◌<◌, ◌≤◌, ◌∙◌, ◌^◌, ◌-◌, ℕ, zero, suc, List, [], ◌∷◌, Option, None, Some, length, refl, sym, ap, subst, arith}
 use Rattle.std.specs.Prelude.{slice_get, sum_by}
 use Rattle.std.proofs.lemmas.Bool.{cond_both}
 use Rattle.std.proofs.lemmas.List.Sums.{sum_by-cons}

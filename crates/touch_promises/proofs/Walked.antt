@@ -15,7 +15,7 @@ use Rattle.shape_checks.specs.declared.bounds.Bounds.{Bounds}
 use Rattle.shape_checks.specs.Bounds.{bounds_of, turns}
 use Rattle.typed_values.specs.Words.{TypedWord, is_zero}
 use Rattle.typed_values.specs.Expressions.{value}
-use Rattle.typed_values.specs.Effects.{Locals, Doing, local_put, counter_value, leave, turned, loop_turn, all_turns, looped, with_counter, effect, effects}
+use Rattle.typed_values.specs.Effects.{Locals, Doing, local_put, counter_value, leave, turned, loop_turn, all_turns, looped, effect, effects}
 use Rattle.lisa_machine.specs.Freedom.{Stands, AllStand}
 use Rattle.lisa_machine.proofs.Among.{stand_both}
 use Rattle.text_counts.specs.Sums.{plus, one_more, times, capped}
