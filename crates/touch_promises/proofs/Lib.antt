@@ -1,0 +1,4 @@
+pub mod Few
+pub mod Walked
+pub mod Called
+pub mod Limited
