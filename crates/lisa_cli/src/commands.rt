@@ -15,8 +15,8 @@ ghost use Rattle.command_words.specs.Asked.{request_of};
 ghost use Rattle.lisa_cli.specs.Gives.{Gives, GivesOver};
 ghost use Rattle.lisa_cli.specs.Worlds.{readings, IsGiven, IsHeard, HasFailed, IsCutOver, Blamed};
 
-use command_words::Command;
 use assembler_commands::{assemble_source, link_objects, list_image};
+use command_words::Command;
 use description_commands::{check_description, do_with_description, format_description};
 use generator_commands::{soak, write_program};
 use lisa_io::{Files, Flush, Source};
