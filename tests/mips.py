@@ -277,6 +277,10 @@ def random_program(draw):
         elif kind < 0.24:
             calls.append(len(body))
             body.append(("jal", 0))
+        elif kind < 0.5:
+            # (one that is done twice is seen)
+            at = draw.choice(FREE[:-2])
+            body.append(("addiu", at, at, draw.randrange(1, 100)))
         else:
             item = simple(draw)
             body.append(item if is_safe(item) else (item[0], item[1], item[2], 0))
