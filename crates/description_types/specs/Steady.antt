@@ -154,8 +154,10 @@ choice_type_less : (lacks some_open still refused more : Bool) (k m : Option Typ
     → Less (choice_type lacks some_open refused k) (choice_type lacks still more m)
 choice_type_less true some_open still refused more k m off same alike = same_less _
 choice_type_less false true still refused more k m off same alike = none_less _
-choice_type_less false false still refused more k m off same alike = record { keeps = λ t e.
-    ap (λ (b : Bool). choice_type false b more m) (off refl) ∙ ap₂ (choice_type false false) (sym (same refl)) (sym (alike refl)) ∙ e }
+choice_type_less false false still refused more k m off same alike = record {
+  keeps = λ t e.
+      ap (λ (b : Bool). choice_type false b more m) (off refl) ∙ ap₂ (choice_type false false) (sym (same refl)) (sym (alike refl)) ∙ e;
+}
 
 pub types_steady : (d : DescriptionTree) (unfit : ℕ → Bool) → IsSteady (type_fact d unfit)
 types_steady d unfit = record {
