@@ -1,9 +1,6 @@
 -- Rows of a list of lists.
-use Rattle.std.proofs.Common.{◌≡◌, ◌<◌, ◌≤◌, ◌≢◌, ◌+◌, ◌-◌, ◌&&◌, ◌||◌, ⊎_elim, ℕ, zero, suc, List, [], ◌∷◌, ◌++◌, Bool, true, false, cond, nat_eq, nat_lt, length, get_or, drop, drop-cons, set, refl, ap, sym, ◌∙◌, arith, add-one, append_assoc, Some, inl, inr}
+use Rattle.std.proofs.Common.{◌≡◌, ◌<◌, ◌≤◌, ◌≢◌, ◌+◌, ◌-◌, ◌&&◌, ◌||◌, ⊎_elim, ℕ, zero, suc, List, [], ◌∷◌, ◌++◌, Bool, true, false, cond, nat_eq, nat_lt, length, map, get_or, drop, drop-cons, set, refl, ap, sym, ◌∙◌, arith, add-one, append_assoc, Some, inl, inr}
 use Rattle.std.specs.Global.{Vec}
-use Rattle.std.specs.Rc.{rc_value}
-use Rattle.std_alloc.specs.declared.rc.counts.Rc.{Rc}
-use Rattle.std_heap.specs.declared.Global.{Global}
 use Rattle.std.proofs.Math.Dec.{eqb-suc-suc, eqb-suc-zero}
 use Rattle.std.proofs.lemmas.Bool.{cases_eq, cases_Bool, eq-eqb, ne_eqb, lt-ltb, ltb-true, ltb-false, le-ltb}
 use Rattle.std.proofs.lemmas.Bool.Decides.{nat_tests}
@@ -15,7 +12,7 @@ use Rattle.description_graph.specs.Graph.{first_entry}
 use Rattle.text_counts.specs.References.{chosen_by}
 use Rattle.graph_paths.specs.Paths.{targets, is_in, saw}
 use Rattle.graph_paths.proofs.Seen.{saw_past}
-use Rattle.text_counts.specs.Gathering.{late_row, gathered, gathered_at, shown}
+use Rattle.text_counts.specs.Gathering.{late_row, gathered, gathered_at}
 
 pub row_past : (rows : List (Vec ℕ)) (a : ℕ) → length rows ≤ a → targets rows a ≡ []
 row_past [] a h = refl
@@ -23,18 +20,18 @@ row_past (v ∷ rows) zero h = absurd (omega arith)
 row_past (v ∷ rows) (suc a) h = row_past rows a (omega arith)
 
 -- lists of which several may be one in memory
-pub shown_past : (lists : List (Rc (Vec ℕ) Global)) (a : ℕ) → length lists ≤ a → targets (shown lists) a ≡ []
-shown_past [] a h = refl
-shown_past (x ∷ lists) zero h = absurd (omega arith)
-shown_past (x ∷ lists) (suc a) h = shown_past lists a (omega arith)
+pub shown_past : {A : Type 0} (view : A → Vec ℕ) (lists : List A) (a : ℕ) → length lists ≤ a → targets (map view lists) a ≡ []
+shown_past view [] a h = refl
+shown_past view (x ∷ lists) zero h = absurd (omega arith)
+shown_past view (x ∷ lists) (suc a) h = shown_past view lists a (omega arith)
 
-shown_inside : (lists : List (Rc (Vec ℕ) Global)) (a : ℕ) (x : Rc (Vec ℕ) Global) → a < length lists → x ≡ get_or lists a x → targets (shown lists) a ≡ (rc_value x).items
-shown_inside [] a x h e = absurd (omega arith)
-shown_inside (z ∷ lists) zero x h e = ap (λ (r : Rc (Vec ℕ) Global). (rc_value r).items) (sym e)
-shown_inside (z ∷ lists) (suc a) x h e = shown_inside lists a x (omega arith) e
+shown_inside : {A : Type 0} (view : A → Vec ℕ) (lists : List A) (a : ℕ) (x : A) → a < length lists → x ≡ get_or lists a x → targets (map view lists) a ≡ (view x).items
+shown_inside view [] a x h e = absurd (omega arith)
+shown_inside view (z ∷ lists) zero x h e = ap (λ (r : _). (view r).items) (sym e)
+shown_inside view (z ∷ lists) (suc a) x h e = shown_inside view lists a x (omega arith) e
 
-pub shown_at : (lists : List (Rc (Vec ℕ) Global)) (n a : ℕ) (x : Rc (Vec ℕ) Global) → n ≡ length lists → a < n → x ≡ get_or lists a x → targets (shown lists) a ≡ (rc_value x).items
-shown_at lists n a x l h e = shown_inside lists a x (omega (arith, l, h)) e
+pub shown_at : {A : Type 0} (view : A → Vec ℕ) (lists : List A) (n a : ℕ) (x : A) → n ≡ length lists → a < n → x ≡ get_or lists a x → targets (map view lists) a ≡ (view x).items
+shown_at view lists n a x l h e = shown_inside view lists a x (omega (arith, l, h)) e
 
 pub targets_push : (next : List (Vec ℕ)) (v : Vec ℕ) (a : ℕ) → targets (next ++ v ∷ []) a ≡ cond (nat_eq a (length next)) v.items (targets next a)
 targets_push [] v zero = refl

@@ -1,10 +1,7 @@
 -- How what references may choose is gathered, one reference after another.
-use Rattle.std.specs.Prelude.{ℕ, ◌≡◌, ◌≤◌, ◌-◌, ◌||◌, Bool, true, false, List, [], ◌∷◌, ◌++◌, Option, None, Some, cond, map, nat_lt, length}
+use Rattle.std.specs.Prelude.{ℕ, ◌≡◌, ◌≤◌, ◌-◌, ◌||◌, Bool, true, false, List, [], ◌∷◌, ◌++◌, Option, None, Some, cond, nat_lt, length}
 use Rattle.std.specs.List.Sorted.{IsStrictlyIncreasing}
 use Rattle.std.specs.Global.{Vec}
-use Rattle.std.specs.Rc.{rc_value}
-use Rattle.std_alloc.specs.declared.rc.counts.Rc.{Rc}
-use Rattle.std_heap.specs.declared.Global.{Global}
 use Rattle.lisa_tree.specs.Descriptions.{DescriptionTree}
 use Rattle.graph_paths.specs.Paths.{targets, is_in, saw}
 use Rattle.lisa_tree.specs.declared.declared.What.{What}
@@ -13,10 +10,6 @@ use Rattle.lisa_tree.specs.Declarations.{entries, what_at}
 use Rattle.lisa_tree.specs.Paths.{entry_node}
 use Rattle.description_graph.specs.Graph.{first_entry}
 use Rattle.text_counts.specs.References.{MayMean, chosen_by}
-
--- lists of which several may be one in memory
-abbrev pub shown : List (Rc (Vec ℕ) Global) → List (Vec ℕ)
-shown lists = map rc_value lists
 
 -- The lists of references so far: nothing stands in them that isn't meant, and those that are done have all.
 pub record IsGathered (d : DescriptionTree) (lists : List (Vec ℕ)) (done : List Bool) : Type 0 where

@@ -1,6 +1,6 @@
 //! What references may choose, gathered one reference after another.
 
-ghost use Rattle.std.specs.Prelude.{◌≡◌, ◌↔◌, ◌<◌, ℕ, List, Some, [], length, IfOk, IfSome, OnOk, true, ◌++◌};
+ghost use Rattle.std.specs.Prelude.{◌≡◌, ◌↔◌, ◌<◌, ℕ, List, Some, [], length, map, IfOk, IfSome, OnOk, true, ◌++◌};
 ghost use Rattle.std.specs.Rc.{rc_value};
 ghost use Rattle.std.specs.List.{list_all};
 ghost use Rattle.std.specs.List.Sorted.{IsStrictlyIncreasing};
@@ -10,7 +10,7 @@ ghost use Rattle.lisa_tree.specs.declared.declared.What.TheVariants as whats;
 ghost use Rattle.lisa_tree.specs.Declarations.{entries, what_at};
 ghost use Rattle.description_graph.specs.Graph.{IsGraph, first_entry};
 ghost use Rattle.text_counts.specs.References.{MayMean, chosen_by};
-ghost use Rattle.text_counts.specs.Gathering.{IsGathered, is_node_ready, gathered_at, gathered, shown, AreSources, late_row};
+ghost use Rattle.text_counts.specs.Gathering.{IsGathered, is_node_ready, gathered_at, gathered, AreSources, late_row};
 
 use graph_paths::{reached_from, row};
 use lisa_tree::{Names, What};
@@ -151,7 +151,7 @@ fn sources<N: Names>(
 /// A list by its number, the empty one where there is none.
 #[tactic(auto, using(crate::proofs::Rows::shown_at, crate::proofs::Rows::shown_past))]
 pub(crate) fn list_at(lists: &[Numbers], number: usize) -> &[usize]
-    ensures { result.now ≡ targets (shown lists.now) number }
+    ensures { result.now ≡ targets (map rc_value lists.now) number }
 {
     if number < lists.len() {
         lists[number].as_slice()
@@ -162,7 +162,7 @@ pub(crate) fn list_at(lists: &[Numbers], number: usize) -> &[usize]
 
 // What a declared name chooses among, as far as it is known.
 fn chosen_by<'a, N: Names>(names: &'a N, lists: &'a [Numbers], number: usize) -> &'a [usize]
-    ensures { result.now ≡ chosen_by (N.tree names.now) (targets (shown lists.now)) number (what_at (N.tree names.now) number) }
+    ensures { result.now ≡ chosen_by (N.tree names.now) (targets (map rc_value lists.now)) number (what_at (N.tree names.now) number) }
 {
     match names.what_at(number) {
         Some(What::Group(choice)) | Some(What::Instance(choice)) => names.plain_at(choice),
@@ -178,7 +178,7 @@ fn gathered<N: Names>(
     lists: &[Numbers],
     nodes: &[usize],
 ) -> Result<Vec<usize>, AllocError>
-    ensures { IfOk result (λ all. all.items ≡ gathered (N.tree graph.now.names.now) (targets (shown lists.now)) nodes.now) }
+    ensures { IfOk result (λ all. all.items ≡ gathered (N.tree graph.now.names.now) (targets (map rc_value lists.now)) nodes.now) }
 {
     let mut all = Vec::new(alloc);
     for &node in nodes {
@@ -219,7 +219,7 @@ fn only_reference<N: Names>(graph: &Graph<'_, N>, nodes: &[usize]) -> Option<usi
 #[tactic(auto, using(crate::proofs::Rows::shown_at))]
 fn same_list(lists: &[Numbers], number: usize) -> Result<Numbers, AllocError>
     requires { number < length lists.now }
-    ensures { IfOk result (λ list. (rc_value list).items ≡ targets (shown lists.now) number) }
+    ensures { IfOk result (λ list. (rc_value list).items ≡ targets (map rc_value lists.now) number) }
 {
     lists[number].clone()
 }
@@ -231,9 +231,9 @@ fn list_of<N: Names>(
     lists: &[Numbers],
     nodes: &[usize],
 ) -> Result<Numbers, AllocError>
-    requires { (i : ℕ) → IsStrictlyIncreasing (targets (shown lists.now) i) }
+    requires { (i : ℕ) → IsStrictlyIncreasing (targets (map rc_value lists.now) i) }
     ensures rising { IfOk result (λ list. IsStrictlyIncreasing (rc_value list).items) }
-    ensures same { IfOk result (λ list. (a : ℕ) → is_in a (rc_value list).items ≡ is_in a (gathered (N.tree graph.now.names.now) (targets (shown lists.now)) nodes.now)) }
+    ensures same { IfOk result (λ list. (a : ℕ) → is_in a (rc_value list).items ≡ is_in a (gathered (N.tree graph.now.names.now) (targets (map rc_value lists.now)) nodes.now)) }
 {
     if let Some(number) = only_reference(graph, nodes) {
         if number < lists.len() {
@@ -253,8 +253,8 @@ pub(crate) fn visit<N: Names>(
     done: &mut Vec<bool>,
     number: usize,
 ) -> Result<(), AllocError>
-    requires { IsGathered (N.tree graph.now.names.now) (shown lists.old.items) done.old.items }
-    ensures gathered { OnOk result (IsGathered (N.tree graph.now.names.now) (shown lists.new.items) done.new.items) }
+    requires { IsGathered (N.tree graph.now.names.now) (map rc_value lists.old.items) done.old.items }
+    ensures gathered { OnOk result (IsGathered (N.tree graph.now.names.now) (map rc_value lists.new.items) done.new.items) }
     ensures kept { OnOk result ((i : ℕ) → saw done.old.items i ≡ true → saw done.new.items i ≡ true) }
     ensures done { OnOk result (what_at (N.tree graph.now.names.now) number ≡ Some whats.Reference → saw done.new.items number ≡ true) }
 {

@@ -1,5 +1,5 @@
 -- Beginnings that a text may have at once.
-use Rattle.std.specs.Prelude.{Bool, true, false, ◌||◌, List, Option, Some, nat_eq}
+use Rattle.std.specs.Prelude.{Bool, true, false, ◌||◌, List, Option, Some, None, nat_eq}
 use Rattle.std.specs.List.{starts_with}
 use Rattle.std.specs.Cmp.Lexicographic.{pointwise}
 use Rattle.instruction_texts.specs.declared.shapes.Shape.{Shape}

@@ -1,8 +1,7 @@
-use Rattle.std.proofs.Common.{ℕ, [], ◌∷◌, ap, rules, arith, ◌∙◌}
+use Rattle.std.proofs.Common.{ℕ, [], ◌∷◌, map, ap, rules, arith, ◌∙◌}
 use Rattle.std.specs.Global.{Vec}
 use Rattle.std.specs.Rc.{rc_value}
 use Rattle.std.proofs.lemmas.List.{map-append}
-use Rattle.text_counts.specs.Gathering.{shown}
 use Rattle.text_counts.proofs.Rows.{empty_pushed}
 use Rattle.text_counts.proofs.references.no_lists.Goals as goal
 
@@ -10,5 +9,5 @@ pub loop-number-preserved : goal.loop-number-preserved
 loop-number-preserved c = record {
   count = search (rules, c.in_ok-push.ensures.items);
   none = λ i. rw (c.in_ok-push.ensures.items, map-append rc_value c.loop-number.lists.items (c.in_ok-clone.value ∷ []))
-      (empty_pushed (shown c.loop-number.lists.items) (rc_value c.in_ok-clone.value) (ap (λ (v : Vec ℕ). v.items) (c.in_ok-clone.ensures ∙ c.in_ok-empty.ensures.ok) ∙ c.new.ensures.items) c.loop-number.invariant.none i);
+      (empty_pushed (map rc_value c.loop-number.lists.items) (rc_value c.in_ok-clone.value) (ap (λ (v : Vec ℕ). v.items) (c.in_ok-clone.ensures ∙ c.in_ok-empty.ensures.ok) ∙ c.new.ensures.items) c.loop-number.invariant.none i);
 }
