@@ -16,13 +16,15 @@ use crate::puts::put_items;
 use item_layouts::ItemPlace;
 use lisa_engine::Touch;
 use moment_stores::Store;
+use occurrence_choices::Choices;
 use scene_paths::Described;
 use std::marker::Model;
 
-/// A description, and a store of its machine.
+/// A description with what its forms choose, and a store of its machine.
 #[derive(Drop)]
 pub(crate) struct Body<'a> {
     pub(crate) described: Described<'a>,
+    pub(crate) choices: Choices<'a>,
     pub(crate) store: Store<'a>,
 }
 
@@ -35,6 +37,7 @@ impl<'a> Model for Body<'a> {
     ghost use Rattle.moment_stores.specs.Stores.{description_of, image_of, local_count, local_room, moment_of, touches_of};
     ghost use Rattle.scene_paths.specs.Lookups.{tree_of};
     ghost use Rattle.behavior_runs.specs.Rooms.{room_for};
+    ghost use Rattle.occurrence_choices.specs.Holders.{choices_tree};
     ghost use Rattle.lisa_sim.specs.Bodies.{Seen};
 
     ghost Value = { Seen };
@@ -43,7 +46,7 @@ impl<'a> Model for Body<'a> {
 
     ghost view = { λ b. record { described = b.described; image = image_of b.store; moment = moment_of b.store; touches = touches_of b.store } };
 
-    ghost invariant = { λ b. (description_of b.store ≡ tree_of b.described) × (local_count b.store + room_for (tree_of b.described) ≤ local_room b.store) };
+    ghost invariant = { λ b. (description_of b.store ≡ tree_of b.described) × (local_count b.store + room_for (tree_of b.described) ≤ local_room b.store) × (choices_tree b.choices ≡ tree_of b.described) };
 }
 
 impl<'a> Body<'a> {

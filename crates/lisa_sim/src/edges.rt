@@ -75,6 +75,7 @@ impl<'a> Behaves for Body<'a> {
     }
 
     fn behave(&mut self, number: u32, word: u64) {
+        self.choices.see(word);
         behave(&self.described, number, word, &mut self.store);
     }
 
@@ -87,7 +88,7 @@ impl<'a> Behaves for Body<'a> {
     }
 
     fn chooses(&self, number: u32, word: u64) -> bool {
-        self.described.chooses(number, word)
+        self.choices.chooses(number, word)
     }
 
     fn is_root(&self, number: u32) -> bool {
@@ -107,6 +108,6 @@ impl<'a> Behaves for Body<'a> {
     }
 
     fn decodes(&self, word: u64) -> bool {
-        self.described.decodes(word)
+        self.choices.decodes(word)
     }
 }

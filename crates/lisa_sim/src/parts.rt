@@ -13,6 +13,7 @@ ghost use Rattle.pipeline_time.specs.Sound.{IsSound};
 ghost use Rattle.pipeline_runs.specs.Turns.{IsEquipped, IsPlanOf};
 ghost use Rattle.pipeline_runs.specs.Pipelines.{ShowsHardware};
 ghost use Rattle.scene_paths.specs.Lookups.{tree_of};
+ghost use Rattle.occurrence_choices.specs.Holders.{choices_tree};
 ghost use Rattle.behavior_runs.specs.Rooms.{room_for};
 ghost use Rattle.lisa_meaning.specs.Cores.{core_of};
 ghost use Rattle.lisa_meaning.specs.States.{after_edges, first_contents, layout_of};
@@ -29,6 +30,7 @@ use lisa_forms::{Coding, Forms};
 use lisa_machine::Machine;
 use lisa_words::NoMemory;
 use moment_stores::Store;
+use occurrence_choices::Choices;
 use pipeline_runs::{Pipeline, Plan};
 use scene_paths::Described;
 use state_items::make_places;
@@ -40,6 +42,7 @@ pub(crate) struct Parts<'a> {
     pub(crate) plan: Plan,
     pub(crate) places: Vec<ItemPlace>,
     pub(crate) described: Described<'a>,
+    pub(crate) choices: Choices<'a>,
     /// For how many locals behaviours need room.
     pub(crate) room: usize,
 }
@@ -66,16 +69,19 @@ pub(crate) fn make_parts<'a>(
     ensures plan { IfOk result (λ parts. IsPlanOf (core_of (description_tree machine.now)) parts.plan) }
     ensures places { IfOk result (λ parts. parts.places.items ≡ item_places (layout_of (description_tree machine.now))) }
     ensures tree { IfOk result (λ parts. tree_of parts.described ≡ description_tree machine.now) }
+    ensures choices { IfOk result (λ parts. choices_tree parts.choices ≡ description_tree machine.now) }
     ensures room { IfOk result (λ parts. parts.room ≡ room_for (description_tree machine.now)) }
 {
     let plan = plan_of(alloc, machine, forms)?;
     let places = make_places(alloc, machine, forms)?;
     let described = Described::make(alloc, machine, forms, coding)?;
+    let choices = Choices::make(alloc, machine, forms, coding)?;
     let room = count_locals(machine, described.levels())?;
     Ok(Parts {
         plan,
         places,
         described,
+        choices,
         room,
     })
 }
@@ -106,10 +112,12 @@ pub(crate) fn make_pipeline<'a>(
     image: &'a Image,
     plan: &Plan,
     described: Described<'a>,
+    choices: Choices<'a>,
     room: usize,
 ) -> Result<Pipeline<Body<'a>>, MakeFault>
     requires image { IsImage image.now }
     requires tree { tree_of described ≡ description_tree machine.now }
+    requires choices { choices_tree choices ≡ description_tree machine.now }
     requires room { room ≡ room_for (description_tree machine.now) }
     requires sound { IsSound (core_of (description_tree machine.now)) }
     requires planned { IsPlanOf (core_of (description_tree machine.now)) plan.now }
@@ -122,7 +130,11 @@ pub(crate) fn make_pipeline<'a>(
     ensures missing { (name : List ℕ) → result ≡ Err (MakeFault.NoSuchMemory name) → missing_memory (arrays_of (description_tree machine.now)) image.now ≡ Some name }
 {
     let store = make_store(alloc, machine, image, room)?;
-    let body = Body { described, store };
+    let body = Body {
+        described,
+        choices,
+        store,
+    };
     let pipeline = Pipeline::make(alloc, plan, body)?;
     Ok(pipeline)
 }

@@ -87,9 +87,10 @@ impl<'a> Runner<'a> {
             plan,
             places,
             described,
+            choices,
             room,
         } = parts;
-        let pipeline = make_pipeline(alloc, machine, image, &plan, described, room)?;
+        let pipeline = make_pipeline(alloc, machine, image, &plan, described, choices, room)?;
         Ok(Runner {
             plan,
             places,
