@@ -1,5 +1,5 @@
 -- Rows of bits that grow number by number.
-use Rattle.std.proofs.Common.{◌≡◌, ◌≢◌, ℕ, zero, suc, ◌+◌, ◌/◌, Bool, true, false, ◌&&◌, ◌||◌, nat_eq, nat_lt, refl, ap, ◌∙◌, ⊎_elim, arith}
+use Rattle.std.proofs.Common.{◌≡◌, ◌≢◌, ℕ, zero, suc, ◌+◌, ◌/◌, Bool, true, false, ◌&&◌, ◌||◌, nat_eq, nat_lt, refl, sym, ap, ◌∙◌, ⊎_elim, arith}
 use Rattle.std.specs.Prelude.{replicate, slice_index, ◌%◌}
 use Rattle.std.proofs.lemmas.Bool.{cases_eq, eq-eqb, ne_eqb, lt-ltb}
 use Rattle.std.proofs.lemmas.Bool.Decides.{nat_tests}
@@ -51,3 +51,11 @@ module _ (n : ℕ) (wanted old : ℕ → Bool) (so_far : (k : ℕ) → old k ≡
 -- what is below the number counts alone
 pub wanted_below : (n k : ℕ) (w : Bool) → nat_lt k n ≡ true → (nat_lt k n && w) ≡ w
 wanted_below n k w below = grind arith
+
+-- a number is told where it is wanted
+pub one_told : (n : ℕ) (wanted old : ℕ → Bool) → ((k : ℕ) → old k ≡ (nat_lt k n && wanted k)) → (new : ℕ → Bool) (told : Bool) → told ≡ wanted n → ((k : ℕ) → new k ≡ (old k || (told && nat_eq k n))) → (k : ℕ) → new k ≡ (nat_lt k (n + 1) && wanted k)
+one_told n wanted old so_far new true is put = one_put n wanted old so_far new put (sym is)
+one_told n wanted old so_far new false is put = λ k. put k ∙ or_none (old k) ∙ none_put n wanted old so_far (sym is) k
+  where
+    or_none : (a : Bool) → (a || false) ≡ a
+    or_none a = grind arith

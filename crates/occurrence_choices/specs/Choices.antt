@@ -8,7 +8,25 @@ use Rattle.activation_bits.specs.Members.{member}
 use Rattle.activation_trees.specs.Unfolding.{occurrences}
 use Rattle.coding_tables.specs.Instructions.{form_count}
 use Rattle.lisa_forms.specs.Choosing.{numbered_form}
+use Rattle.lisa_forms.specs.declared.coding.Coding.{Coding}
+use Rattle.lisa_forms.specs.Codings.{IsCodingOf, IsDecodedAs}
+use Rattle.lisa_meaning.specs.Scenes.{form_with}
 use Rattle.lisa_meaning.specs.Standings.{standing}
+
+-- ---- words
+
+-- what is answered as the form of a word, whatever description the coding is of
+abbrev pub IsAnswer : Coding → ℕ → Option ℕ → Type 0
+IsAnswer c w found = (d : DescriptionTree) → IsCodingOf d c → IsDecodedAs d w found
+
+-- the coding answers the forms of a description's words
+abbrev pub AnswersForms : DescriptionTree → Coding → Type 0
+AnswersForms d c = (w : ℕ) (found : Option ℕ) → IsAnswer c w found → found ≡ form_with d w
+
+abbrev pub AnswersWithin : DescriptionTree → Coding → Type 0
+AnswersWithin d c = (w : ℕ) (found : Option ℕ) → IsAnswer c w found → (k : ℕ) → found ≡ Some k → k < form_count d
+
+-- ---- forms
 
 -- Whether an instruction of the form of this number, or a word without a form, chooses an occurrence: all that isn't past the root is chosen.
 abbrev pub chosen_by : DescriptionTree → Option ℕ → ℕ → Bool

@@ -40,7 +40,7 @@ impl<'a> Choices<'a> {
         if word == self.word {
             self.form
         } else {
-            decoded(self.coding, word)
+            self.coding.form_of(word)
         }
     }
 

@@ -1,9 +1,14 @@
 //! Rows of bits, made once.
 
-ghost use Rattle.std.specs.Prelude.{◌≡◌, ◌<◌, ℕ, Some, IfOk, length};
+ghost use Rattle.std.specs.Prelude.{◌≡◌, ◌<◌, ◌≤◌, ◌*◌, ◌||◌, ◌&&◌, ℕ, Some, IfOk, false, nat_eq, length, option_map, is_some, slice_get};
+ghost use Rattle.std.specs.Option.{option_and_then, option_map_or};
 ghost use Rattle.lisa_tree.specs.Descriptions.{DescriptionTree, description_tree};
+ghost use Rattle.activation_bits.specs.Members.{member};
+ghost use Rattle.activation_trees.specs.Unfolding.{occurrences};
 ghost use Rattle.lisa_forms.specs.Parts.{AreFormsOf};
 ghost use Rattle.lisa_forms.specs.Codings.{IsCodingOf};
+ghost use Rattle.lisa_forms.specs.Choosing.{numbered_form};
+ghost use Rattle.lisa_meaning.specs.Standings.{standing};
 ghost use Rattle.occurrence_choices.specs.Choices.{AreRows, IsRow, chosen_by};
 ghost use Rattle.occurrence_choices.specs.Holders.{choices_tree};
 
@@ -15,22 +20,63 @@ use lisa_machine::Machine;
 use lisa_words::NoMemory;
 use std::alloc::{AllocError, Global};
 
-// Whether an instruction of a form chooses an occurrence.
-fn is_chosen(forms: &Forms, form: Option<u32>, number: u32) -> bool
+// Whether an occurrence is past the root.
+fn is_past(forms: &Forms, number: u32) -> bool
+    requires { number < length forms.now.occurrences.items }
+    ensures { (d : DescriptionTree) → AreFormsOf d forms.now → result ≡ option_map_or (λ x. x.past_root) (slice_get (occurrences d) number) false }
+{
+    forms.occurrences()[number as usize].past_root
+}
+
+// Whether an instruction of a form chooses an occurrence past the root.
+fn is_chosen_past(forms: &Forms, form: Option<u32>, number: u32) -> bool
     requires form { (f : ℕ) → form ≡ Some f → f < length forms.now.forms.items }
     requires number { number < length forms.now.occurrences.items }
-    ensures { (d : DescriptionTree) → AreFormsOf d forms.now → result ≡ chosen_by d form number }
+    ensures { (d : DescriptionTree) → AreFormsOf d forms.now → result ≡ is_some (option_and_then (λ f. standing d f number) (option_map (numbered_form d) form)) }
 {
-    if !forms.occurrences()[number as usize].past_root {
-        return true;
-    }
     match form {
         None => false,
         Some(form) => forms.chooses(form, number),
     }
 }
 
-// The occurrences that instructions of a form choose.
+// Whether an instruction of a form chooses an occurrence.
+fn is_chosen(forms: &Forms, form: Option<u32>, number: u32) -> bool
+    requires form { (f : ℕ) → form ≡ Some f → f < length forms.now.forms.items }
+    requires number { number < length forms.now.occurrences.items }
+    ensures { (d : DescriptionTree) → AreFormsOf d forms.now → result ≡ chosen_by d form number }
+{
+    if is_past(forms, number) {
+        is_chosen_past(forms, form, number)
+    } else {
+        true
+    }
+}
+
+// Puts a number into a row where it is wanted.
+fn put(row: &mut [u64], number: usize, wanted: bool)
+    requires { number < 64 * length row.old }
+    ensures { (other : ℕ) → member row.new other ≡ (member row.old other || (wanted && nat_eq other number)) }
+{
+    if wanted {
+        insert(row, number);
+    }
+}
+
+// The occurrences that instructions of a form choose, in a row in which none is.
+fn fill_row(row: &mut [u64], forms: &Forms, form: Option<u32>, count: u32)
+    requires form { (f : ℕ) → form ≡ Some f → f < length forms.now.forms.items }
+    requires count { count ≡ length forms.now.occurrences.items }
+    requires room { count ≤ 64 * length row.old }
+    requires none { (k : ℕ) → member row.old k ≡ false }
+    ensures { (d : DescriptionTree) → AreFormsOf d forms.now → IsRow d form row.new }
+{
+    'each: for number in 0..count {
+        let wanted = is_chosen(forms, form, number);
+        put(row, number as usize, wanted);
+    }
+}
+
 fn make_row(
     alloc: Global,
     forms: &Forms,
@@ -42,11 +88,7 @@ fn make_row(
     ensures { IfOk result (λ row. (d : DescriptionTree) → AreFormsOf d forms.now → IsRow d form row.items) }
 {
     let mut row = vec![in alloc; 0; count as usize / 64 + 1]?;
-    'each: for number in 0..count {
-        if is_chosen(forms, form, number) {
-            insert(&mut row, number as usize);
-        }
-    }
+    fill_row(&mut row, forms, form, count);
     Ok(row)
 }
 
