@@ -1,5 +1,4 @@
-use Rattle.std.proofs.Common.{ap, subst, sym, ◌∙◌, arith}
-use Rattle.std.specs.Global.{Vec}
+use Rattle.std.proofs.Common.{◌+◌, sym, subst}
 use Rattle.occurrence_choices.proofs.Rows.{AreMade, one_made}
 use Rattle.occurrence_choices.proofs.making.make_rows.Goals as goal
 
