@@ -138,7 +138,8 @@ def main():
         folder = Path(made)
         for name in ("a", "c", "e", "five"):
             show(f"examples/{name}.lisa", TOP / f"examples/{name}.lisa", "-", folder, given)
-        show("examples/mips.lisa, sieve", TOP / "examples/mips.lisa", TOP / "examples/sieve.image", folder, given)
+        for name in ("sieve", "suite"):
+            show(f"examples/mips.lisa, {name}", TOP / "examples/mips.lisa", TOP / f"examples/{name}.image", folder, given)
         for forms in (40, 200, 1000):
             description, image = folder / f"m{forms}", folder / f"i{forms}"
             description.write_text(made_machine(forms), encoding="ascii")

@@ -405,7 +405,7 @@ def unknowns(names, place):
 
 # ---------------------------------------------------------------- types
 
-OPEN, NONE = "open", "none"
+OPEN, NONE, REFUSED = "open", "none", "refused"
 
 
 def bits(v):
@@ -419,7 +419,7 @@ def number_type(signed, v):
 
 
 class Types:
-    """What declared names may be used for, by what is known; open where that rests on itself."""
+    """What declared names may be used for, by what is known; open where that rests on itself, refused where it rests on a use that is."""
 
     def __init__(self, names):
         self.names = names
@@ -445,21 +445,38 @@ class Types:
         if entry.sort == "LABEL":
             width = self.names.field_of(entry)
             return NONE if width is None else (self.names.number_of(entry) == "#S", width)
-        found = [self.operation_type[a] for a in self.names.plain(entry)]
-        known = [it for it in found if it != OPEN]
-        if NONE in known or len(set(known)) > 1:
+        found = {self.operation_type[a] for a in self.names.plain(entry)}
+        if NONE in found:
             return NONE
-        return OPEN if OPEN in found or not found else known[0]
+        if OPEN in found:
+            return OPEN
+        if len(found - {REFUSED}) > 1:
+            return NONE
+        return REFUSED if REFUSED in found or not found else next(iter(found))
 
     def assignable_declaration(self, entry):
         if entry.sort == "LABEL":
             return False
         found = [self.operation_assignable[a] for a in self.names.plain(entry)]
-        return False if False in found else OPEN if OPEN in found or not found else True
+        if OPEN in found:
+            return OPEN
+        return False if False in found else REFUSED if REFUSED in found or not found else True
+
+    def all_of(self, entry, value):
+        """What all declarations are that a name may mean, open where one is and refused where they differ."""
+        if self.rests_on_itself(entry):
+            return OPEN
+        found = {value(it) for it in self.names.meant(entry)}
+        return OPEN if OPEN in found else next(iter(found)) if len(found) == 1 else REFUSED
 
     def type_of_entry(self, entry):
-        found = {self.type_of_declaration(it) for it in self.names.meant(entry)}
-        return next(iter(found)) if len(found) == 1 else OPEN if OPEN in found or not found else NONE
+        return self.all_of(entry, self.type_of_declaration)
+
+    def differ(self, entry, value):
+        """Declarations differ that a name may mean, none of which is open."""
+        if self.all_of(entry, value) == OPEN:
+            return False
+        return len({value(it) for it in self.names.meant(entry)} - {REFUSED}) > 1
 
     def rests_on_itself(self, entry, below=()):
         """Whether the chain of references goes round."""
@@ -494,8 +511,10 @@ class Types:
         e = self.names.d.operations[o].section("EXPRESSION")
         if e is None:
             return NONE
+        if any(self.is_open(it, o) for it in rested_on(e)):
+            return OPEN
         found = self.type_of(e, o, (), True)
-        return OPEN if found is None else found
+        return REFUSED if found is None else found
 
     def assignable_operation(self, o):
         e = self.names.d.operations[o].section("EXPRESSION")
@@ -503,23 +522,25 @@ class Types:
             return False
         names = self.names
         if self.is_refused(e, o):
-            return OPEN
+            return REFUSED
         if e[0] == "element":
             it = names.meaning(o, e[1])
-            return True if is_array(it) else OPEN
+            return True if is_array(it) else REFUSED
         if e[0] != "name":
             return False
         it = names.meaning(o, e[1])
         if it is None:
-            return OPEN
+            return REFUSED
         if isinstance(it, Resource):
-            return True if is_register(it) else False if it.sort == "pin" else OPEN
-        if self.rests_on_itself(it):
-            return OPEN
-        found = {self.assignable_declaration(m) for m in names.meant(it)}
-        return next(iter(found)) if len(found) == 1 else OPEN
+            return True if is_register(it) else False if it.sort == "pin" else REFUSED
+        return self.all_of(it, self.assignable_declaration)
 
     # -- expressions
+
+    def is_open(self, e, o):
+        """The use is one of what is open, and not refused."""
+        it = self.names.meaning(o, e[1]) if e[0] == "name" else None
+        return isinstance(it, Entry) and not self.is_apart(it) and self.type_of_entry(it) == OPEN
 
     def is_refused(self, e, o):
         """The use is at fault by itself, in an EXPRESSION."""
@@ -547,9 +568,9 @@ class Types:
             it = names.meaning(o, e[1])
             if isinstance(it, Resource):
                 return (it.signed, it.width) if is_register(it) or it.sort == "pin" else None
-            if isinstance(it, Entry) and not self.rests_on_itself(it):
+            if isinstance(it, Entry):
                 found = self.type_of_entry(it)
-                return None if found in (OPEN, NONE) else found
+                return None if found in (OPEN, NONE, REFUSED) else found
             return None
         if kind == "element":
             it = names.meaning(o, e[1])
@@ -582,6 +603,17 @@ class Types:
         if b[0] == "number" and a[0] != "number":
             y = number_type(x[0], b[1])
         return (x[0] and y[0], max(x[1], y[1]))
+
+
+def rested_on(e):
+    """The parts of an expression that its type rests on."""
+    if e[0] in ("~", "<<", ">>"):
+        return rested_on(e[1])
+    if e[0] == "choose":
+        return rested_on(e[2]) + rested_on(e[3])
+    if e[0] in ("+", "-", "*", "&", "|", "^"):
+        return rested_on(e[1]) + rested_on(e[2])
+    return [e]
 
 
 def is_register(it):
@@ -704,11 +736,8 @@ def wrong_declared(names, types, entry):
         if not names.plain(entry) or any(names.is_coded(a) for a in entry.alternatives) and not names.in_coding(entry):
             yield entry.name
     elif entry.sort == "REFERENCE":
-        meant = names.meant(entry)
-        sorts = {it.sort == "LABEL" for it in meant}
-        known = {types.type_of_declaration(it) for it in meant} - {OPEN}
-        assignables = {types.assignable_declaration(it) for it in meant} - {OPEN}
-        if len(sorts) > 1 or len(known) > 1 or len(assignables) > 1:
+        sorts = {it.sort == "LABEL" for it in names.meant(entry)}
+        if len(sorts) > 1 or types.differ(entry, types.type_of_declaration) or types.differ(entry, types.assignable_declaration):
             yield entry.name
 
 

@@ -24,7 +24,7 @@ class Maker:
     def __init__(self, draw):
         self.draw = draw
         self.wrong = draw.choice([0.0, 0.0, 0.01, 0.03])
-        self.plan = draw.choice(["", "", "", "", "widths", "depths", "loops", "main", "reset", "written", "roots", "sizes", "stages"])
+        self.plan = draw.choice(["", "", "", "", "widths", "depths", "loops", "main", "reset", "written", "roots", "sizes", "stages", "open", "open", "open", "open"])
         self.entries, self.inputs, self.outputs, self.may_decode = [], False, False, False
 
     def odd(self, part=1.0):
@@ -75,6 +75,8 @@ class Maker:
     # -- operations
 
     def description(self):
+        if self.plan == "open":
+            return self.resting()
         d = self.draw
         resources = self.resources()
         self.operations = [f"o{k}" for k in range(d.randint(1, 6))]
@@ -262,6 +264,79 @@ class Maker:
         if self.odd():
             items.append((False, ("child", d.choice(NAMES))))
         return items
+
+    # -- what rests on each other
+
+    def resting(self):
+        """Operations whose values rest on each other, by children and references of one name, and a group of some of them that is used."""
+        d = self.draw
+        resources = self.resources()
+        for it in resources:
+            if it.name in ("b", "i") and not self.one_in(4):
+                it.signed, it.width = False, 8
+        names = ["main"] + [f"o{k}" for k in range(d.randint(4, 8))]
+        self.sorts = {name: d.choice(["value", "value", "value", "circle", "reference", "reference", "reference", "above", "choice"]) for name in names[1:]}
+        self.sorts["main"] = "above"
+        coded, circular = d.choice([names] * 6 + [["main"]] * 2 + [[]]), d.random() < 0.85
+        self.declares = {name: self.resting_entries(name, names, coded, circular) for name in names}
+        for name in names:
+            if self.sorts[name] == "reference":
+                others = {"main" if self.one_in(3) else d.choice(names), d.choice(names), d.choice([it for it in names if self.sorts[it] == "above"])}
+                for other in sorted(others):
+                    self.declares[other].append(("INSTANCE", f"s{name}", [name]))
+        made = [self.resting_operation(name, coded) for name in names]
+        if self.one_in(4):
+            d.shuffle(made)
+        return Description(resources, made)
+
+    def resting_entries(self, name, names, coded, circular):
+        """All declare `n`, so that a reference to it means something; `g` is a group of alternatives."""
+        d, sort = self.draw, self.sorts[name]
+        below = names[1:] if circular else names[names.index(name) + 1:]
+        if sort == "reference":
+            return [("REFERENCE", "n", [])]
+        if not below or sort == "value" and self.one_in(6):
+            return [("LABEL", "n", [])]
+        several = d.randint(2, 4) if name in coded or self.one_in(2) else 1
+        chosen = d.sample(below, min(len(below), several if sort == "choice" else 1))
+        if sort == "circle" and circular and self.one_in(2):
+            chosen = [name]
+        elif sort == "above":
+            likes = d.choice(["above", "circle", d.choice(sorted({self.sorts[it] for it in below}))])
+            chosen = [d.choice([it for it in below if self.sorts[it] == likes] or below)]
+        entries = [("GROUP" if sort == "choice" else "INSTANCE", "n", chosen)]
+        if name == "main" or self.one_in(6):
+            valued = [it for it in below if self.sorts[it] != "above"]
+            below = valued if valued and not self.one_in(6) else below
+            entries.insert(0, ("GROUP", "g", d.sample(below, min(len(below), several))))
+        return entries
+
+    def resting_operation(self, name, coded):
+        d, sort = self.draw, self.sorts[name]
+        self.entries = self.declares[name]
+        own = [n for _, n, _ in self.entries]
+        sections = [("DECLARE", self.declared())]
+        if name in coded:
+            fields = [("field", n, "x") for n in self.own("LABEL") if self.one_in(2)]
+            sections.append(("CODING", ("items", [("bits", "0")] + fields + [("child", n) for n in self.own("INSTANCE", "GROUP")])))
+        if sort != "above" and not self.one_in(12) or sort == "above" and name != "main" and self.one_in(3):
+            sections.append(("EXPRESSION", self.resting_value(sort, own)))
+        if name == "main" or self.one_in(12):
+            used = d.choice(own) if self.one_in(5) else own[0]
+            sections.append(("BEHAVIOR", [("assign", ("name", used), ("number", 1)) if self.one_in(2) else ("assign", ("name", "b"), ("name", used))]))
+        return Operation(name, sections=sections)
+
+    def resting_value(self, sort, own):
+        d = self.draw
+        one = d.choice([("name", it) for it in "aaaabciii"] + [("element", "r", ("number", 1)), ("number", 7)])
+        e = ("name", "n" if not self.one_in(8) else d.choice(own))
+        if self.one_in(10):
+            return d.choice([("decoded",), ("name", "m"), ("+", e, ("decoded",)), ("&", ("decoded",), e)] + [("in", it) for it in self.fields])
+        if sort == "value":
+            return one
+        if self.one_in(2 if sort == "circle" else 4):
+            return d.choice([("+", e, one), ("^", one, e), ("~", e), ("<<", e, one), (">>", one, e), ("<", e, one), ("choose", one, e, e)] + [("cast", (False, 8), e)] * 3)
+        return e
 
     # -- behaviour
 

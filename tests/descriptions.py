@@ -120,18 +120,21 @@ GROUPED = REGS + "OPERATION main { DECLARE { GROUP g = { x || y }; } CODING { g 
 refused("a child without expression", GROUPED % "a = g;" + "OPERATION x { CODING { 0b0 } EXPRESSION { a } } OPERATION y { CODING { 0b1 } }", "8 WrongKind operation=main name=g")
 refused("alternatives of two types", GROUPED % "a = g;" + "OPERATION x { CODING { 0b0 } EXPRESSION { a } } OPERATION y { CODING { 0b1 } EXPRESSION { b } }", "8 WrongKind operation=main name=g")
 refused("an alternative that can't be assigned", GROUPED % "g = 1;" + "OPERATION x { CODING { 0b0 } EXPRESSION { a } } OPERATION y { CODING { 0b1 } EXPRESSION { a + c } }", "8 WrongKind operation=main name=g")
-# what is open hides nothing of what the other alternatives break
+# what has an open alternative is open, whatever the others are; a missing expression is told all the same
 OPEN = "OPERATION %s { DECLARE { INSTANCE n = k; } CODING { 0b%s } EXPRESSION { n } } OPERATION k { DECLARE { INSTANCE n = k; } EXPRESSION { n } }"
 THREE = REGS + "OPERATION main { DECLARE { GROUP g = { x || y || z }; } CODING { g } BEHAVIOR { a = g; } } "
 refused("a missing expression beside an open alternative", GROUPED % "a = g;" + "OPERATION x { CODING { 0b0 } } " + OPEN % ("y", "1"), "8 WrongKind operation=main name=g")
 refused("a missing expression behind an open alternative", GROUPED % "a = g;" + "OPERATION y { CODING { 0b0 } } " + OPEN % ("x", "1"), "8 WrongKind operation=main name=g")
 refused("two types before an open alternative",
-        THREE + "OPERATION x { CODING { 0b00 } EXPRESSION { a } } OPERATION y { CODING { 0b01 } EXPRESSION { b } } " + OPEN % ("z", "10"), "8 WrongKind operation=main name=g")
+        THREE + "OPERATION x { CODING { 0b00 } EXPRESSION { a } } OPERATION y { CODING { 0b01 } EXPRESSION { b } } " + OPEN % ("z", "10"), "14 Circular operation=k")
 refused("two types on both sides of an open alternative",
-        THREE + "OPERATION x { CODING { 0b00 } EXPRESSION { a } } OPERATION z { CODING { 0b01 } EXPRESSION { b } } " + OPEN % ("y", "10"), "8 WrongKind operation=main name=g")
-refused("a number assigned beside an open alternative", GROUPED % "g = 1;" + "OPERATION x { CODING { 0b0 } EXPRESSION { 1 } } " + OPEN % ("y", "1"), "8 WrongKind operation=main name=g")
+        THREE + "OPERATION x { CODING { 0b00 } EXPRESSION { a } } OPERATION z { CODING { 0b01 } EXPRESSION { b } } " + OPEN % ("y", "10"), "14 Circular operation=k")
+refused("a number assigned beside an open alternative", GROUPED % "g = 1;" + "OPERATION x { CODING { 0b0 } EXPRESSION { 1 } } " + OPEN % ("y", "1"), "14 Circular operation=k")
 refused("an open alternative that is read", GROUPED % "a = g;" + "OPERATION x { CODING { 0b0 } EXPRESSION { a } } " + OPEN % ("y", "1"), "14 Circular operation=k")
 refused("an open alternative that is assigned", GROUPED % "g = 1;" + "OPERATION x { CODING { 0b0 } EXPRESSION { a } } " + OPEN % ("y", "1"), "14 Circular operation=k")
+ROUND = "RESOURCE { REGISTER uint8 a; REGISTER uint16 b; PIN uint8 q; } OPERATION main { DECLARE { GROUP g = { y || z || w }; } CODING { g } SYNTAX { g } BEHAVIOR { %s } } OPERATION y { CODING { 0b0 } EXPRESSION { a } } OPERATION z { CODING { 0b1 } EXPRESSION { %s } } OPERATION w { DECLARE { INSTANCE v = w; } EXPRESSION { v } }"
+refused("a pin that is assigned beside an open alternative", ROUND % ("g = 1;", "q"), "14 Circular operation=w")
+refused("two types that are read beside an open alternative", ROUND % ("a = g;", "b"), "14 Circular operation=w")
 refused("a group outside of the coding that is read",
         REGS + "OPERATION main { DECLARE { GROUP g = { x || y }; } BEHAVIOR { a = g; } } OPERATION x { EXPRESSION { a } } OPERATION y { EXPRESSION { c } }", "8 WrongKind operation=main name=g")
 refused("a group outside of the coding that is called", "RESOURCE { } OPERATION main { DECLARE { GROUP g = { x || y }; } BEHAVIOR { g(); } } OPERATION x { } OPERATION y { }", "8 WrongKind operation=main name=g")
@@ -176,20 +179,24 @@ refused("an alternative that reads a child of a stage",
 refused("an alternative that reads a group outside of its coding",
         PIPED + "OPERATION x { DECLARE { GROUP h = { u || v }; } CODING { 0b0 } EXPRESSION { h } } OPERATION u { EXPRESSION { a } } OPERATION v { EXPRESSION { a } }",
         "8 WrongKind operation=x name=h")
+BESIDE_REFUSED = PIPE + "OPERATION main { DECLARE { GROUP g = { x || y || z }; } CODING { g } BEHAVIOR { a = g; } } OPERATION x { DECLARE { INSTANCE n = k; } CODING { 0b00 } EXPRESSION { %s } } OPERATION y { CODING { 0b01 } EXPRESSION { a } } OPERATION z { CODING { 0b10 } EXPRESSION { (uint16) a } } OPERATION k { DECLARE { INSTANCE n = k; } EXPRESSION { n } }"
+refused("two types beside a refused alternative", BESIDE_REFUSED % "IN.f", "8 WrongKind operation=main name=g")
+refused("two types beside one that is open and refused", BESIDE_REFUSED % "IN.f + n", "8 WrongKind operation=x name=f")
+refused("two types beside one that casts what is open", BESIDE_REFUSED % "(uint8) n", "8 WrongKind operation=main name=g")
 ASSIGNED = PIPE + "OPERATION main { DECLARE { INSTANCE x; } BEHAVIOR { x = 1; } } OPERATION x { DECLARE { INSTANCE y; } EXPRESSION { %s } } OPERATION y { } "
 refused("no boundary that is assigned through a child", ASSIGNED % "IN.f", "8 WrongKind operation=x name=f")
 refused("decoded that is assigned through a child", ASSIGNED % "decoded", "8 WrongKind operation=x name=decoded")
 refused("a child without expression that is assigned through a child", ASSIGNED % "y", "8 WrongKind operation=x name=y")
 refused("a sum with no boundary that is assigned through a child", ASSIGNED % "a + IN.f", "8 WrongKind operation=main name=x")
 
-# a declaration that is open hides nothing of what the others that a reference may mean break
+# each declaration that a reference may mean is used by itself; those among which one is open differ neither in type nor in being assignable
 BESIDE = REGS + MAIN + " OPERATION y { DECLARE { INSTANCE x; %s } } OPERATION z { DECLARE { INSTANCE x, n = o; } } OPERATION t { DECLARE { INSTANCE x; %s } } OPERATION x { DECLARE { REFERENCE n; } %s } OPERATION o { DECLARE { INSTANCE n = o; } EXPRESSION { n } } OPERATION u { EXPRESSION { a } } OPERATION w { EXPRESSION { b } } OPERATION k { EXPRESSION { a + c } } OPERATION e { } "
 refused("declarations of one type beside an open one", BESIDE % ("INSTANCE n = u;", "INSTANCE n = u;", "BEHAVIOR { a = n; n = 1; }"), "14 Circular operation=o")
 refused("a declaration without expression beside an open one", BESIDE % ("INSTANCE n = e;", "INSTANCE n = e;", "BEHAVIOR { a = n; }"), "8 WrongKind operation=x name=n")
 refused("a sum assigned beside an open declaration", BESIDE % ("INSTANCE n = k;", "INSTANCE n = k;", "BEHAVIOR { n = 1; }"), "8 WrongKind operation=x name=n")
-refused("two types beside an open declaration", BESIDE % ("INSTANCE n = u;", "INSTANCE n = w;", ""), "8 WrongKind operation=x name=n")
-refused("a type and none beside an open declaration", BESIDE % ("INSTANCE n = u;", "INSTANCE n = e;", ""), "8 WrongKind operation=x name=n")
-refused("one that can be assigned beside an open declaration", BESIDE % ("INSTANCE n = u;", "INSTANCE n = k;", ""), "8 WrongKind operation=x name=n")
+refused("two types beside an open declaration", BESIDE % ("INSTANCE n = u;", "INSTANCE n = w;", ""), "14 Circular operation=o")
+refused("a type and none beside an open declaration", BESIDE % ("INSTANCE n = u;", "INSTANCE n = e;", ""), "14 Circular operation=o")
+refused("one that can be assigned beside an open declaration", BESIDE % ("INSTANCE n = u;", "INSTANCE n = k;", ""), "14 Circular operation=o")
 refused("a call into a stage beside references in a circle",
         "RESOURCE { PIPELINE p = { A; B }; } OPERATION main { } OPERATION y { DECLARE { INSTANCE x, n = s; } } OPERATION z { DECLARE { INSTANCE x, t; REFERENCE n; } } OPERATION t { DECLARE { INSTANCE z; REFERENCE n; } } OPERATION x { DECLARE { REFERENCE n; } BEHAVIOR { n(); } } OPERATION s IN p.A { }",
         "8 WrongKind operation=x name=n")

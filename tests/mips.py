@@ -6,10 +6,12 @@
 Each instruction with random operands is assembled, linked and listed by PROGRAM: it has its word, and is listed as it was
 written. Random programs with interrupts are run by PROGRAM, and must leave the registers and the memory that the interpreter
 leaves, which runs one instruction after the other and knows no pipeline; the module that PROGRAM wrote, clocked by it, prints
-the same bytes. A dozen errors, planted in the description one by one, must be caught by these. Where GNU's tools for MIPS are
-installed (mips-linux-gnu-as, -objcopy, -objdump), they make the same words and list the same texts, up to spacing and the
-targets of branches and jumps, of the instructions and of the programs in examples/. The handler of interrupts counts in the last
-cell of the data memory and takes $13 and $14, so these are left out. The last line is `N passed, M failed`."""
+the same bytes. The programs in examples/ leave what it leaves too; suite.s is run with interrupts besides, and its results are
+those of suite.py. A dozen errors, planted in the description one by one, must be caught by instructions and random programs. Where
+GNU's tools for MIPS are installed (mips-linux-gnu-as, -objcopy, -objdump), they make the same words and list the same texts, up to
+spacing and the targets of branches and jumps, of the instructions, and the same cells of the programs in examples/. The handler of
+interrupts counts in the last cell of the data memory and takes $13 and $14, so these are left out. The last line is `N passed, M
+failed`."""
 
 import argparse
 import hashlib
@@ -21,11 +23,15 @@ import subprocess
 import sys
 import tempfile
 
+import suite
+from verilog_benches import image_cells
+
 TOP = os.path.dirname(os.path.dirname(os.path.abspath(__file__)))
 MASK = 0xFFFFFFFF
 CELLS = 1024
 HANDLER = 32  # the cell of 0x80
 COUNT = CELLS - 1
+EXAMPLES = {"sieve": 25000, "ticks": 700, "suite": 130000}  # the programs of examples/, and edges after which they are at their ends
 FREE = [1, 2, 3, 4, 5, 6, 7, 8, 9, 10, 11, 12, 15]  # registers of programs; $13 and $14 are the handler's
 
 
@@ -166,11 +172,11 @@ def parts(text, targets=True):
 class Machine:
     """Registers, `lo` and both memories; no pipeline and no interrupts."""
 
-    def __init__(self, program):
+    def __init__(self, program, data=()):
         self.program = dict(enumerate(program))
         self.pc = self.lo = 0
         self.r = [0] * 16
-        self.data = {}
+        self.data = dict(enumerate(data))
 
     def put(self, register, value):
         if register:
@@ -383,6 +389,63 @@ def try_program(lisa, draw, clocked):
     return int(state.get(f"data[{COUNT}]", "0x0"), 16), None
 
 
+# ---- the programs of examples/
+
+def path_of(name):
+    return os.path.join(TOP, "examples", name)
+
+
+def cells_of(name):
+    """The cells of each memory in the image of a program of examples/."""
+    with open(path_of(name + ".image"), encoding="ascii") as file:
+        return image_cells(file.read())
+
+
+def machine_of(name):
+    cells = cells_of(name)
+    return Machine(cells["prog"], cells.get("data", ()))
+
+
+def interrupts(lisa, draw, count, edges):
+    """A schedule of so many interrupts, each for one edge."""
+    with open(os.path.join(lisa.folder, "s"), "w", encoding="ascii") as file:
+        for edge in sorted(draw.sample(range(5, edges, 2), count)):
+            file.write(f"{edge} irq=1\n{edge + 1} irq=0\n")
+    return "s"
+
+
+def run_example(lisa, name, schedule, edges):
+    """What an example shows at its end, or the fault where that is something else than the interpreter leaves."""
+    machine = machine_of(name)
+    while machine.step():
+        pass
+    state, fault = lisa.state(path_of(name + ".image"), schedule, edges)
+    if fault is not None:
+        return None, f"{name}: {fault}"
+    wrong = differences(machine, state)
+    return state, f"{name}: {wrong[:5]}" if wrong else None
+
+
+def cells_done(name):
+    """The cells of a program that the interpreter does, which takes no interrupt."""
+    machine, done = machine_of(name), {0}
+    while machine.step():
+        done.add(machine.pc >> 2)
+    return done
+
+
+def try_suite(lisa, draw, count):
+    """The suite with so many interrupts, of which most are taken: what is wrong with its results."""
+    edges = EXAMPLES["suite"]
+    state, fault = run_example(lisa, "suite", interrupts(lisa, draw, count, edges), edges + 20 * count)
+    if fault is not None:
+        return f"with interrupts, {fault}"
+    shown, words = lambda name: int(state.get(name, "0x0"), 16), [it for _, part in suite.results() for it in part]
+    if [shown(f"data[{cell}]") for cell in range(len(words))] != words or [shown("R[2]"), shown("R[3]")] != 2 * [len(words)]:
+        return "suite: its results aren't those of suite.py"
+    return None if shown(f"data[{COUNT}]") > count / 2 else f"suite: {shown(f'data[{COUNT}]')} interrupts were taken of {count}"
+
+
 # ---- words and texts
 
 def drawn_instructions(draw, count):
@@ -456,15 +519,22 @@ def gnu_made(texts, folder):
     with open(source, "w", encoding="ascii") as file:
         file.write(".set noreorder\n.set nomacro\n.set noat\n" + "".join(t + "\n" for t in texts))
     subprocess.run([GNU + "as", "-mips1", "-EB", "-no-pad-sections", "-o", made, source], check=True, capture_output=True)
-    subprocess.run([GNU + "objcopy", "-O", "binary", "-j", ".text", made, raw], check=True, capture_output=True)
-    with open(raw, "rb") as file:
-        data = file.read()
+    words = gnu_cells(folder, ".text")
     shown = subprocess.run([GNU + "objdump", "-D", "-z", "-b", "binary", "-EB", "-m", "mips:3000", "-M", "no-aliases,gpr-names=numeric,cp0-names=numeric", raw],
                            check=True, capture_output=True, text=True).stdout
     listed = [line.split("\t", 2)[2].replace("\t", " ").split("<")[0] for line in shown.splitlines() if re.match(r"\s*[0-9a-f]+:\t", line)]
     # (one alias is listed all the same)
     listed = [re.sub(r"^negu\s+(\$\d+),(\$\d+)", r"subu \1,$0,\2", it) for it in listed]
-    return [int.from_bytes(data[i:i + 4], "big") for i in range(0, len(data), 4)], listed
+    return words, listed
+
+
+def gnu_cells(folder, section):
+    """The words of a section of what GNU's assembler made."""
+    made, raw = (os.path.join(folder, n) for n in ("g.o", "g.bin"))
+    subprocess.run([GNU + "objcopy", "-O", "binary", "-j", section, made, raw], check=True, capture_output=True)
+    with open(raw, "rb") as file:
+        data = file.read()
+    return [int.from_bytes(data[i:i + 4], "big") for i in range(0, len(data), 4)]
 
 
 def compare_with_gnu(lisa, instructions):
@@ -474,21 +544,23 @@ def compare_with_gnu(lisa, instructions):
              if got != word(name, *at) or parts(text, False) != parts(own_text(name, at), False)}
     if len(words) != len(instructions) or len(listed) != len(words):
         wrong.add("the number of words")
-    for name in ("sieve", "ticks"):
-        with open(os.path.join(TOP, "examples", name + ".s"), encoding="ascii") as file:
+    for name in EXAMPLES:
+        with open(path_of(name + ".s"), encoding="ascii") as file:
             source = [gnu_line(line) for line in file]
-        with open(os.path.join(TOP, "examples", name + ".image"), encoding="ascii") as file:
-            cells = [int(it, 16) for it in file.read().splitlines()[2:-1]]
-        if gnu_made(source, lisa.folder)[0] != cells:
+        cells = cells_of(name)
+        if gnu_made(source, lisa.folder)[0] != cells["prog"] or gnu_cells(lisa.folder, ".data") != cells.get("data", []):
             wrong.add(name)
     return wrong
 
 
 def gnu_line(line):
     """A line of a source of examples/ as GNU's assembler takes it."""
-    line = line.split(";")[0].replace(".section prog", ".text").rstrip()
-    line = re.sub(r"@\((\w+)-\$-1\)|@(\w+)", lambda it: it[1] or it[2], line)
-    return re.sub(r"\.space (\d+)", lambda it: f".space {4 * int(it[1])}", line)
+    line = line.split(";")[0].replace(".section prog", ".text").replace(".section data", ".data").rstrip()
+    line = re.sub(r"\.equ (\w+)", r".equ \1,", line)
+    line = re.sub(r"\.space (\d+)", lambda it: f".space {4 * int(it[1])}", line)
+    # (a place in bytes, and the distance of a branch)
+    line = re.sub(r"@\((\w+)\+\1\+\1\+\1\)", r"\1" if ".word" in line else r"%lo(\1)", line)
+    return re.sub(r"@\((\w+)-\$-1\)", r"\1", line).replace("@", "")
 
 
 # ---- all
@@ -516,7 +588,7 @@ def try_instructions(counts, lisa, draw, count):
         print(f"not installed: {', '.join(missing)}; nothing was compared with GNU's tools")
         return
     wrong = compare_with_gnu(lisa, instructions)
-    for name in (*NAMES, "sieve", "ticks", *(wrong - {*NAMES, "sieve", "ticks"})):
+    for name in (*NAMES, *EXAMPLES, *(wrong - {*NAMES, *EXAMPLES})):
         counts.note(f"{name} is another one by GNU's tools" if name in wrong else None)
 
 
@@ -531,6 +603,11 @@ def main():
     with tempfile.TemporaryDirectory() as folder:
         lisa = Lisa(program, folder)
         try_instructions(counts, lisa, draw, given.words)
+        for name, edges in EXAMPLES.items():
+            counts.note(run_example(lisa, name, "-", edges)[1])
+        counts.note(try_suite(lisa, random.Random(given.seed), 200))
+        idle = set(range(CELLS)) - cells_done("suite") - {HANDLER + at for at in range(len(HANDLER_CODE))}
+        counts.note(f"suite: the cells {sorted(idle)} are never done" if idle else None)
         counts.note(lisa.save("m.v", "verilog", lisa.description))
         for number in range(given.programs):
             count, fault = try_program(lisa, draw, True)

@@ -3,11 +3,11 @@
 
     tests/other_tools.py [--random N] [--only NAME] [--keep FOLDER] PROGRAM
 
-Each example that is accepted, and N random descriptions of cases/headline.jsonl (12), is written as a module and traced by PROGRAM.
+Each example that is accepted, and N random descriptions of cases/headline.jsonl (50), is written as a module and traced by PROGRAM.
 Then, of the module as it was written:
 
     Icarus Verilog    runs it, with the same first cells and pins: each register and cell after each edge is that of `trace`
-    Verilator         finds nothing to warn of, but for three sorts (see WARNINGS), and what it builds has the same states
+    Verilator         finds nothing to warn of, but for two sorts (see WARNINGS), and what it builds has the same states
     Yosys             makes cells of it, with its first cells loaded and each wire an output (`synth`, without the mapping to gates
                       where there are large memories), with no warning but that a small memory is made registers, and `check` finds nothing
 
@@ -31,9 +31,8 @@ from verilog_benches import Bench, by_icarus, declared, differences, escaped, im
 HERE = Path(__file__).resolve().parent
 EXAMPLES = HERE.parent / "examples"
 LIMIT = 1800
-# A wire that is narrower or wider than what it carries is meant: it is cut or extended by the standard's rule. So are comparisons that
-# are the same whatever stands in the registers, as `x < 0`, which come of descriptions that have such ones.
-WARNINGS = ["-Wno-WIDTH", "-Wno-UNSIGNED", "-Wno-CMPCONST"]
+# Comparisons that are the same whatever stands in the registers, as `x < 0`, come of descriptions that have such ones.
+WARNINGS = ["-Wno-UNSIGNED", "-Wno-CMPCONST"]
 # from so many cells on a memory isn't mapped to registers
 LARGE = 256
 
@@ -234,7 +233,7 @@ def try_all(program, folder, count, only):
 def main():
     parser = argparse.ArgumentParser(description=__doc__, formatter_class=argparse.RawDescriptionHelpFormatter)
     parser.add_argument("program")
-    parser.add_argument("--random", type=int, default=12, metavar="N")
+    parser.add_argument("--random", type=int, default=50, metavar="N")
     parser.add_argument("--only", default="", metavar="NAME")
     parser.add_argument("--keep", type=Path)
     words = parser.parse_args()

@@ -833,10 +833,11 @@ row("a soak of another module", {"C": C, "T": BARE}, *program_of("C", 7, 16), st
     step("clock T I - 100", None, save="K"), step("soak C T 7 16 100", soaked(16, 100, "K")))
 row("a soak of the large sample", {"M": example("mips.lisa")}, *program_of("M", 11, 1024), step("run M I - 1000", None, save="R"), step("verilog M", None, save="W"),
     step("soak M W 11 1024 1000", soaked(1024, 1000, "R"), save="T"), step("soak M W 11 1024 1000", None, same="T"))
-for name, edges, ends in (("sieve", 25000, "R[2] 0xa8\n"), ("ticks", 700, "R[2] 0x13ba\n")):
+for name, edges, ends in (("sieve", 25000, "R[2] 0xa8\n"), ("ticks", 700, "R[2] 0x13ba\n"), ("suite", 130000, "R[2] 0x34\nR[3] 0x34\n")):
     row(f"{name} by the large sample and by its module", {"M": example("mips.lisa"), "S": example(f"{name}.s"), "J": example(f"{name}.image")},
         step("asm M S", None, save="O"), step("link M O", None, same="J"), step(f"run M J - {edges}", re.compile(rf"(?s)edge {edges}\n.*" + re.escape(ends) + ".*"), save="R"),
-        step("verilog M", None, save="W"), step(f"clock W J - {edges}", None, same="R"))
+        step("verilog M", None, save="W"), step(f"clock W J - {edges}", None, same="R"),
+        step("dis M J", None, save="T"), step("asm M T", None, save="Q"), step("link M Q", None, same="J"))
 row("a soak of no instruction", {"C": C, "V": V}, *program_of("C", 7, 0), step("run C I - 9", None, save="R"),
     step("clock V I - 9", None, save="K"), step("soak C V 7 0 9", soaked(0, 9, "K")))
 row("a soak of no edge", {"C": C, "T": BARE}, *program_of("C", 1, 3), step("run C I - 0", None, save="R"),

@@ -1,12 +1,12 @@
 -- What expressions on a path read.
-use Rattle.std.specs.Prelude.{ℕ, cond, List, []}
+use Rattle.std.specs.Prelude.{ℕ, false, cond, List, [], Option, None, Some}
 use Rattle.lisa_tree.specs.Expressions.{ExprTree}
 use Rattle.lisa_tree.specs.Descriptions.{DescriptionTree}
-use Rattle.typed_values.specs.Words.{TypedWord, typed_word}
+use Rattle.typed_values.specs.Words.{TypedWord, truth, typed_word}
 use Rattle.typed_values.specs.Expressions.{Reader}
 use Rattle.lisa_meaning.specs.Scenes.{Link, Scene, at_path, child_at_home}
 use Rattle.lisa_meaning.specs.Moments.{Moment, bare, with_locals}
-use Rattle.lisa_meaning.specs.Values.{Below, reader, child_value, value_within}
+use Rattle.lisa_meaning.specs.Values.{Below, reader, child_value, label_value, value_within}
 use Rattle.moment_stores.specs.Stores.{moment_of}
 use Rattle.behavior_runs.specs.declared.view.View.{View}
 use Rattle.behavior_runs.specs.declared.view.Named.{Named}
@@ -27,6 +27,11 @@ below_within levels d scene m = λ path below. value_within levels d (at_path sc
 
 abbrev pub reader_within : ℕ → DescriptionTree → Scene → Moment → Reader
 reader_within levels d scene m = reader (below_within levels d scene m) d scene m
+
+-- a label of the operation that runs
+abbrev pub label_on : List ℕ → ℕ → Option Link → TypedWord
+label_on n word None = truth false
+label_on n word (Some here) = label_value n word here.part
 
 -- the value of a name that was looked up: known, or that of a child, by the path of the operation that declares it
 abbrev pub named_value : Below → View → List ℕ → Named → TypedWord

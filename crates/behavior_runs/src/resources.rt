@@ -3,16 +3,18 @@
 ghost use Rattle.std.specs.Prelude.{◌≡◌, ◌≤◌, ◌<◌, ◌^◌, IfSome, is_some, option_map, slice_get, slice_index_or};
 ghost use Rattle.lisa_tree.specs.Resources.{stage_at};
 ghost use Rattle.lisa_tree.specs.Operations.{own_stage};
+ghost use Rattle.lisa_tree.specs.Declarations.{is_reference};
+ghost use Rattle.lisa_tree.specs.Meanings.{meaning};
 ghost use Rattle.lisa_engine.specs.declared.parts.ArrayItem.{ArrayItem};
 ghost use Rattle.machine_parts.specs.Parts.{arrays_of};
 ghost use Rattle.typed_values.specs.Words.{truth, typed_word};
-ghost use Rattle.lisa_meaning.specs.Scenes.{first_operation, is_label};
+ghost use Rattle.lisa_meaning.specs.Scenes.{first_operation, home, is_label};
 ghost use Rattle.lisa_meaning.specs.Values.{Below, boundary_value, declared_value, element_value, field_place, label_value, named_array, reader, resource_value, shaped, stage_before};
 ghost use Rattle.scene_paths.specs.Parts.{part_trees};
 ghost use Rattle.scene_paths.specs.Lookups.{array_of};
-ghost use Rattle.scene_paths.specs.Paths.{links_of};
+ghost use Rattle.scene_paths.specs.Paths.{first_link, links_of};
 ghost use Rattle.scene_paths.specs.Sights.{form_of, scene_at};
-ghost use Rattle.behavior_runs.specs.Views.{view_tree, moment_seen, named_value};
+ghost use Rattle.behavior_runs.specs.Views.{view_tree, label_on, moment_seen, named_value};
 
 use crate::view::{Named, View};
 use lisa_tree::{BoundaryField, Meaning, Resource, Shape, What};
@@ -52,6 +54,16 @@ fn is_label(what: Option<What>) -> bool
 {
     match what {
         Some(What::Label) => true,
+        _ => false,
+    }
+}
+
+// The name is only a reference.
+fn is_reference(what: Option<What>) -> bool
+    ensures { result ≡ is_reference what }
+{
+    match what {
+        Some(What::Reference) => true,
         _ => false,
     }
 }
@@ -172,6 +184,42 @@ impl<'a> View<'a> {
         }
     }
 
+    // A name that is known from above.
+    fn referred<'p>(&self, path: &Path<'p>, name: &Name) -> Named<'p>
+        ensures { (below : Below) → named_value below self.now name.now result ≡ declared_value below (view_tree self.now) (scene_at self.now.sight path.now) name.now (home (view_tree self.now) name.now (links_of (view_tree self.now) (form_of self.now.sight) path.now)) }
+    {
+        match home(&self.sight, path, name) {
+            None => Named::Known(Value::truth(false)),
+            Some(home) => self.declared(home, name),
+        }
+    }
+
+    // The value of a label of the operation that runs.
+    fn label(&self, path: &Path<'_>, name: &Name) -> Value
+        ensures { typed_word result ≡ label_on name.now self.now.sight.word (first_link (links_of (view_tree self.now) (form_of self.now.sight) path.now)) }
+    {
+        match path.here(&self.sight) {
+            None => Value::truth(false),
+            Some(here) => label_value(name, self.sight.word(), here.part),
+        }
+    }
+
+    // A name that the operation that runs declares, by its number among all declared names.
+    #[tactic(auto, using(crate::proofs::Names::label_met, crate::proofs::Names::child_met))]
+    fn met<'p>(&self, path: &Path<'p>, entry: usize, name: &Name) -> Named<'p>
+        requires { meaning (view_tree self.now) (first_operation (links_of (view_tree self.now) (form_of self.now.sight) path.now)) name.now ≡ Meaning.Declared entry }
+        ensures { (below : Below) → named_value below self.now name.now result ≡ declared_value below (view_tree self.now) (scene_at self.now.sight path.now) name.now (home (view_tree self.now) name.now (links_of (view_tree self.now) (form_of self.now.sight) path.now)) }
+    {
+        let what = self.sight.described().what(entry);
+        if is_label(what) {
+            Named::Known(self.label(path, name))
+        } else if is_reference(what) {
+            self.referred(path, name)
+        } else {
+            Named::Child(*path)
+        }
+    }
+
     // What a name is. A local goes before all else.
     pub(crate) fn named<'p>(&self, path: &Path<'p>, name: &Name) -> Named<'p>
         ensures { (below : Below) → named_value below self.now name.now result ≡ (reader below (view_tree self.now) (scene_at self.now.sight path.now) (moment_seen self.now)).named name.now }
@@ -183,10 +231,7 @@ impl<'a> View<'a> {
         match described.meaning(path.running(&self.sight), name) {
             Meaning::Nothing => Named::Known(Value::truth(false)),
             Meaning::Resource(number) => Named::Known(self.resource(number)),
-            Meaning::Declared(_) => match home(&self.sight, path, name) {
-                None => Named::Known(Value::truth(false)),
-                Some(home) => self.declared(home, name),
-            },
+            Meaning::Declared(entry) => self.met(path, entry, name),
         }
     }
 }

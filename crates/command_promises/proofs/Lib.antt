@@ -1,4 +1,8 @@
-mod Afters
+pub mod Afters
 mod Tasks
 mod Runs
-mod Refused
+pub mod Refused
+pub mod RefusedPrograms
+mod Decided
+mod DecidedFiles
+mod Singles

@@ -23,9 +23,28 @@ last_ends : (s : Shape) (first : Bool) → both_types (cond first (types.Typed s
 last_ends s true = refl
 last_ends s false = refl
 
+last_refused : (s : Shape) (first : Bool) → both_types (cond first (types.Typed s) types.NoType) types.Refused ≡ types.Refused
+last_refused s true = refl
+last_refused s false = refl
+
+first_ends : (s : Shape) (second : Bool) → types.NoType ≡ both_types types.NoType (cond second (types.Typed s) types.NoType)
+first_ends s true = refl
+first_ends s false = refl
+
 pub types_associate : (x y z : TypeOf) → both_types (both_types x y) z ≡ both_types x (both_types y z)
-types_associate types.NoType y z = refl
-types_associate (types.Typed s) types.NoType z = refl
+types_associate types.Refused y z = refl
+types_associate types.NoType types.Refused z = refl
+types_associate types.NoType types.NoType types.Refused = refl
+types_associate types.NoType types.NoType types.NoType = refl
+types_associate types.NoType types.NoType (types.Typed u) = refl
+types_associate types.NoType (types.Typed t) types.Refused = refl
+types_associate types.NoType (types.Typed t) types.NoType = refl
+types_associate types.NoType (types.Typed t) (types.Typed u) = first_ends t (same_shape t u)
+types_associate (types.Typed s) types.Refused z = refl
+types_associate (types.Typed s) types.NoType types.Refused = refl
+types_associate (types.Typed s) types.NoType types.NoType = refl
+types_associate (types.Typed s) types.NoType (types.Typed u) = refl
+types_associate (types.Typed s) (types.Typed t) types.Refused = last_refused s (same_shape s t)
 types_associate (types.Typed s) (types.Typed t) types.NoType = last_ends s (same_shape s t)
 types_associate (types.Typed s) (types.Typed t) (types.Typed u) = three_shapes s t u (same_shape s t) (same_shape t u) refl refl
 
@@ -37,3 +56,18 @@ assignables_associate assigns.Yes assigns.Mixed z = refl
 assignables_associate assigns.Yes assigns.Yes assigns.Yes = refl
 assignables_associate assigns.Yes assigns.Yes assigns.No = refl
 assignables_associate assigns.Yes assigns.Yes assigns.Mixed = refl
+assignables_associate assigns.Yes assigns.Yes assigns.Refused = refl
+assignables_associate assigns.Yes assigns.Refused assigns.Yes = refl
+assignables_associate assigns.Yes assigns.Refused assigns.No = refl
+assignables_associate assigns.Yes assigns.Refused assigns.Mixed = refl
+assignables_associate assigns.Yes assigns.Refused assigns.Refused = refl
+assignables_associate assigns.Refused assigns.No z = refl
+assignables_associate assigns.Refused assigns.Mixed z = refl
+assignables_associate assigns.Refused assigns.Yes assigns.Yes = refl
+assignables_associate assigns.Refused assigns.Yes assigns.No = refl
+assignables_associate assigns.Refused assigns.Yes assigns.Mixed = refl
+assignables_associate assigns.Refused assigns.Yes assigns.Refused = refl
+assignables_associate assigns.Refused assigns.Refused assigns.Yes = refl
+assignables_associate assigns.Refused assigns.Refused assigns.No = refl
+assignables_associate assigns.Refused assigns.Refused assigns.Mixed = refl
+assignables_associate assigns.Refused assigns.Refused assigns.Refused = refl

@@ -1,14 +1,16 @@
 -- What is known of declared names, from tests of what is known of nodes.
-use Rattle.std.proofs.Common.{◌≡◌, ◌↔◌, ◌&&◌, ℕ, Option, None, Some, Bool, true, false, refl, sym, ap, ◌∙◌, arith}
+use Rattle.std.proofs.Common.{◌≡◌, ◌<◌, ◌↔◌, ◌&&◌, ℕ, Option, None, Some, Bool, true, false, length, refl, sym, ap, ap₂, ◌∙◌, arith}
+use Rattle.std.specs.Option.{is_some}
 use Rattle.std.proofs.lemmas.Bool.{and_parts}
 use Rattle.lisa_tree.specs.Descriptions.{DescriptionTree}
+use Rattle.lisa_tree.specs.Declarations.{entries}
 use Rattle.lisa_tree.specs.Paths.{entry_node}
 use Rattle.description_types.specs.declared.values.TypeOf.{TypeOf}
 use Rattle.description_types.specs.declared.values.TypeOf.TheVariants as types
 use Rattle.description_types.specs.declared.values.Assignable.{Assignable}
 use Rattle.description_types.specs.declared.values.Assignable.TheVariants as assigns
 use Rattle.description_types.specs.Known.{has_no_type, is_assignable}
-use Rattle.description_types.specs.Tables.{AreMeant, LacksType, MayAssign, MayNotAssign, DifferInAssigning}
+use Rattle.description_types.specs.Tables.{AreMeant, LacksType, MayAssign, MayNotAssign, DifferInAssigning, IsSettled}
 use Rattle.description_types.proofs.MeantMarks.{meant_so}
 
 -- ---- tests
@@ -17,17 +19,20 @@ lacking : (r : Option TypeOf) → has_no_type r ≡ true → r ≡ Some types.No
 lacking None e = absurd (cc e)
 lacking (Some types.NoType) e = refl
 lacking (Some (types.Typed s)) e = absurd (cc e)
+lacking (Some types.Refused) e = absurd (cc e)
 
 assigned : (r : Option Assignable) → is_assignable true r ≡ true → r ≡ Some assigns.Yes
 assigned None e = absurd (cc e)
 assigned (Some assigns.Yes) e = refl
 assigned (Some assigns.No) e = absurd (cc e)
+assigned (Some assigns.Refused) e = absurd (cc e)
 assigned (Some assigns.Mixed) e = absurd (cc e)
 
 unassigned : (r : Option Assignable) → is_assignable false r ≡ true → r ≡ Some assigns.No
 unassigned None e = absurd (cc e)
 unassigned (Some assigns.Yes) e = absurd (cc e)
 unassigned (Some assigns.No) e = refl
+unassigned (Some assigns.Refused) e = absurd (cc e)
 unassigned (Some assigns.Mixed) e = absurd (cc e)
 
 module _ (d : DescriptionTree) (marks : ℕ → Bool) where
@@ -53,3 +58,11 @@ differ_so d known may not both are lack is i = (
   where
     both_true : (a b : Bool) → a ≡ true → b ≡ true → (a && b) ≡ true
     both_true a b e f = grind arith
+
+-- of those that have a value
+pub settled_so : {T : Type 0} (d : DescriptionTree) (P : ℕ → Type 0) (known : ℕ → Option T) (marked kept : ℕ → Bool) → ((i : ℕ) → P i → i < length (entries d)) → ((i : ℕ) → (marked i ≡ true) ↔ P i)
+    → ((i : ℕ) → i < length (entries d) → kept i ≡ (marked i && is_some (known (entry_node d i)))) → ((i : ℕ) → kept i ≡ true → marked i ≡ true) → (i : ℕ) → (kept i ≡ true) ↔ (IsSettled d known i × P i)
+settled_so d P known marked kept below are within keeps i = (
+  λ h. (let p = (are i).0 (keeps i h) in ((and_parts (marked i) (is_some (known (entry_node d i))) (sym (within i (below i p)) ∙ h)).1, p)),
+  λ both. within i (below i both.1) ∙ ap₂ (λ (x y : Bool). x && y) ((are i).1 both.1) both.0,
+)

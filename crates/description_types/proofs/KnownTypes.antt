@@ -1,5 +1,5 @@
 -- Types that are equal in code are the same.
-use Rattle.std.proofs.Common.{◌≡◌, ◌≢◌, ◌⊎◌, ◌<◌, ◌&&◌, ℕ, Bool, true, false, List, Option, length, nat_eq, refl, sym, ap, ◌∙◌, inl, inr}
+use Rattle.std.proofs.Common.{◌≡◌, ◌≢◌, ◌⊎◌, ◌<◌, ◌&&◌, ℕ, Bool, true, false, List, Option, None, Some, length, nat_eq, refl, sym, ap, ◌∙◌, inl, inr}
 use Rattle.std.proofs.lemmas.Bool.{and_from, eq-eqb}
 use Rattle.lisa_words.specs.declared.words.Kind.{Kind}
 use Rattle.lisa_words.specs.declared.words.Kind.TheVariants as kinds
@@ -13,6 +13,7 @@ use Rattle.description_types.specs.declared.values.TypeOf.{TypeOf}
 use Rattle.description_types.specs.declared.values.TypeOf.TheVariants as types
 use Rattle.description_types.specs.contracts.values.TypeOfPartialEq.TheImpl.{eq-value}
 use Rattle.description_types.specs.Shapes.{same_kind, same_shape}
+use Rattle.description_types.specs.Kinds.{unrefused}
 use Rattle.description_types.specs.Steady.{shapes_same}
 use Rattle.description_types.specs.Tables.{DifferInType}
 use Rattle.description_types.proofs.MeantMarks.{meant_below}
@@ -20,6 +21,7 @@ use Rattle.description_types.proofs.MeantMarks.{meant_below}
 abbrev same_type : TypeOf → TypeOf → Bool
 same_type types.NoType types.NoType = true
 same_type (types.Typed s) (types.Typed t) = same_shape s t
+same_type types.Refused types.Refused = true
 same_type _ _ = false
 
 shapes_equal : (k l : Kind) (v w : ℕ) → eq-value.it (types.Typed (record { kind = k; width = v })) (types.Typed (record { kind = l; width = w })) ≡ (same_kind k l && nat_eq v w)
@@ -31,7 +33,12 @@ shapes_equal kinds.Signed kinds.Signed v w = refl
 equal_is : (x y : TypeOf) → eq-value.it x y ≡ same_type x y
 equal_is types.NoType types.NoType = refl
 equal_is types.NoType (types.Typed t) = refl
+equal_is types.NoType types.Refused = refl
 equal_is (types.Typed s) types.NoType = refl
+equal_is (types.Typed s) types.Refused = refl
+equal_is types.Refused types.NoType = refl
+equal_is types.Refused (types.Typed t) = refl
+equal_is types.Refused types.Refused = refl
 equal_is (types.Typed s) (types.Typed t) = shapes_equal s.kind t.kind s.width t.width
 
 -- ---- two types are the same or differ
@@ -46,11 +53,17 @@ self_shape s = and_from (same_kind s.kind s.kind) (nat_eq s.width s.width) (self
 self_type : (x : TypeOf) → same_type x x ≡ true
 self_type types.NoType = refl
 self_type (types.Typed s) = self_shape s
+self_type types.Refused = refl
 
 same_types : (x y : TypeOf) → same_type x y ≡ true → x ≡ y
 same_types types.NoType types.NoType e = refl
 same_types types.NoType (types.Typed t) e = absurd (cc e)
+same_types types.NoType types.Refused e = absurd (cc e)
 same_types (types.Typed s) types.NoType e = absurd (cc e)
+same_types (types.Typed s) types.Refused e = absurd (cc e)
+same_types types.Refused types.NoType e = absurd (cc e)
+same_types types.Refused (types.Typed t) e = absurd (cc e)
+same_types types.Refused types.Refused e = refl
 same_types (types.Typed s) (types.Typed t) e = ap (λ (u : Shape). types.Typed u) (shapes_same s t e)
 
 other_types : (x y : TypeOf) → same_type x y ≡ false → x ≢ y
@@ -63,9 +76,23 @@ types_decide x y = by (same_type x y) refl
     by true e = inl (same_types x y e)
     by false e = inr (other_types x y e)
 
+-- ---- what isn't refused
+
+refused_none : (r : Option TypeOf) (t : TypeOf) → unrefused r ≡ Some t → (r ≡ Some t) × (t ≢ types.Refused)
+refused_none None t e = absurd (cc e)
+refused_none (Some types.NoType) t e = (e, λ h. absurd (cc (e, h)))
+refused_none (Some (types.Typed s)) t e = (e, λ h. absurd (cc (e, h)))
+refused_none (Some types.Refused) t e = absurd (cc e)
+
+kept : (r : Option TypeOf) (t : TypeOf) → r ≡ Some t → t ≢ types.Refused → unrefused r ≡ Some t
+kept None t e stands = absurd (cc e)
+kept (Some types.NoType) t e stands = e
+kept (Some (types.Typed s)) t e stands = e
+kept (Some types.Refused) t e stands = absurd (stands (cc e))
+
 -- ---- declarations that differ
 
-module _ (d : DescriptionTree) (known : ℕ → Option TypeOf) (values : List (Option TypeOf)) (each : (i : ℕ) → i < length (entries d) → entry values i ≡ known (entry_node d i)) (i : ℕ) where
+module _ (d : DescriptionTree) (known : ℕ → Option TypeOf) (values : List (Option TypeOf)) (each : (i : ℕ) → i < length (entries d) → entry values i ≡ unrefused (known (entry_node d i))) (i : ℕ) where
   pub differ_in_type : Differ d eq-value.it (entry values) i → DifferInType d known i
   differ_in_type x = record {
     one = x.left;
@@ -74,8 +101,10 @@ module _ (d : DescriptionTree) (known : ℕ → Option TypeOf) (values : List (O
     means_other = x.means_right;
     type_of_one = x.left_value;
     type_of_other = x.right_value;
-    is_one = sym (each x.left (meant_below d x.means_left)) ∙ x.is_left;
-    is_other = sym (each x.right (meant_below d x.means_right)) ∙ x.is_right;
+    is_one = (refused_none _ _ (sym (each x.left (meant_below d x.means_left)) ∙ x.is_left)).0;
+    is_other = (refused_none _ _ (sym (each x.right (meant_below d x.means_right)) ∙ x.is_right)).0;
+    one_stands = (refused_none _ _ (sym (each x.left (meant_below d x.means_left)) ∙ x.is_left)).1;
+    other_stands = (refused_none _ _ (sym (each x.right (meant_below d x.means_right)) ∙ x.is_right)).1;
     differ = other_types x.left_value x.right_value (sym (equal_is x.left_value x.right_value) ∙ x.other);
   }
 
@@ -87,8 +116,8 @@ module _ (d : DescriptionTree) (known : ℕ → Option TypeOf) (values : List (O
     means_right = y.means_other;
     left_value = y.type_of_one;
     right_value = y.type_of_other;
-    is_left = each y.one (meant_below d y.means_one) ∙ y.is_one;
-    is_right = each y.other (meant_below d y.means_other) ∙ y.is_other;
+    is_left = each y.one (meant_below d y.means_one) ∙ kept _ _ y.is_one y.one_stands;
+    is_right = each y.other (meant_below d y.means_other) ∙ kept _ _ y.is_other y.other_stands;
     other = by (same_type y.type_of_one y.type_of_other) refl;
   }
     where

@@ -17,6 +17,11 @@ pub meant_below : (d : DescriptionTree) {i j : ℕ} → MayMean d i j → j < le
 meant_below d (itself e is other same) = subst (λ (k : ℕ). k < length (entries d)) same (slice_get_within (entries d) _ e is)
 meant_below d (higher e p k is what above at more) = meant_below d more
 
+-- and so is what means it
+pub meant_from : (d : DescriptionTree) {i j : ℕ} → MayMean d i j → i < length (entries d)
+meant_from d (itself e is other same) = slice_get_within (entries d) _ e is
+meant_from d (higher e p k is what above at more) = slice_get_within (entries d) _ e is
+
 pub saw_present : {T : Type 0} (found : List (Option T)) (i : ℕ) → saw (map is_some found) i ≡ is_some (entry found i)
 saw_present [] i = refl
 saw_present (x ∷ xs) zero = refl

@@ -1,7 +1,8 @@
 -- What follows from a table follows from a larger one, and past the last node nothing follows.
-use Rattle.std.proofs.Common.{◌≡◌, ◌⊎◌, ◌||◌, ℕ, Bool, false, List, [], ◌∷◌, Option, None, Some, refl, ap, ap₂, sym, subst, ◌∙◌, inl, inr, ⊎_elim}
+use Rattle.std.proofs.Common.{◌≡◌, ◌||◌, ℕ, Bool, false, List, [], ◌∷◌, Option, None, Some, refl, ap, ap₂, sym, ◌∙◌}
 use Rattle.std.specs.Prelude.{option_map}
 use Rattle.std.specs.Option.{is_none}
+use Rattle.std.specs.List.{list_any}
 use Rattle.std.proofs.lemmas.Bool.{or_parts}
 use Rattle.lisa_tree.specs.Descriptions.{DescriptionTree}
 use Rattle.lisa_tree.specs.declared.declared.What.{What}
@@ -14,12 +15,6 @@ use Rattle.description_types.specs.Facts.{Fact, together, merged_from, merged, a
 -- one has all that another has
 pub record Less {T : Type 0} (x y : Option T) : Type 0 where
   pub keeps : (t : T) → x ≡ Some t → y ≡ Some t
-
--- two make one of them, or what nothing more can be made of
-pub record IsNarrowing {T : Type 0} (f : T → T → T) (least : T) : Type 0 where
-  pub left : (x y : T) → (f x y ≡ x) ⊎ (f x y ≡ least)
-  pub right : (x y : T) → (f x y ≡ y) ⊎ (f x y ≡ least)
-  pub ends : (x : T) → f x least ≡ least
 
 module _ {T : Type 0} where
   pub none_less : (y : Option T) → Less None y
@@ -52,59 +47,30 @@ module _ {T : Type 0} where
   merged_less f value more w [] = same_less _
   merged_less f value more w (a ∷ rest) = merged_from_less f value more w rest (value a) (more a) (w a)
 
-  -- ---- what those of a list that are known make
+  -- ---- alternatives of which none is open
 
-  -- what more values make: the same as fewer, where those made something, or what nothing can be made of
-  abbrev pub Grows : T → Option T → Option T → Type 0
-  Grows least x y = (x ≡ None) ⊎ ((x ≡ y) ⊎ (y ≡ Some least))
-
-  module _ (f : T → T → T) (least : T) (law : IsNarrowing f least) where
-    known_more : (t : T) (k m : Option T) → Grows least k m → Grows least (added f (Some t) k) (added f (Some t) m)
-    known_more t None None g = inr (inl refl)
-    known_more t None (Some s) g = inr (⊎_elim (λ e. inl (ap (λ (x : T). Some x) (sym e))) (λ e. inr (ap (λ (x : T). Some x) e)) (law.left t s))
-    known_more t (Some s) m g = ⊎_elim
-        (λ e. absurd (cc e))
-        (⊎_elim
-        (λ e. inr (inl (ap (added f (Some t)) e)))
-        (λ e. inr (inr (ap (added f (Some t)) e ∙ ap (λ (x : T). Some x) (law.ends t)))))
-        g
-
-    newly_known : (t : T) (k m : Option T) → Grows least k m → Grows least k (added f (Some t) m)
-    newly_known t None m g = inl refl
-    newly_known t (Some s) m g = ⊎_elim
-        (λ e. absurd (cc e))
-        (⊎_elim
-        (λ e. inr (⊎_elim
-        (λ h. inl (ap (λ (x : T). Some x) (sym h) ∙ ap (added f (Some t)) e))
-        (λ h. inr (sym (ap (added f (Some t)) e) ∙ ap (λ (x : T). Some x) h))
-        (law.right t s)))
-        (λ e. inr (inr (ap (added f (Some t)) e ∙ ap (λ (x : T). Some x) (law.ends t)))))
-        g
-
-    added_grows : (x y k m : Option T) → Less x y → Grows least k m → Grows least (added f x k) (added f y m)
-    added_grows None None k m l g = g
-    added_grows None (Some t) k m l g = newly_known t k m g
-    added_grows (Some t) y k m l g = subst (λ z. Grows least (added f (Some t) k) (added f z m)) (sym (l.keeps t refl)) (known_more t k m g)
-
-    pub known_grows : (value more : ℕ → Option T) → ((a : ℕ) → Less (value a) (more a)) → (all : List ℕ) → Grows least (known_together f value all) (known_together f more all)
-    known_grows value more w [] = inl refl
-    known_grows value more w (a ∷ rest) = added_grows (value a) (more a) (known_together f value rest) (known_together f more rest) (w a) (known_grows value more w rest)
-
-  same_known : (x y : Option T) → Less x y → is_none x ≡ false → x ≡ y
+  pub same_known : (x y : Option T) → Less x y → is_none x ≡ false → x ≡ y
   same_known None y l e = absurd (cc e)
   same_known (Some t) y l e = sym (l.keeps t refl)
 
-  pub all_known : (f : T → T → T) (value more : ℕ → Option T) → ((a : ℕ) → Less (value a) (more a)) → (all : List ℕ) → any_open value all ≡ false
-      → (any_open more all ≡ false) × (known_together f value all ≡ known_together f more all)
-  all_known f value more w [] e = (refl, refl)
-  all_known f value more w (a ∷ rest) e =
-      let parts = or_parts (is_none (value a)) (any_open value rest) e in
-      let same : value a ≡ more a = same_known (value a) (more a) (w a) parts.0 in
-      let behind = all_known f value more w rest parts.1 in
-      (ap₂ (λ (x y : Bool). x || y) (sym (ap is_none same) ∙ parts.0) behind.0, ap₂ (added f) same behind.1)
+  module _ (value more : ℕ → Option T) (less : (a : ℕ) → Less (value a) (more a)) where
+    pub none_open : (all : List ℕ) → any_open value all ≡ false → any_open more all ≡ false
+    none_open [] e = refl
+    none_open (a ∷ rest) e =
+        let parts = or_parts (is_none (value a)) (any_open value rest) e in
+        ap₂ (λ (x y : Bool). x || y) (sym (ap is_none (same_known (value a) (more a) (less a) parts.0)) ∙ parts.0) (none_open rest parts.1)
 
-  pub least_stays : (least : T) (y : Option T) → Grows least (Some least) y → y ≡ Some least
-  least_stays least y g = ⊎_elim (λ e. absurd (cc e)) (⊎_elim (λ e. sym e) (λ e. e)) g
+    pub same_any : (test : Option T → Bool) (all : List ℕ) → any_open value all ≡ false → list_any (λ a. test (value a)) all ≡ list_any (λ a. test (more a)) all
+    same_any test [] e = refl
+    same_any test (a ∷ rest) e =
+        let parts = or_parts (is_none (value a)) (any_open value rest) e in
+        ap₂ (λ (x y : Bool). x || y) (ap test (same_known (value a) (more a) (less a) parts.0)) (same_any test rest parts.1)
+
+    pub same_together : (f : T → T → T) (g : Option T → Option T) (all : List ℕ) → any_open value all ≡ false → known_together f (λ a. g (value a)) all ≡ known_together f (λ a. g (more a)) all
+    same_together f g [] e = refl
+    same_together f g (a ∷ rest) e =
+        let parts = or_parts (is_none (value a)) (any_open value rest) e in
+        ap₂ (added f) (ap g (same_known (value a) (more a) (less a) parts.0)) (same_together f g rest parts.1)
 
   -- ---- nodes
 

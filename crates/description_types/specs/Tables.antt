@@ -1,5 +1,6 @@
 -- What is known of operations, choices and declared names. An open node has no value.
 use Rattle.std.specs.Prelude.{ℕ, ◌≡◌, ◌≢◌, ◌↔◌, ◌||◌, Bool, true, List, Option, Some}
+use Rattle.std.specs.Option.{is_some}
 use Rattle.lisa_tree.specs.Descriptions.{DescriptionTree}
 use Rattle.lisa_tree.specs.Paths.{entry_node}
 use Rattle.graph_paths.specs.Paths.{saw}
@@ -38,7 +39,7 @@ AreTypes d traits known = AreValues d (type_fact d (apart traits)) known
 abbrev pub LacksType : DescriptionTree → (ℕ → Option TypeOf) → ℕ → Type 0
 LacksType d known j = known (entry_node d j) ≡ Some types.NoType
 
--- two declarations that a name may mean have different types; no type differs from every type
+-- two declarations that a name may mean have different types, and no use makes them refused; no type differs from every type
 pub record DifferInType (d : DescriptionTree) (known : ℕ → Option TypeOf) (i : ℕ) : Type 0 where
   pub one : ℕ
   pub other : ℕ
@@ -48,6 +49,8 @@ pub record DifferInType (d : DescriptionTree) (known : ℕ → Option TypeOf) (i
   pub type_of_other : TypeOf
   pub is_one : known (entry_node d one) ≡ Some type_of_one
   pub is_other : known (entry_node d other) ≡ Some type_of_other
+  pub one_stands : type_of_one ≢ types.Refused
+  pub other_stands : type_of_other ≢ types.Refused
   pub differ : type_of_one ≢ type_of_other
 
 -- which declared names may be no value: those that are apart, and those without a type
@@ -68,6 +71,10 @@ MayNotAssign d known j = known (entry_node d j) ≡ Some assigns.No
 abbrev pub DifferInAssigning : DescriptionTree → (ℕ → Option Assignable) → ℕ → Type 0
 DifferInAssigning d known i = SomeMeant d (MayAssign d known) i × SomeMeant d (MayNotAssign d known) i
 
+-- a declared name has a value, so nothing that it may mean is open
+abbrev pub IsSettled : {T : Type 0} → DescriptionTree → (ℕ → Option T) → ℕ → Type 0
+IsSettled d known i = is_some (known (entry_node d i)) ≡ true
+
 pub record Known : Type 0 where
   -- of nodes
   pub types : ℕ → Option TypeOf
@@ -76,7 +83,7 @@ pub record Known : Type 0 where
   pub traits : ℕ → Traits
   pub typeless : ℕ → Bool
   pub unassignable : ℕ → Bool
-  -- what two such declarations differ in
+  -- what two such declarations differ in, where none is open
   pub types_differ : ℕ → Bool
   pub assignables_differ : ℕ → Bool
 
@@ -85,10 +92,10 @@ pub record AreKinds (d : DescriptionTree) (known : Known) : Type 0 where
   pub traits : AreTraits d known.traits
   pub types : AreTypes d known.traits known.types
   pub typeless : AreMeant d (LacksType d known.types) known.typeless
-  pub types_differ : (i : ℕ) → (known.types_differ i ≡ true) ↔ DifferInType d known.types i
+  pub types_differ : (i : ℕ) → (known.types_differ i ≡ true) ↔ (IsSettled d known.types i × DifferInType d known.types i)
   pub assignables : AreAssignables d known.traits known.typeless known.assignables
   pub unassignable : AreMeant d (MayNotAssign d known.assignables) known.unassignable
-  pub assignables_differ : (i : ℕ) → (known.assignables_differ i ≡ true) ↔ DifferInAssigning d known.assignables i
+  pub assignables_differ : (i : ℕ) → (known.assignables_differ i ≡ true) ↔ (IsSettled d known.assignables i × DifferInAssigning d known.assignables i)
 
 -- tables with an entry for each node, and some with one for each declared name
 pub record Tables : Type 0 where

@@ -34,16 +34,16 @@ fn resource_assignable(resource: Option<&Resource>) -> Option<Assignable>
             Some(Assignable::Yes)
         }
         Some(Resource::Pin(_, _)) => Some(Assignable::No),
-        _ => None,
+        _ => Some(Assignable::Refused),
     }
 }
 
-// Declarations that differ are refused where the reference is declared; elsewhere it is open.
+// Declarations that differ are refused where the reference is declared.
 fn settled_assignable(value: Option<Assignable>) -> Option<Assignable>
     ensures { result ≡ settled_assignable value }
 {
     match value {
-        Some(Assignable::Mixed) => None,
+        Some(Assignable::Mixed) => Some(Assignable::Refused),
         value => value,
     }
 }
@@ -56,7 +56,7 @@ fn meant_assignable<N: Names>(
     ensures { result ≡ meant_assignable (entry table.now) (N.tree names.now) meaning }
 {
     match meaning {
-        Meaning::Nothing => None,
+        Meaning::Nothing => Some(Assignable::Refused),
         Meaning::Resource(number) => resource_assignable(resource(names, number)),
         Meaning::Declared(number) => settled_assignable(known_entry(names, table, number)),
     }
@@ -66,7 +66,7 @@ fn array_assignable(shape: Option<Shape>) -> Option<Assignable>
     ensures { result ≡ array_assignable shape }
 {
     match shape {
-        None => None,
+        None => Some(Assignable::Refused),
         Some(_) => Some(Assignable::Yes),
     }
 }
@@ -103,19 +103,22 @@ fn expression_assignable<N: Names, P: Property>(
         None => Some(Assignable::No),
         Some(expression) => {
             if is_refused(names, unfit, operation, expression) {
-                return None;
+                return Some(Assignable::Refused);
             }
             value_assignable(names, table, operation, expression)
         }
     }
 }
 
-// All alternatives of a choice may be assigned.
+// Whether two alternatives of a choice may be assigned.
 fn both_assignable(left: Assignable, right: Assignable) -> Assignable
     ensures { result ≡ both_assignable left right }
 {
     match (left, right) {
         (Assignable::Yes, Assignable::Yes) => Assignable::Yes,
+        (Assignable::Yes, Assignable::Refused)
+        | (Assignable::Refused, Assignable::Yes)
+        | (Assignable::Refused, Assignable::Refused) => Assignable::Refused,
         _ => Assignable::No,
     }
 }
@@ -127,6 +130,7 @@ fn either_assignable(left: Assignable, right: Assignable) -> Assignable
     match (left, right) {
         (Assignable::Yes, Assignable::Yes) => Assignable::Yes,
         (Assignable::No, Assignable::No) => Assignable::No,
+        (Assignable::Refused, _) | (_, Assignable::Refused) => Assignable::Refused,
         _ => Assignable::Mixed,
     }
 }
@@ -153,13 +157,15 @@ fn known_together(table: &[Option<Assignable>], operations: &[usize]) -> Option<
     so_far
 }
 
-// Whether a choice may be assigned, by whether an alternative is open and by the others.
+// Whether a choice may be assigned, by whether an alternative is open and by what they make together.
 fn choice_assignable(some_open: bool, others: Option<Assignable>) -> Option<Assignable>
     ensures { result ≡ choice_assignable some_open others }
 {
+    if some_open {
+        return None;
+    }
     match others {
-        Some(Assignable::No) => Some(Assignable::No),
-        _ if some_open => None,
+        None => Some(Assignable::Refused),
         others => others,
     }
 }
@@ -197,7 +203,7 @@ impl<'a, N: Names, P: Property> Facts<Assignable> for AssignableFacts<'a, N, P> 
 
     fn add_bases(&self, operation: usize, into: &mut Vec<usize>) -> Result<(), AllocError> {
         match expression(sections(self.names, operation)) {
-            Some(Expr::Named(name)) => add_named(self.names, operation, name, into),
+            Some(Expr::Named(name)) => add_named(self.names, self.unfit, operation, name, into),
             _ => Ok(()),
         }
     }

@@ -3,6 +3,7 @@
 
 use crate::facts::{Facts, Following};
 use crate::lookups::operation_count;
+use crate::meant::Property;
 use lisa_tree::{Expr, Meaning, Names, Operator, What};
 use lisa_words::Name;
 use std::alloc::{AllocError, Global};
@@ -14,15 +15,16 @@ fn entry_node<N: Names>(names: &N, entry: usize) -> usize {
         .saturating_add(entry)
 }
 
-/// Adds what a name rests on.
-pub(crate) fn add_named<N: Names>(
+/// Adds what a name rests on. A name that may be no value is refused, and rests on nothing.
+pub(crate) fn add_named<N: Names, P: Property>(
     names: &N,
+    unfit: &P,
     operation: usize,
     name: &Name,
     into: &mut Vec<usize>,
 ) -> Result<(), AllocError> {
     match names.meaning(operation, name) {
-        Meaning::Declared(entry) => {
+        Meaning::Declared(entry) if !unfit.holds(entry) => {
             into.push(entry_node(names, entry))?;
             Ok(())
         }
@@ -31,31 +33,32 @@ pub(crate) fn add_named<N: Names>(
 }
 
 /// Adds what the type of an expression rests on.
-pub(crate) fn add_typed<N: Names>(
+pub(crate) fn add_typed<N: Names, P: Property>(
     names: &N,
+    unfit: &P,
     operation: usize,
     expression: &Expr,
     into: &mut Vec<usize>,
 ) -> Result<(), AllocError> {
     match expression {
-        Expr::Named(name) => add_named(names, operation, name, into),
-        Expr::Complement(value) => add_typed(names, operation, value, into),
+        Expr::Named(name) => add_named(names, unfit, operation, name, into),
+        Expr::Complement(value) => add_typed(names, unfit, operation, value, into),
         Expr::Two(operator, left, right) => match operator {
-            Operator::Left | Operator::Right => add_typed(names, operation, left, into),
+            Operator::Left | Operator::Right => add_typed(names, unfit, operation, left, into),
             Operator::Add
             | Operator::Sub
             | Operator::Mul
             | Operator::And
             | Operator::Or
             | Operator::Xor => {
-                add_typed(names, operation, left, into)?;
-                add_typed(names, operation, right, into)
+                add_typed(names, unfit, operation, left, into)?;
+                add_typed(names, unfit, operation, right, into)
             }
             _ => Ok(()),
         },
         Expr::Choose(_, left, right) => {
-            add_typed(names, operation, left, into)?;
-            add_typed(names, operation, right, into)
+            add_typed(names, unfit, operation, left, into)?;
+            add_typed(names, unfit, operation, right, into)
         }
         _ => Ok(()),
     }

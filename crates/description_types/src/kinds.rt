@@ -1,6 +1,7 @@
 //! The kinds of a description's nodes and declared names, found out once.
 
 ghost use Rattle.std.specs.Prelude.{◌≡◌, ◌↔◌, ◌<◌, ◌&&◌, ℕ, length, true, IfOk};
+ghost use Rattle.std.specs.Option.{is_some};
 ghost use Rattle.graph_paths.specs.Paths.{saw};
 ghost use Rattle.least_fixed_points.specs.Settles.{entry};
 ghost use Rattle.lisa_tree.specs.Declarations.{entries};
@@ -8,19 +9,20 @@ ghost use Rattle.lisa_tree.specs.Paths.{entry_node, node_count};
 ghost use Rattle.lisa_tree.specs.Expressions.{expr_tree};
 ghost use Rattle.meant_declarations.specs.Meanings.{AreMeanings};
 ghost use Rattle.description_types.specs.Types.{type_of};
+ghost use Rattle.description_types.specs.Kinds.{unrefused};
 ghost use Rattle.description_types.specs.Codings.{AreCodings};
 ghost use Rattle.description_types.specs.Uses.{traits_by};
-ghost use Rattle.description_types.specs.Tables.{AreMeant, AreTypes, LacksType, DifferInType, AreAssignables, MayAssign, MayNotAssign, Tables, known_by, AreKinds};
+ghost use Rattle.description_types.specs.Tables.{AreMeant, AreTypes, LacksType, DifferInType, AreAssignables, MayAssign, MayNotAssign, IsSettled, Tables, known_by, AreKinds};
 
 use crate::assignable_facts::AssignableFacts;
 use crate::bases::order;
 use crate::codings::codings;
 use crate::facts::{Facts, Following};
 use crate::lookups::{known_entry, mark_at, operation_count};
-use crate::meant::some_meant;
-use crate::type_facts::TypeFacts;
+use crate::meant::{marks, some_meant};
+use crate::type_facts::{TypeFacts, unrefused};
 use crate::types::type_of;
-use crate::unfit::{Apart, Assigned, Typeless, Unfit};
+use crate::unfit::{Apart, Assigned, Settled, Typeless, Unfit};
 use crate::uses::UseTables;
 use crate::values::{Assignable, CodedName, Traits, TypeOf};
 use description_places::Scope;
@@ -115,20 +117,35 @@ fn assignables<N: Names>(
     Ok(assignables)
 }
 
-// The types of the declared names alone.
+// The types of the declared names alone, and of those that are refused none.
 fn declared_types<N: Names>(
     alloc: Global,
     names: &N,
     types: &[Option<TypeOf>],
 ) -> Result<Vec<Option<TypeOf>>, AllocError>
     ensures length { IfOk result (λ declared. length declared.items ≡ length (entries (N.tree names.now))) }
-    ensures exact { IfOk result (λ declared. (i : ℕ) → i < length (entries (N.tree names.now)) → entry declared.items i ≡ entry types.now (entry_node (N.tree names.now) i)) }
+    ensures exact { IfOk result (λ declared. (i : ℕ) → i < length (entries (N.tree names.now)) → entry declared.items i ≡ unrefused (entry types.now (entry_node (N.tree names.now) i))) }
 {
     let mut declared = Vec::new(alloc);
     for entry in 0..names.entry_count() {
-        declared.push(known_entry(names, types, entry))?;
+        declared.push(unrefused(known_entry(names, types, entry)))?;
     }
     Ok(declared)
+}
+
+// Those of marked declared names that have a value.
+fn among_settled<T: Copy, N: Names>(
+    alloc: Global,
+    names: &N,
+    table: &[Option<T>],
+    marked: &[bool],
+) -> Result<Vec<bool>, AllocError>
+    ensures within { IfOk result (λ kept. (i : ℕ) → i < length (entries (N.tree names.now)) → saw kept.items i ≡ (saw marked.now i && is_some (entry table.now (entry_node (N.tree names.now) i)))) }
+    ensures marked { IfOk result (λ kept. (i : ℕ) → saw kept.items i ≡ true → saw marked.now i ≡ true) }
+{
+    let settled = marks(alloc, &Settled { names, table }, names.entry_count())?;
+    let kept = both(alloc, marked, &settled)?;
+    Ok(kept)
 }
 
 // Which declared names may mean declarations of different types.
@@ -139,10 +156,11 @@ fn differ_in_type<N: Names>(
     types: &[Option<TypeOf>],
 ) -> Result<Vec<bool>, NoMemory>
     requires { AreMeanings (N.tree names.now) meanings.now }
-    ensures { IfOk result (λ marks. (i : ℕ) → (saw marks.items i ≡ true) ↔ DifferInType (N.tree names.now) (entry types.now) i) }
+    ensures { IfOk result (λ marks. (i : ℕ) → (saw marks.items i ≡ true) ↔ (IsSettled (N.tree names.now) (entry types.now) i × DifferInType (N.tree names.now) (entry types.now) i)) }
 {
     let declared = declared_types(alloc, names, types)?;
-    let marks = meanings.differ(alloc, names, &declared)?;
+    let marked = meanings.differ(alloc, names, &declared)?;
+    let marks = among_settled(alloc, names, types, &marked)?;
     Ok(marks)
 }
 
@@ -229,7 +247,8 @@ impl Kinds {
         let assignables = assignables(alloc, names, &uses, &typeless)?;
         let assignable = assignable(alloc, names, &meanings, &assignables)?;
         let unassignable = unassignable(alloc, names, &meanings, &assignables)?;
-        let assignables_differ = both(alloc, &assignable, &unassignable)?;
+        let marked = both(alloc, &assignable, &unassignable)?;
+        let assignables_differ = among_settled(alloc, names, &assignables, &marked)?;
         Ok(Kinds {
             types,
             assignables,
@@ -282,14 +301,16 @@ impl Kinds {
         mark_at(&self.unassignable, entry)
     }
 
-    /// Whether declarations that a name may mean have different types, where having none differs from every type.
+    /// Whether declarations that a name may mean have different types, where having none differs from every type. It isn't said of a name
+    /// that may mean what is open, and what is refused differs from nothing.
     pub fn types_differ(&self, entry: usize) -> bool
         ensures { result ≡ (known_by self.now).types_differ entry }
     {
         mark_at(&self.types_differ, entry)
     }
 
-    /// Whether of the declarations that a name may mean one may be assigned and one may not.
+    /// Whether of the declarations that a name may mean one may be assigned and one may not. It isn't said of a name that may mean what
+    /// is open.
     pub fn assignables_differ(&self, entry: usize) -> bool
         ensures { result ≡ (known_by self.now).assignables_differ entry }
     {

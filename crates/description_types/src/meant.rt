@@ -20,8 +20,12 @@ pub trait Property {
         ensures { result ≡ holds self.now entry };
 }
 
-// Of which of so many declared names it holds.
-fn marks<P: Property>(alloc: Global, property: &P, count: usize) -> Result<Vec<bool>, AllocError>
+/// Of which of so many declared names it holds.
+pub(crate) fn marks<P: Property>(
+    alloc: Global,
+    property: &P,
+    count: usize,
+) -> Result<Vec<bool>, AllocError>
     ensures length { IfOk result (λ marks. length marks.items ≡ count) }
     ensures exact { IfOk result (λ marks. (i : ℕ) → i < count → saw marks.items i ≡ P.holds property.now i) }
 {

@@ -1,11 +1,12 @@
-//! Uses in an operation's expression that go against what they are of.
+//! Uses in an operation's expression that go against what they are of, and uses of what is open.
 
 ghost use Rattle.std.specs.Prelude.{◌≡◌};
 ghost use Rattle.lisa_tree.specs.Expressions.{expr_tree};
 ghost use Rattle.lisa_tree.specs.Resources.{is_pipeline};
-ghost use Rattle.description_types.specs.Refused.{may_input, are_apart, is_apart, meant_refused, is_no_boundary, is_refused, two_refused, rests_on_refused};
+ghost use Rattle.least_fixed_points.specs.Settles.{entry};
+ghost use Rattle.description_types.specs.Refused.{may_input, are_apart, is_apart, meant_refused, is_no_boundary, is_refused, meant_open, is_open, two_rest, rests_on_refused, rests_on_open};
 
-use crate::lookups::resource;
+use crate::lookups::{known_entry, resource};
 use crate::meant::Property;
 use crate::values::Traits;
 use lisa_tree::{BoundaryField, Expr, Meaning, Names, Operator, Resource};
@@ -93,9 +94,42 @@ pub(crate) fn is_refused<N: Names, P: Property>(
     }
 }
 
-// Whether the type of what an operator gives rests on a refused use, by whether its operands' types do.
-fn two_refused(operator: Operator, left: bool, right: bool) -> bool
-    ensures { result ≡ two_refused operator left right }
+// Whether a declared name stands here that is open, and may be a value.
+fn meant_open<T: Copy, N: Names, P: Property>(
+    names: &N,
+    unfit: &P,
+    table: &[Option<T>],
+    meaning: Meaning,
+) -> bool
+    ensures { result ≡ meant_open (P.holds unfit.now) (entry table.now) (N.tree names.now) meaning }
+{
+    match meaning {
+        Meaning::Declared(number) => {
+            !unfit.holds(number) && known_entry(names, table, number).is_none()
+        }
+        _ => false,
+    }
+}
+
+// Whether an expression is itself a use of what is open, and none that is refused.
+fn is_open<T: Copy, N: Names, P: Property>(
+    names: &N,
+    unfit: &P,
+    table: &[Option<T>],
+    operation: usize,
+    expression: &Expr,
+) -> bool
+    ensures { result ≡ is_open (P.holds unfit.now) (entry table.now) (N.tree names.now) operation (expr_tree expression.now) }
+{
+    match expression {
+        Expr::Named(name) => meant_open(names, unfit, table, names.meaning(operation, name)),
+        _ => false,
+    }
+}
+
+// Whether the type of what an operator gives rests on a part of some sort, by whether its operands' types do.
+fn two_rest(operator: Operator, left: bool, right: bool) -> bool
+    ensures { result ≡ two_rest operator left right }
 {
     match operator {
         Operator::Left | Operator::Right => left,
@@ -120,7 +154,7 @@ pub(crate) fn rests_on_refused<N: Names, P: Property>(
 {
     match expression {
         Expr::Complement(value) => rests_on_refused(names, unfit, operation, value),
-        Expr::Two(operator, left, right) => two_refused(
+        Expr::Two(operator, left, right) => two_rest(
             *operator,
             rests_on_refused(names, unfit, operation, left),
             rests_on_refused(names, unfit, operation, right),
@@ -128,5 +162,30 @@ pub(crate) fn rests_on_refused<N: Names, P: Property>(
         Expr::Choose(_, left, right) => rests_on_refused(names, unfit, operation, left)
             || rests_on_refused(names, unfit, operation, right),
         _ => is_refused(names, unfit, operation, expression),
+    }
+}
+
+/// Whether the type of an expression rests on a use of what is open.
+pub(crate) fn rests_on_open<T: Copy, N: Names, P: Property>(
+    names: &N,
+    unfit: &P,
+    table: &[Option<T>],
+    operation: usize,
+    expression: &Expr,
+) -> bool
+    ensures { result ≡ rests_on_open (P.holds unfit.now) (entry table.now) (N.tree names.now) operation (expr_tree expression.now) }
+{
+    match expression {
+        Expr::Complement(value) => rests_on_open(names, unfit, table, operation, value),
+        Expr::Two(operator, left, right) => two_rest(
+            *operator,
+            rests_on_open(names, unfit, table, operation, left),
+            rests_on_open(names, unfit, table, operation, right),
+        ),
+        Expr::Choose(_, left, right) => {
+            rests_on_open(names, unfit, table, operation, left)
+                || rests_on_open(names, unfit, table, operation, right)
+        }
+        _ => is_open(names, unfit, table, operation, expression),
     }
 }

@@ -4,7 +4,7 @@ ghost use Rattle.std.specs.Prelude.{◌≡◌, [], option_map};
 ghost use Rattle.lisa_tree.specs.Expressions.{expr_tree};
 ghost use Rattle.least_fixed_points.specs.Settles.{entry};
 ghost use Rattle.description_types.specs.Facts.{added, known_together};
-ghost use Rattle.description_types.specs.Kinds.{as_type, expression_type, both_types, choice_type, type_fact};
+ghost use Rattle.description_types.specs.Kinds.{as_type, expression_type, both_types, lacks_expression, is_refused_type, any_refused, unrefused, choice_type, type_of_choice, type_fact};
 ghost use Rattle.description_types.specs.Codings.{AreCodings};
 ghost use Rattle.description_types.specs.Steady.{types_steady};
 
@@ -13,7 +13,7 @@ use crate::codings::coding_at;
 use crate::facts::Facts;
 use crate::lookups::{any_open, known_operation, sections};
 use crate::meant::Property;
-use crate::refused::rests_on_refused;
+use crate::refused::{rests_on_open, rests_on_refused};
 use crate::shapes::same_shape;
 use crate::types::type_of;
 use crate::values::{CodedName, TypeOf};
@@ -35,12 +35,12 @@ pub struct TypeFacts<'a, N: Names, P> {
     ghost empty: { no_locals ≡ [] },
 }
 
-fn as_type(shape: Option<Shape>) -> Option<TypeOf>
+fn as_type(shape: Option<Shape>) -> TypeOf
     ensures { result ≡ as_type shape }
 {
     match shape {
-        None => None,
-        Some(shape) => Some(TypeOf::Typed(shape)),
+        None => TypeOf::Refused,
+        Some(shape) => TypeOf::Typed(shape),
     }
 }
 
@@ -59,10 +59,14 @@ fn expression_type<N: Names, P: Property>(
     match expression {
         None => Some(TypeOf::NoType),
         Some(expression) => {
-            if rests_on_refused(names, unfit, operation, expression) {
+            if rests_on_open(names, unfit, table, operation, expression) {
                 return None;
             }
-            as_type(type_of(names, table, operation, no_locals, expression))
+            if rests_on_refused(names, unfit, operation, expression) {
+                return Some(TypeOf::Refused);
+            }
+            let shape = type_of(names, table, operation, no_locals, expression);
+            Some(as_type(shape))
         }
     }
 }
@@ -79,7 +83,51 @@ fn both_types(left: TypeOf, right: TypeOf) -> TypeOf
                 TypeOf::NoType
             }
         }
+        (TypeOf::Refused, _) | (_, TypeOf::Refused) => TypeOf::Refused,
         _ => TypeOf::NoType,
+    }
+}
+
+// Whether some of these operations has no expression.
+fn lacks_expression<N: Names>(names: &N, operations: &[usize]) -> bool
+    ensures { result ≡ lacks_expression (N.tree names.now) operations.now }
+{
+    for &operation in operations {
+        if expression(sections(names, operation)).is_none() {
+            return true;
+        }
+    }
+    false
+}
+
+fn is_refused_type(value: Option<TypeOf>) -> bool
+    ensures { result ≡ is_refused_type value }
+{
+    match value {
+        Some(TypeOf::Refused) => true,
+        _ => false,
+    }
+}
+
+// Whether some of these operations rests on a refused use.
+fn any_refused(table: &[Option<TypeOf>], operations: &[usize]) -> bool
+    ensures { result ≡ any_refused (entry table.now) operations.now }
+{
+    for &operation in operations {
+        if is_refused_type(known_operation(table, operation)) {
+            return true;
+        }
+    }
+    false
+}
+
+/// A value that isn't refused.
+pub(crate) fn unrefused(value: Option<TypeOf>) -> Option<TypeOf>
+    ensures { result ≡ unrefused value }
+{
+    match value {
+        Some(TypeOf::Refused) => None,
+        value => value,
     }
 }
 
@@ -94,26 +142,53 @@ fn added(value: Option<TypeOf>, others: Option<TypeOf>) -> Option<TypeOf>
     }
 }
 
-// The type that those of some operations that are known have together.
+// The type that those of some operations that aren't refused have together.
 fn known_together(table: &[Option<TypeOf>], operations: &[usize]) -> Option<TypeOf>
-    ensures { result ≡ known_together both_types (entry table.now) operations.now }
+    ensures { result ≡ known_together both_types (λ o. unrefused (entry table.now o)) operations.now }
 {
     let mut so_far = None;
     for &operation in operations {
-        so_far = added(so_far, known_operation(table, operation));
+        so_far = added(so_far, unrefused(known_operation(table, operation)));
     }
     so_far
 }
 
-// The type of a choice, by whether an alternative is open and by the type that the others have together.
-fn choice_type(some_open: bool, others: Option<TypeOf>) -> Option<TypeOf>
-    ensures { result ≡ choice_type some_open others }
+// The type of a choice, by whether an alternative has no expression, one is open or one is refused, and by the type that the others have
+// together.
+fn choice_type(
+    lacks: bool,
+    some_open: bool,
+    some_refused: bool,
+    others: Option<TypeOf>,
+) -> Option<TypeOf>
+    ensures { result ≡ choice_type lacks some_open some_refused others }
 {
+    if lacks {
+        return Some(TypeOf::NoType);
+    }
+    if some_open {
+        return None;
+    }
     match others {
         Some(TypeOf::NoType) => Some(TypeOf::NoType),
-        _ if some_open => None,
-        others => others,
+        Some(others) if !some_refused => Some(others),
+        _ => Some(TypeOf::Refused),
     }
+}
+
+fn type_of_choice<N: Names>(
+    names: &N,
+    table: &[Option<TypeOf>],
+    operations: &[usize],
+) -> Option<TypeOf>
+    ensures { result ≡ type_of_choice (N.tree names.now) (entry table.now) operations.now }
+{
+    choice_type(
+        lacks_expression(names, operations),
+        any_open(table, operations),
+        any_refused(table, operations),
+        known_together(table, operations),
+    )
 }
 
 impl<'a, N: Names, P: Property> Facts<TypeOf> for TypeFacts<'a, N, P> {
@@ -132,8 +207,7 @@ impl<'a, N: Names, P: Property> Facts<TypeOf> for TypeFacts<'a, N, P> {
     }
 
     fn of_choice(&self, table: &[Option<TypeOf>], choice: usize) -> Option<TypeOf> {
-        let plain = self.names.plain_at(choice);
-        choice_type(any_open(table, plain), known_together(table, plain))
+        type_of_choice(self.names, table, self.names.plain_at(choice))
     }
 
     fn of_label(&self, entry: usize) -> TypeOf {
@@ -151,12 +225,17 @@ impl<'a, N: Names, P: Property> Facts<TypeOf> for TypeFacts<'a, N, P> {
     fn add_bases(&self, operation: usize, into: &mut Vec<usize>) -> Result<(), AllocError> {
         match expression(sections(self.names, operation)) {
             None => Ok(()),
-            Some(expression) => add_typed(self.names, operation, expression, into),
+            Some(expression) => add_typed(self.names, self.unfit, operation, expression, into),
         }
     }
 
     fn bases_of_choice(&self, choice: usize) -> &[usize] {
-        self.names.plain_at(choice)
+        let plain = self.names.plain_at(choice);
+        if lacks_expression(self.names, plain) {
+            &[]
+        } else {
+            plain
+        }
     }
 
     ghost steady = { λ c. types_steady (N.tree c.names.now) (P.holds c.unfit.now) };

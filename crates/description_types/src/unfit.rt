@@ -1,6 +1,7 @@
 //! Which declared names may be no value, and what is known of the declarations that they may mean.
 
 ghost use Rattle.std.specs.Prelude.{◌≡◌, ◌||◌};
+ghost use Rattle.std.specs.Option.{is_some};
 ghost use Rattle.graph_paths.specs.Paths.{saw};
 ghost use Rattle.least_fixed_points.specs.Settles.{entry};
 ghost use Rattle.lisa_tree.specs.Paths.{entry_node};
@@ -80,5 +81,20 @@ impl<'a, N: Names> Property for Assigned<'a, N> {
             Some(Assignable::No) => !self.may,
             _ => false,
         }
+    }
+}
+
+/// The declared names that have a value.
+#[derive(Drop)]
+pub(crate) struct Settled<'a, T, N> {
+    pub names: &'a N,
+    pub table: &'a [Option<T>],
+}
+
+impl<'a, T: Copy, N: Names> Property for Settled<'a, T, N> {
+    ghost holds = { λ c i. is_some (entry c.table.now (entry_node (N.tree c.names.now) i)) };
+
+    fn holds(&self, entry: usize) -> bool {
+        known_entry(self.names, self.table, entry).is_some()
     }
 }

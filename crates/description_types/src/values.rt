@@ -8,6 +8,8 @@ pub enum TypeOf {
     /// There is no expression or field, or the alternatives differ, or the declarations that a reference may mean.
     NoType,
     Typed(Shape),
+    /// It rests on a use that is itself refused.
+    Refused,
 }
 
 /// Whether what an expression, a child or a label stands for may be assigned.
@@ -17,6 +19,8 @@ pub enum Assignable {
     No,
     /// The declarations that a reference may mean differ.
     Mixed,
+    /// It rests on a use that is itself refused.
+    Refused,
 }
 
 /// One of the traits.

@@ -12,10 +12,8 @@ use Rattle.std.proofs.lemmas.Slice.Eq.{bytes_eq-Decides}
 use Rattle.asm_source.specs.Plain.{PlainLine}
 use Rattle.asm_source.specs.declared.flaw.SourceFault.{SourceFault}
 use Rattle.asm_source.specs.declared.flaw.SourceFault.TheVariants as faults
-use Rattle.std.specs.HashSet.{HashSet}
-use Rattle.std.specs.declared.hash.FoldHasher.{FoldHasher}
-use Rattle.std.specs.declared.hash.BuildHasherDefault.{BuildHasherDefault}
-use Rattle.lisa_object.specs.Seen.{Holds}
+use Rattle.std.specs.BTreeSet.{BTreeSet}
+use Rattle.lisa_object.specs.Seen.{HoldsSorted}
 use Rattle.lisa_assembler.specs.Faults.{first_double}
 use Rattle.lisa_assembler.specs.Seen.{seen_behind}
 use Rattle.lisa_assembler.specs.Sources.{line_names}
@@ -24,7 +22,7 @@ abbrev pub Names : Type 0
 Names = List (List ℕ)
 
 abbrev pub NameSet : Type 0
-NameSet = HashSet (List ℕ) (BuildHasherDefault FoldHasher)
+NameSet = BTreeSet (List ℕ)
 
 abbrev pub has : Names → List ℕ → Bool
 has names n = list_any (bytes_eq n) names
@@ -152,18 +150,18 @@ back_fault line seen xs ys f none (inr t) = inr (t.0, double-append seen xs ys �
 pub none_double : (seen xs ys : Names) → first_double seen xs ≡ None → first_double (seen_behind seen xs) ys ≡ None → first_double seen (xs ++ ys) ≡ None
 none_double seen xs ys a b = double-append seen xs ys ∙ ap (λ (o : Option (List ℕ)). option_or o (first_double (seen_behind seen xs) ys)) a ∙ b
 
-pub holds_behind : (set : NameSet) (seen xs ys : Names) → Holds set (seen_behind (seen_behind seen xs) ys) → Holds set ((xs ++ ys) ++ seen)
+pub holds_behind : (set : NameSet) (seen xs ys : Names) → HoldsSorted set (seen_behind (seen_behind seen xs) ys) → HoldsSorted set ((xs ++ ys) ++ seen)
 holds_behind set seen xs ys h = λ n. h n ∙ ap (λ (ns : Names). has ns n) (sym (behind-append seen xs ys)) ∙ seen_has n seen (xs ++ ys)
 
 -- ---- a further name, where there is one
 
-pub none_more : (set : NameSet) (names own : Names) → own ≡ [] → Holds set names → (first_double names own ≡ None) × Holds set (seen_behind names own)
-none_more set names own e h = let P : Names → Type 0 = λ ns. (first_double names ns ≡ None) × Holds set (seen_behind names ns) in subst P (sym e) (refl, h)
+pub none_more : (set : NameSet) (names own : Names) → own ≡ [] → HoldsSorted set names → (first_double names own ≡ None) × HoldsSorted set (seen_behind names own)
+none_more set names own e h = let P : Names → Type 0 = λ ns. (first_double names ns ≡ None) × HoldsSorted set (seen_behind names ns) in subst P (sym e) (refl, h)
 
-pub one_more_new : {T : Type 0} (r : Result T SourceFault) (set : NameSet) (names own : Names) (n : List ℕ) → own ≡ n ∷ [] → OnOk r ((has names n ≡ false) × Holds set (n ∷ names))
-    → OnOk r ((first_double names own ≡ None) × Holds set (seen_behind names own))
+pub one_more_new : {T : Type 0} (r : Result T SourceFault) (set : NameSet) (names own : Names) (n : List ℕ) → own ≡ n ∷ [] → OnOk r ((has names n ≡ false) × HoldsSorted set (n ∷ names))
+    → OnOk r ((first_double names own ≡ None) × HoldsSorted set (seen_behind names own))
 one_more_new r set names own n e fresh =
-    let P : Names → Type 0 = λ ns. (first_double names ns ≡ None) × Holds set (seen_behind names ns) in
+    let P : Names → Type 0 = λ ns. (first_double names ns ≡ None) × HoldsSorted set (seen_behind names ns) in
     on_ok_weaker r (λ x. subst P (sym e) (double_behind names n [] x.0, x.1)) fresh
 
 pub one_more_fault : {T : Type 0} (r : Result T SourceFault) (line : ℕ) (names own : Names) (n : List ℕ) → own ≡ n ∷ []

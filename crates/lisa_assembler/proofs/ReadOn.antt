@@ -1,8 +1,6 @@
 -- A source is assembled as its lines are read.
-use Rattle.std.proofs.Common.{◌≡◌, ◌⊎◌, inl, inr, ℕ, List, [], ◌∷◌, ◌++◌, Option, None, Result, Ok, Err, refl, sym, ap, subst, ◌∙◌, append_assoc}
-use Rattle.std.specs.HashSet.{HashSet}
-use Rattle.std.specs.declared.hash.FoldHasher.{FoldHasher}
-use Rattle.std.specs.declared.hash.BuildHasherDefault.{BuildHasherDefault}
+use Rattle.std.proofs.Common.{◌≡◌, ◌⊎◌, inl, inr, ℕ, List, [], ◌∷◌, ◌++◌, Option, None, Result, Ok, Err, refl, sym, subst, ◌∙◌, append_assoc}
+use Rattle.std.specs.BTreeSet.{BTreeSet}
 use Rattle.std.proofs.lemmas.List.{append-nil}
 use Rattle.lisa_tree.specs.Descriptions.{DescriptionTree}
 use Rattle.lisa_engine.specs.declared.parts.ArrayItem.{ArrayItem}
@@ -12,7 +10,7 @@ use Rattle.asm_source.specs.Gives.{Misses, lines_with}
 use Rattle.asm_source.specs.declared.flaw.SourceFault.{SourceFault}
 use Rattle.asm_source.specs.declared.flaw.SourceFault.TheVariants as faults
 use Rattle.lisa_object.specs.Objects.{PlainObjectLine}
-use Rattle.lisa_object.specs.Seen.{Holds}
+use Rattle.lisa_object.specs.Seen.{HoldsSorted}
 use Rattle.lisa_assembler.specs.Faults.{IsFaultOf, IsSourceFault}
 use Rattle.lisa_assembler.specs.Objects.{digest_of, IsObjectOf}
 use Rattle.lisa_assembler.specs.Sourced.{IsObjectOfBytes, IsFaultOfBytes}
@@ -21,13 +19,13 @@ use Rattle.lisa_assembler.specs.Steps.{IsStep}
 use Rattle.lisa_assembler.proofs.Assembled.{AreAssembled, assembled_first, assembled_on, assembled_stops, assembled_end}
 
 abbrev Names : Type 0
-Names = HashSet (List ℕ) (BuildHasherDefault FoldHasher)
+Names = BTreeSet (List ℕ)
 
 -- what is assembled of the lines that were read, in front of any others
 abbrev pub IsSoFar : DescriptionTree → List PlainLine → Option ArrayItem → Names → List PlainObjectLine → Type 0
-IsSoFar d read here seen lines = (names : List (List ℕ)) × Holds seen names × ((left : List PlainLine) → AreAssembled d (read ++ left) here names lines left)
+IsSoFar d read here seen lines = (names : List (List ℕ)) × HoldsSorted seen names × ((left : List PlainLine) → AreAssembled d (read ++ left) here names lines left)
 
-pub nothing_so_far : (d : DescriptionTree) (seen : Names) → Holds seen [] → IsSoFar d [] None seen []
+pub nothing_so_far : (d : DescriptionTree) (seen : Names) → HoldsSorted seen [] → IsSoFar d [] None seen []
 nothing_so_far d seen held = ([], held, λ left. assembled_first d left)
 
 one_more : (read : List PlainLine) (l : PlainLine) (left : List PlainLine) → read ++ l ∷ left ≡ (read ++ l ∷ []) ++ left
@@ -36,8 +34,8 @@ one_more read l left = simp append_assoc
 -- one line more
 pub next_so_far : (d : DescriptionTree) (read : List PlainLine) (l : PlainLine) (here next : Option ArrayItem) (seen entered : Names) (old new : List PlainObjectLine) → IsSoFar d read here seen old
     → next ≡ section_behind d here l.part
-    → ((names : List (List ℕ)) → Holds seen names → Holds entered (line_names l ++ names))
-    → ((names : List (List ℕ)) → Holds seen names → IsStep d here names l old new)
+    → ((names : List (List ℕ)) → HoldsSorted seen names → HoldsSorted entered (line_names l ++ names))
+    → ((names : List (List ℕ)) → HoldsSorted seen names → IsStep d here names l old new)
     → IsSoFar d (read ++ l ∷ []) next entered new
 next_so_far d read l here next seen entered old new so behind held step = (
   line_names l ++ so.0,
@@ -62,7 +60,7 @@ module _ (d : DescriptionTree) (bytes : List ℕ) where
   -- the first line with a fault, where the lines behind it are read too
   pub line_fault : (read : List PlainLine) (l : PlainLine) (here : Option ArrayItem) (seen : Names) (lines : List PlainObjectLine) (f g : SourceFault) (more : Result (List PlainLine) SourceFault)
       → IsSoFar d read here seen lines
-      → ((names : List (List ℕ)) → Holds seen names → (f ≡ faults.NoMemory) ⊎ IsFaultOf d here names l f)
+      → ((names : List (List ℕ)) → HoldsSorted seen names → (f ≡ faults.NoMemory) ⊎ IsFaultOf d here names l f)
       → lines_with (read ++ l ∷ []) more ≡ source_of bytes
       → Misses g (source_of bytes) ⊎ ((ls : List PlainLine) × (source_of bytes ≡ Ok ls) × (g ≡ f))
       → (g ≡ faults.NoMemory) ⊎ IsFaultOfBytes d bytes g

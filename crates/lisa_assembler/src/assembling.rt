@@ -13,9 +13,9 @@ ghost use Rattle.lisa_assembler.specs.Objects.{digest_of, IsObjectOf};
 use crate::line::assemble_line;
 use crate::tools::Tools;
 use asm_source::{SourceFault, SourceLine};
-use indexmap::IndexSet;
 use lisa_object::Object;
 use std::alloc::Global;
+use std::collections::BTreeSet;
 
 /// The object of a source of a description with this digest, or the fault of its first line that has one.
 pub fn assemble(
@@ -29,7 +29,7 @@ pub fn assemble(
     ensures object { IfOk result (λ o. IsObjectOf (description_tree tools.now.machine.now) (map line_tree lines.now) (object_tree o)) }
     ensures fault { IfErr result (λ f. (f ≡ faults.NoMemory) ⊎ IsSourceFault (description_tree tools.now.machine.now) None [] (map line_tree lines.now) f) }
 {
-    let mut seen = IndexSet::new(alloc);
+    let mut seen = BTreeSet::new(alloc);
     let mut own = Vec::new(alloc);
     let mut here = None;
     'each: for line in lines {

@@ -4,7 +4,7 @@ ghost use Rattle.lisa_tree.specs.Descriptions.{description_tree};
 ghost use Rattle.asm_source.specs.Plain.{token_tree, value_tree, part_tree, line_tree, Nothing, Section, Global, Equ, Cells, Space, Instruction};
 ghost use Rattle.asm_source.specs.declared.flaw.SourceFault.TheVariants as faults;
 ghost use Rattle.lisa_object.specs.Objects.{Label, object_line_tree};
-ghost use Rattle.lisa_object.specs.Seen.{Holds};
+ghost use Rattle.lisa_object.specs.Seen.{HoldsSorted};
 ghost use Rattle.lisa_engine.specs.declared.parts.ArrayItem.{ArrayItem};
 ghost use Rattle.lisa_tree.specs.Descriptions.{DescriptionTree};
 ghost use Rattle.lisa_assembler.specs.Faults.{IsFaultOf, IsOutside, first_double, needs_section};
@@ -19,11 +19,11 @@ use crate::coded::{push_coded, read_tokens};
 use crate::names::enter_names;
 use crate::tools::Tools;
 use asm_source::{CellValue, LineToken, Part, SourceFault, SourceLine};
-use indexmap::IndexSet;
 use lisa_engine::ArrayItem;
 use lisa_object::ObjectLine;
 use lisa_words::Name;
 use std::alloc::{AllocError, Global};
+use std::collections::BTreeSet;
 
 fn needs_section(part: &Part) -> bool
     ensures { result ≡ needs_section (part_tree part.now) }
@@ -60,14 +60,14 @@ fn own_name(part: &Part) -> Option<&Name>
 
 // Begins a line: the names that it defines are new, and its labels are added.
 fn begin_line(
-    seen: &mut IndexSet<Name>,
+    seen: &mut BTreeSet<Name>,
     lines: &mut Vec<ObjectLine>,
     line: &SourceLine,
 ) -> Result<(), SourceFault>
     ensures added { OnOk result (map object_line_tree lines.new.items ≡ map object_line_tree lines.old.items ++ map Label (line_tree line.now).labels) }
-    ensures new { (names : List (List ℕ)) → Holds seen.old names
-        → OnOk result ((first_double names (line_names (line_tree line.now)) ≡ None) × Holds seen.new (line_names (line_tree line.now) ++ names)) }
-    ensures fault { (names : List (List ℕ)) → Holds seen.old names
+    ensures new { (names : List (List ℕ)) → HoldsSorted seen.old names
+        → OnOk result ((first_double names (line_names (line_tree line.now)) ≡ None) × HoldsSorted seen.new (line_names (line_tree line.now) ++ names)) }
+    ensures fault { (names : List (List ℕ)) → HoldsSorted seen.old names
         → IfErr result (λ f. (f ≡ faults.NoMemory) ⊎ ((n : List ℕ) × (first_double names (line_names (line_tree line.now)) ≡ Some n) × (f ≡ faults.DuplicateLabel line.now.line n))) }
 {
     enter_names(seen, lines, line.line, &line.labels, own_name(&line.part))
@@ -76,7 +76,7 @@ fn begin_line(
 // A line with `.section`.
 fn section_line<'a>(
     tools: &Tools<'a>,
-    seen: &mut IndexSet<Name>,
+    seen: &mut BTreeSet<Name>,
     lines: &mut Vec<ObjectLine>,
     line: &SourceLine,
     name: &Name,
@@ -85,10 +85,10 @@ fn section_line<'a>(
     requires part { part_tree line.now.part ≡ Section name.now }
     ensures section { IfOk result (λ m. memory_named (description_tree tools.now.machine.now) name.now ≡ Some m.now) }
     ensures words { IfOk result (λ m. HasWords m.now) }
-    ensures held { (names : List (List ℕ)) → Holds seen.old names → OnOk result (Holds seen.new (line_names (line_tree line.now) ++ names)) }
-    ensures step { (here : Option ArrayItem) (names : List (List ℕ)) → Holds seen.old names → (IsOutside here (line_tree line.now) → ⊥)
+    ensures held { (names : List (List ℕ)) → HoldsSorted seen.old names → OnOk result (HoldsSorted seen.new (line_names (line_tree line.now) ++ names)) }
+    ensures step { (here : Option ArrayItem) (names : List (List ℕ)) → HoldsSorted seen.old names → (IsOutside here (line_tree line.now) → ⊥)
         → OnOk result (IsStep (description_tree tools.now.machine.now) here names (line_tree line.now) (map object_line_tree lines.old.items) (map object_line_tree lines.new.items)) }
-    ensures fault { (here : Option ArrayItem) (names : List (List ℕ)) → Holds seen.old names → (IsOutside here (line_tree line.now) → ⊥)
+    ensures fault { (here : Option ArrayItem) (names : List (List ℕ)) → HoldsSorted seen.old names → (IsOutside here (line_tree line.now) → ⊥)
         → IfErr result (λ f. (f ≡ faults.NoMemory) ⊎ IsFaultOf (description_tree tools.now.machine.now) here names (line_tree line.now) f) }
 {
     let memory = match tools.memories.named(name) {
@@ -127,17 +127,17 @@ fn code_line(
     alloc: Global,
     tools: &Tools<'_>,
     memory: &ArrayItem,
-    seen: &mut IndexSet<Name>,
+    seen: &mut BTreeSet<Name>,
     lines: &mut Vec<ObjectLine>,
     line: &SourceLine,
     tokens: &[LineToken],
 ) -> Result<(), SourceFault>
     requires tools { AreTools tools.now }
     requires part { part_tree line.now.part ≡ Instruction (map token_tree tokens.now) }
-    ensures held { (names : List (List ℕ)) → Holds seen.old names → OnOk result (Holds seen.new (line_names (line_tree line.now) ++ names)) }
-    ensures step { (here : Option ArrayItem) (names : List (List ℕ)) → here ≡ Some memory.now → Holds seen.old names
+    ensures held { (names : List (List ℕ)) → HoldsSorted seen.old names → OnOk result (HoldsSorted seen.new (line_names (line_tree line.now) ++ names)) }
+    ensures step { (here : Option ArrayItem) (names : List (List ℕ)) → here ≡ Some memory.now → HoldsSorted seen.old names
         → OnOk result (IsStep (description_tree tools.now.machine.now) here names (line_tree line.now) (map object_line_tree lines.old.items) (map object_line_tree lines.new.items)) }
-    ensures fault { (here : Option ArrayItem) (names : List (List ℕ)) → here ≡ Some memory.now → Holds seen.old names
+    ensures fault { (here : Option ArrayItem) (names : List (List ℕ)) → here ≡ Some memory.now → HoldsSorted seen.old names
         → IfErr result (λ f. (f ≡ faults.NoMemory) ⊎ IsFaultOf (description_tree tools.now.machine.now) here names (line_tree line.now) f) }
 {
     if !holds_instructions(tools, memory) {
@@ -154,17 +154,17 @@ fn code_line(
 // A line with `.word`, in the section of a memory.
 fn cells_line(
     memory: &ArrayItem,
-    seen: &mut IndexSet<Name>,
+    seen: &mut BTreeSet<Name>,
     lines: &mut Vec<ObjectLine>,
     line: &SourceLine,
     values: &[CellValue],
 ) -> Result<(), SourceFault>
     requires words { HasWords memory.now }
     requires part { part_tree line.now.part ≡ Cells (map value_tree values.now) }
-    ensures held { (names : List (List ℕ)) → Holds seen.old names → OnOk result (Holds seen.new (line_names (line_tree line.now) ++ names)) }
-    ensures step { (d : DescriptionTree) (here : Option ArrayItem) (names : List (List ℕ)) → here ≡ Some memory.now → Holds seen.old names
+    ensures held { (names : List (List ℕ)) → HoldsSorted seen.old names → OnOk result (HoldsSorted seen.new (line_names (line_tree line.now) ++ names)) }
+    ensures step { (d : DescriptionTree) (here : Option ArrayItem) (names : List (List ℕ)) → here ≡ Some memory.now → HoldsSorted seen.old names
         → OnOk result (IsStep d here names (line_tree line.now) (map object_line_tree lines.old.items) (map object_line_tree lines.new.items)) }
-    ensures fault { (d : DescriptionTree) (here : Option ArrayItem) (names : List (List ℕ)) → here ≡ Some memory.now → Holds seen.old names
+    ensures fault { (d : DescriptionTree) (here : Option ArrayItem) (names : List (List ℕ)) → here ≡ Some memory.now → HoldsSorted seen.old names
         → IfErr result (λ f. (f ≡ faults.NoMemory) ⊎ IsFaultOf d here names (line_tree line.now) f) }
 {
     begin_line(seen, lines, line)?;
@@ -187,15 +187,15 @@ fn push_plain(lines: &mut Vec<ObjectLine>, part: &Part) -> Result<(), AllocError
 
 // A line that is written as it stands.
 fn plain_line(
-    seen: &mut IndexSet<Name>,
+    seen: &mut BTreeSet<Name>,
     lines: &mut Vec<ObjectLine>,
     line: &SourceLine,
 ) -> Result<(), SourceFault>
     requires { IsPlainPart (part_tree line.now.part) }
-    ensures held { (names : List (List ℕ)) → Holds seen.old names → OnOk result (Holds seen.new (line_names (line_tree line.now) ++ names)) }
-    ensures step { (d : DescriptionTree) (here : Option ArrayItem) (names : List (List ℕ)) → Holds seen.old names → (IsOutside here (line_tree line.now) → ⊥)
+    ensures held { (names : List (List ℕ)) → HoldsSorted seen.old names → OnOk result (HoldsSorted seen.new (line_names (line_tree line.now) ++ names)) }
+    ensures step { (d : DescriptionTree) (here : Option ArrayItem) (names : List (List ℕ)) → HoldsSorted seen.old names → (IsOutside here (line_tree line.now) → ⊥)
         → OnOk result (IsStep d here names (line_tree line.now) (map object_line_tree lines.old.items) (map object_line_tree lines.new.items)) }
-    ensures fault { (d : DescriptionTree) (here : Option ArrayItem) (names : List (List ℕ)) → Holds seen.old names → (IsOutside here (line_tree line.now) → ⊥)
+    ensures fault { (d : DescriptionTree) (here : Option ArrayItem) (names : List (List ℕ)) → HoldsSorted seen.old names → (IsOutside here (line_tree line.now) → ⊥)
         → IfErr result (λ f. (f ≡ faults.NoMemory) ⊎ IsFaultOf d here names (line_tree line.now) f) }
 {
     begin_line(seen, lines, line)?;
@@ -208,7 +208,7 @@ pub(crate) fn assemble_line<'a>(
     alloc: Global,
     tools: &Tools<'a>,
     here: Option<&'a ArrayItem>,
-    seen: &mut IndexSet<Name>,
+    seen: &mut BTreeSet<Name>,
     lines: &mut Vec<ObjectLine>,
     line: &SourceLine,
 ) -> Result<Option<&'a ArrayItem>, SourceFault>
@@ -216,10 +216,10 @@ pub(crate) fn assemble_line<'a>(
     requires words { IfSome (option_copied here) HasWords }
     ensures words { IfOk result (λ next. IfSome (option_copied next) HasWords) }
     ensures section { IfOk result (λ next. option_copied next ≡ section_behind (description_tree tools.now.machine.now) (option_copied here.entry) (part_tree line.now.part)) }
-    ensures held { (names : List (List ℕ)) → Holds seen.old names → OnOk result (Holds seen.new (line_names (line_tree line.now) ++ names)) }
-    ensures step { (names : List (List ℕ)) → Holds seen.old names
+    ensures held { (names : List (List ℕ)) → HoldsSorted seen.old names → OnOk result (HoldsSorted seen.new (line_names (line_tree line.now) ++ names)) }
+    ensures step { (names : List (List ℕ)) → HoldsSorted seen.old names
         → OnOk result (IsStep (description_tree tools.now.machine.now) (option_copied here.entry) names (line_tree line.now) (map object_line_tree lines.old.items) (map object_line_tree lines.new.items)) }
-    ensures fault { (names : List (List ℕ)) → Holds seen.old names
+    ensures fault { (names : List (List ℕ)) → HoldsSorted seen.old names
         → IfErr result (λ f. (f ≡ faults.NoMemory) ⊎ IsFaultOf (description_tree tools.now.machine.now) (option_copied here.entry) names (line_tree line.now) f) }
 {
     if is_outside(here, line) {

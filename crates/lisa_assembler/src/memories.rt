@@ -2,43 +2,44 @@
 ghost use Rattle.std.specs.Prelude.{◌≡◌, List, ℕ, All, IfOk, IfSome, OnOk, find, option_copied};
 ghost use Rattle.std.specs.Option.{option_or};
 ghost use Rattle.std.specs.Str.{bytes_eq};
-ghost use Rattle.indexmap.specs.IndexMap.{get};
+ghost use Rattle.name_tables.specs.TableViews.{value_of};
 ghost use Rattle.lisa_assembler.specs.Places.{HasWords, place_from, place_if_named};
 
-use indexmap::IndexMap;
 use lisa_engine::ArrayItem;
 use lisa_words::{Name, NoMemory};
+use name_tables::put_value;
 use std::alloc::{AllocError, Global};
+use std::collections::BTreeMap;
 
 /// Memories, to be found by their names.
 #[derive(Drop)]
 pub(crate) struct Memories<'a> {
     all: &'a [ArrayItem],
-    places: IndexMap<Name, usize>,
+    places: BTreeMap<Name, usize>,
     ghost words: { All HasWords all.now },
-    ghost placed: { (n : List ℕ) → get bytes_eq places n ≡ place_from 0 all.now n },
+    ghost placed: { (n : List ℕ) → value_of places n ≡ place_from 0 all.now n },
 }
 
 // Notes the place of a memory whose name has none yet.
 fn note_place(
-    places: &mut IndexMap<Name, usize>,
+    places: &mut BTreeMap<Name, usize>,
     memory: &ArrayItem,
     place: usize,
 ) -> Result<(), AllocError>
-    ensures { OnOk result ((n : List ℕ) → get bytes_eq places.new n ≡ option_or (get bytes_eq places.old n) (place_if_named place memory.now n)) }
+    ensures { OnOk result ((n : List ℕ) → value_of places.new n ≡ option_or (value_of places.old n) (place_if_named place memory.now n)) }
 {
     if places.get(&memory.name).is_some() {
         return Ok(());
     }
-    places.insert(memory.name.clone()?, place)?;
+    put_value(places, &memory.name, place)?;
     Ok(())
 }
 
 // The places of memories by their names.
-fn all_places(alloc: Global, memories: &[ArrayItem]) -> Result<IndexMap<Name, usize>, NoMemory>
-    ensures { IfOk result (λ places. (n : List ℕ) → get bytes_eq places n ≡ place_from 0 memories.now n) }
+fn all_places(alloc: Global, memories: &[ArrayItem]) -> Result<BTreeMap<Name, usize>, NoMemory>
+    ensures { IfOk result (λ places. (n : List ℕ) → value_of places n ≡ place_from 0 memories.now n) }
 {
-    let mut places = IndexMap::new(alloc);
+    let mut places = BTreeMap::new(alloc);
     for place in 0..memories.len() {
         note_place(&mut places, &memories[place], place)?;
     }

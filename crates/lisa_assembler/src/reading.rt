@@ -14,9 +14,9 @@ ghost use Rattle.lisa_assembler.specs.Sourced.{IsObjectOfBytes, IsFaultOfBytes};
 use crate::line::assemble_line;
 use crate::tools::Tools;
 use asm_source::{SourceFault, read_line, read_source};
-use indexmap::IndexSet;
 use lisa_object::Object;
 use std::alloc::Global;
+use std::collections::BTreeSet;
 use text_lines::next_line;
 
 // The first fault of a source in which a line has this one, and none before it: that of the first line that says nothing, if there is one.
@@ -44,7 +44,7 @@ pub fn assemble_bytes(
     ensures object { IfOk result (λ o. IsObjectOfBytes (description_tree tools.now.machine.now) bytes.now (object_tree o)) }
     ensures fault { IfErr result (λ f. (f ≡ faults.NoMemory) ⊎ IsFaultOfBytes (description_tree tools.now.machine.now) bytes.now f) }
 {
-    let mut seen = IndexSet::new(alloc);
+    let mut seen = BTreeSet::new(alloc);
     let mut own = Vec::new(alloc);
     let mut here = None;
     let mut number: u32 = 0;

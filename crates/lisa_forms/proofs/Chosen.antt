@@ -43,6 +43,14 @@ chosen_is_past d f k part (further {p = p} {x = x} {a = a} b s) y e =
 pub chosen_past : (d : DescriptionTree) (f : FormTree) (k : ℕ) (x : Occurrence) → Chooses d f k → slice_get (occurrences d) k ≡ Some x → x.past_root ≡ true
 chosen_past d f k x c e = chosen_is_past d f k c.0 c.1 x e
 
+-- ---- what is chosen has an activator
+
+pub chosen_has_parent : (d : DescriptionTree) (f : FormTree) (k : ℕ) (part : Option FormTree) → Stands d f k part → (y : Occurrence) → slice_get (occurrences d) k ≡ Some y → (p : ℕ) × (y.parent ≡ Some p)
+chosen_has_parent d f k part (whole {p = p} {x = x} {a = a} b inside past top) y e = (p, ap (λ (z : Occurrence). z.parent) (sym (the_same d k p x y a b e)) ∙ b.parent)
+chosen_has_parent d f k part (child {p = p} {x = x} {a = a} b s place is top) y e = (p, ap (λ (z : Occurrence). z.parent) (sym (the_same d k p x y a b.below e)) ∙ b.below.parent)
+chosen_has_parent d f k part (other {p = p} {x = x} {a = a} b s place) y e = (p, ap (λ (z : Occurrence). z.parent) (sym (the_same d k p x y a b.below e)) ∙ b.below.parent)
+chosen_has_parent d f k part (further {p = p} {x = x} {a = a} b s) y e = (p, ap (λ (z : Occurrence). z.parent) (sym (the_same d k p x y a b.below e)) ∙ b.below.parent)
+
 -- ---- one step along the activators
 
 matched_some : (f : FormTree) (o : ℕ) (part : Option FormTree) → matched f o ≡ Some part → (o ≡ operation_of f) × (part ≡ Some f)

@@ -58,7 +58,7 @@ module _ (d : DescriptionTree) where
   forms_level f are = forms_counted f.forms.items are.all_forms
 
   pub small : (f : Forms) (k : ℕ) → AreFormsOf d f → k < length f.forms.items → k < 2 ^ 32
-  small f k are h = let few = are.few in let l = forms_level f are in omega (arith, h, few, l)
+  small f k are h = let few = are.limits.few_forms in let l = forms_level f are in omega (arith, h, few, l)
 
   pub first_uncovered_is : (f : Forms) (ps : List BitPattern) (bs : List Bool) (r : Option ℕ) → AreFormsOf d f → ArePatterns d f.width ps → bs ≡ f.plain.items
       → ((width : ℕ) (frames : List Frame) → AllStand width frames ps → AnswersUncovered frames bs r) → AnswersUncovered (instruction_frames d) (instruction_plain d) r

@@ -1,21 +1,33 @@
 -- What is kept of a description's forms and occurrences.
-use Rattle.std.specs.Prelude.{◌≡◌, ◌≤◌}
+use Rattle.std.specs.Prelude.{◌≡◌, ℕ, Option}
 use Rattle.lisa_tree.specs.Descriptions.{DescriptionTree}
 use Rattle.coding_tables.specs.Instructions.{form_count}
 use Rattle.activation_trees.specs.Unfolding.{occurrences}
 use Rattle.description_sizes.specs.Sizes.{items}
+use Rattle.description_sizes.specs.Laws.{AreWithinLimits}
+use Rattle.lisa_machine.specs.Verdicts.{IsAccepted}
 use Rattle.instruction_forms.specs.Described.{AreForms}
 use Rattle.instruction_forms.specs.Widths.{HasWidth}
 use Rattle.form_patterns.specs.Instructions.{instruction_plain}
 use Rattle.lisa_forms.specs.declared.forms.Forms.{Forms}
 use Rattle.lisa_forms.specs.Ways.{AreWays}
+use Rattle.lisa_forms.specs.Verdicts.{HasForms}
 
--- these are the forms, occurrences and items of a description, and how each occurrence is activated
+-- each count of a description is within its limit
+pub record IsLimited (d : DescriptionTree) : Type 0 where
+  pub width : Option ℕ
+  pub has_width : HasWidth d width
+  pub limits : AreWithinLimits d width (form_count d)
+
+-- These are the forms, occurrences and items of an accepted description, and how each occurrence is activated. No condition on its
+-- codings, sizes and texts is broken.
 pub record AreFormsOf (d : DescriptionTree) (f : Forms) : Type 0 where
+  pub accepted : IsAccepted d
+  pub has_forms : HasForms d
   pub all_forms : AreForms d f.forms.items
   pub all_plain : f.plain.items ≡ instruction_plain d
   pub all_occurrences : f.occurrences.items ≡ occurrences d
   pub all_ways : AreWays d f.ways.items
   pub all_items : f.items.items ≡ items d f.width
   pub has_width : HasWidth d f.width
-  pub few : form_count d ≤ 1024
+  pub limits : AreWithinLimits d f.width (form_count d)

@@ -15,7 +15,7 @@ ghost use Rattle.instruction_forms.specs.Widths.{HasInstructionWidth, HasWidth};
 ghost use Rattle.form_texts.specs.Instructions.{first_bad_text};
 ghost use Rattle.lisa_machine.specs.Verdicts.{IsAccepted};
 ghost use Rattle.lisa_forms.specs.Parts.{AreFormsOf};
-ghost use Rattle.lisa_forms.specs.Verdicts.{form_name_at, from_texts, from_sizes, from_roots, from_writings, from_group_widths};
+ghost use Rattle.lisa_forms.specs.Verdicts.{HasForms, form_name_at, from_texts, from_sizes, from_roots, from_writings, from_group_widths};
 
 use crate::forms::Forms;
 use crate::ways::ways;
@@ -66,7 +66,8 @@ fn bad_text<N: Names>(alloc: Global, names: &N, forms: &[Form], number: usize) -
     }
 }
 
-// What is kept of a description whose sizes are within their limits.
+// What is kept of a description in which no condition is broken.
+#[tactic(auto, using(crate::proofs::Counts::limited))]
 fn kept<N: Names>(
     alloc: Global,
     names: &N,
@@ -74,6 +75,8 @@ fn kept<N: Names>(
     unfolded: Unfolded,
     forms: Vec<Form>,
 ) -> Result<Forms, NoMemory>
+    requires accepted { IsAccepted (N.tree names.now) }
+    requires whole { HasForms (N.tree names.now) }
     requires forms { AreForms (N.tree names.now) forms.items }
     requires width { HasWidth (N.tree names.now) width }
     requires unfolded { IsUnfolded (N.tree names.now) width (capped (form_count (N.tree names.now))) unfolded }
@@ -97,6 +100,8 @@ fn from_texts<N: Names>(
     width: Option<u32>,
     unfolded: Unfolded,
 ) -> Result<Forms, DescFault>
+    requires accepted { IsAccepted (N.tree names.now) }
+    requires before { from_texts (N.tree names.now) None → HasForms (N.tree names.now) }
     requires acyclic { IsFirstCircularOperation (N.tree names.now) None }
     requires wide { HasInstructionWidth (N.tree names.now) }
     requires width { HasWidth (N.tree names.now) width }
@@ -116,6 +121,8 @@ fn from_texts<N: Names>(
 }
 
 fn from_sizes<N: Names>(alloc: Global, names: &N, widths: &Widths) -> Result<Forms, DescFault>
+    requires accepted { IsAccepted (N.tree names.now) }
+    requires before { from_sizes (N.tree names.now) None → HasForms (N.tree names.now) }
     requires acyclic { IsFirstCircularOperation (N.tree names.now) None }
     requires widths { AreWidths (N.tree names.now) (entry widths.now) }
     requires wide { HasInstructionWidth (N.tree names.now) }
@@ -133,6 +140,7 @@ fn from_sizes<N: Names>(alloc: Global, names: &N, widths: &Widths) -> Result<For
 
 fn from_roots<N: Names>(alloc: Global, names: &N, widths: &Widths) -> Result<Forms, DescFault>
     requires accepted { IsAccepted (N.tree names.now) }
+    requires before { from_roots (N.tree names.now) None → HasForms (N.tree names.now) }
     requires widths { AreWidths (N.tree names.now) (entry widths.now) }
     requires even { IsFirstGroupWidth (N.tree names.now) None }
     ensures forms { IfOk result (AreFormsOf (N.tree names.now)) }
@@ -148,6 +156,7 @@ fn from_roots<N: Names>(alloc: Global, names: &N, widths: &Widths) -> Result<For
 
 fn from_writings<N: Names>(alloc: Global, names: &N, widths: &Widths) -> Result<Forms, DescFault>
     requires accepted { IsAccepted (N.tree names.now) }
+    requires before { from_writings (N.tree names.now) None → HasForms (N.tree names.now) }
     requires widths { AreWidths (N.tree names.now) (entry widths.now) }
     requires even { IsFirstGroupWidth (N.tree names.now) None }
     ensures forms { IfOk result (AreFormsOf (N.tree names.now)) }

@@ -12,6 +12,9 @@ ghost use Rattle.instruction_forms.specs.Trees.{FormTree};
 ghost use Rattle.activation_trees.specs.declared.parts.Occurrence.{Occurrence};
 ghost use Rattle.activation_trees.specs.Unfolding.{occurrences};
 ghost use Rattle.lisa_forms.specs.Choosing.{Chooses};
+ghost use Rattle.lisa_forms.specs.declared.forms.Forms.{Forms};
+ghost use Rattle.lisa_forms.specs.Parts.{AreFormsOf, IsLimited};
+ghost use Rattle.lisa_forms.specs.Verdicts.{HasForms};
 
 /// A form chooses nothing that isn't past the root.
 pub fn what_is_chosen_is_past_the_root()
@@ -22,4 +25,12 @@ pub fn what_is_chosen_is_past_the_root()
 pub fn instructions_are_of_one_form()
     ensures some { (d : DescriptionTree) (t : Tree ℕ) → IsAccepted d → Fits IsBelow (coding_table d) t (instruction_items d) → (k : ℕ) × IsInstruction d k (values t) t }
     ensures one { (d : DescriptionTree) (j k : ℕ) (vs ws : List ℕ) (t : Tree ℕ) → IsAccepted d → IsInstruction d j vs t → IsInstruction d k ws t → (j ≡ k) × (vs ≡ ws) }
+{}
+
+/// Forms are those of an accepted description in which no condition on codings, sizes and texts is broken. Each of its counts is within its
+/// limit: it has at most 8 stages, 1,024 forms, 4,096 occurrences, 8,192 items, and so on.
+pub fn forms_are_limited()
+    ensures accepted { (d : DescriptionTree) (f : Forms) → AreFormsOf d f → IsAccepted d }
+    ensures whole { (d : DescriptionTree) (f : Forms) → AreFormsOf d f → HasForms d }
+    ensures limited { (d : DescriptionTree) (f : Forms) → AreFormsOf d f → IsLimited d }
 {}

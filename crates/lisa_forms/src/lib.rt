@@ -22,6 +22,6 @@ pub use coding::Coding;
 pub use decoding::{overlaps_are_of_trees, words_are_decoded};
 pub use forms::Forms;
 pub use instruction_forms::{Field, Form};
-pub use laws::{instructions_are_of_one_form, what_is_chosen_is_past_the_root};
+pub use laws::{forms_are_limited, instructions_are_of_one_form, what_is_chosen_is_past_the_root};
 pub use making::form_name;
 pub use pattern_tables::{PatternTable, Steps};

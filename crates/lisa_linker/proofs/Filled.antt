@@ -8,7 +8,7 @@ use Rattle.std.proofs.lemmas.List.{length-append, append-nil}
 use Rattle.lisa_object.specs.declared.rules.Standing.{Standing}
 use Rattle.lisa_object.specs.declared.faults.LinkFault.{LinkFault}
 use Rattle.lisa_object.specs.declared.faults.LinkFault.TheVariants as faults
-use Rattle.indexmap.specs.IndexMap.{get}
+use Rattle.name_tables.specs.TableViews.{value_of}
 use Rattle.lisa_object.specs.Objects.{PlainObjectLine}
 use Rattle.lisa_object.specs.ObjectRules.{after, start, are_lines}
 use Rattle.placed_programs.specs.Entries.{entries_of}
@@ -88,13 +88,13 @@ ranges_all number symbols old all cells here a = sym a.ranges
 
 -- ---- symbols
 
-pub symbols_are : (own others : ByName ℤ) (ds shared : List (List ℕ × ℤ)) → ((n : List ℕ) → get bytes_eq own n ≡ lookup (bytes_eq n) ds) → ((n : List ℕ) → get bytes_eq others n ≡ lookup (bytes_eq n) shared)
+pub symbols_are : (own others : ByName ℤ) (ds shared : List (List ℕ × ℤ)) → ((n : List ℕ) → value_of own n ≡ lookup (bytes_eq n) ds) → ((n : List ℕ) → value_of others n ≡ lookup (bytes_eq n) shared)
     → symbols_in own others ≡ symbol ds shared
 symbols_are own others ds shared a b = λ i n. option_or (a n i) (b n i)
 
 module _ (number : ℕ) (own others : ByName ℤ) (shared : List (List ℕ × ℤ)) (counts : Counts) (old new : Table) (es : Entries)
     (counted : (m : List ℕ) → counts m ≡ sizes old m)
-    (is_own : (n : List ℕ) → get bytes_eq own n ≡ lookup (bytes_eq n) (definitions counts None es)) (is_shared : (n : List ℕ) → get bytes_eq others n ≡ lookup (bytes_eq n) shared) where
+    (is_own : (n : List ℕ) → value_of own n ≡ lookup (bytes_eq n) (definitions counts None es)) (is_shared : (n : List ℕ) → value_of others n ≡ lookup (bytes_eq n) shared) where
   same : symbols_in own others ≡ symbol (definitions counts None es) shared
   same = symbols_are own others (definitions counts None es) shared is_own is_shared
 

@@ -7,3 +7,4 @@ pub mod Within
 pub mod Images
 pub mod Shorts
 pub mod Linked
+pub mod Appended

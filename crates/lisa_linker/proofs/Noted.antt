@@ -5,7 +5,7 @@ use Rattle.std.specs.Map.{lookup}
 use Rattle.std.specs.Option.{option_or, IfSome}
 use Rattle.std.specs.Str.{bytes_eq}
 use Rattle.std.proofs.lemmas.List.Elements.{filter-append, All-head, All-tail}
-use Rattle.indexmap.specs.IndexMap.{get}
+use Rattle.name_tables.specs.TableViews.{value_of}
 use Rattle.asm_source.specs.Numbers.{IsShort}
 use Rattle.lisa_object.specs.declared.rules.Standing.{Standing}
 use Rattle.lisa_object.specs.Objects.{PlainObjectLine}
@@ -66,15 +66,15 @@ pub record AreNoted (wanted : Option NameSet) (first : Counts) (old : ByName ℤ
   pub lines : are_lines standing left ≡ true
   pub short : AreShort values
   pub counted : (m : List ℕ) → counts_after (count_of counts) here (entries_of left) m ≡ counts_after first None (entries_of all) m
-  pub noted : (n : List ℕ) → option_or (get bytes_eq values n) (wanted_value wanted n (definitions (count_of counts) here (entries_of left)))
-      ≡ option_or (get bytes_eq old n) (wanted_value wanted n (definitions first None (entries_of all)))
+  pub noted : (n : List ℕ) → option_or (value_of values n) (wanted_value wanted n (definitions (count_of counts) here (entries_of left)))
+      ≡ option_or (value_of old n) (wanted_value wanted n (definitions first None (entries_of all)))
 
 pub noted_on : (wanted : Option NameSet) (first : Counts) (old : ByName ℤ) (all : List PlainObjectLine)
     (counts next_counts : ByName ℕ) (values next_values : ByName ℤ) (here next : Option (List ℕ)) (l : PlainObjectLine) (ls : List PlainObjectLine)
     → AreNoted wanted first old all counts values here (l ∷ ls)
     → ((st : Standing) → IsTrue (may_follow st l) → All (λ d. IsShort 1 d.1) (line_defines (count_of counts) here l))
     → ((m : List ℕ) → count_of next_counts m ≡ adding here (line_size l) (count_of counts) m)
-    → ((n : List ℕ) → get bytes_eq next_values n ≡ option_or (get bytes_eq values n) (wanted_value wanted n (line_defines (count_of counts) here l)))
+    → ((n : List ℕ) → value_of next_values n ≡ option_or (value_of values n) (wanted_value wanted n (line_defines (count_of counts) here l)))
     → next ≡ line_enters here l
     → AreNoted wanted first old all next_counts next_values next ls
 noted_on wanted first old all counts next_counts values next_values here next l ls a short counted noted enters =
@@ -88,18 +88,18 @@ noted_on wanted first old all counts next_counts values next_values here next l 
       standing = after a.standing l;
       lines = f.rest;
       short = λ n. let P : Option ℤ → Type 0 = λ v. IfSome v (IsShort 1) in
-          subst P (sym (noted n)) (short_or (get bytes_eq values n) (wanted_value wanted n own) (a.short n) (short_value wanted n own (short a.standing f.may)));
+          subst P (sym (noted n)) (short_or (value_of values n) (wanted_value wanted n own) (a.short n) (short_value wanted n own (short a.standing f.may)));
       counted = λ m.
           ap (λ (c : Counts). counts_after c next (entries_of ls) m) same
           ∙ ap (λ (h : Option (List ℕ)). counts_after (adding here (line_size l) (count_of counts)) h (entries_of ls) m) enters
           ∙ sym (ap (λ (c : Counts). c m) (counts_line (count_of counts) here l ls))
           ∙ a.counted m;
       noted = λ n.
-          ap (λ (ds : Defined). option_or (get bytes_eq next_values n) (wanted_value wanted n ds)) is_behind
+          ap (λ (ds : Defined). option_or (value_of next_values n) (wanted_value wanted n ds)) is_behind
           ∙ ap (λ (v : Option ℤ). option_or v (wanted_value wanted n behind)) (noted n)
-          ∙ or_assoc (get bytes_eq values n) (wanted_value wanted n own) (wanted_value wanted n behind)
-          ∙ ap (λ (v : Option ℤ). option_or (get bytes_eq values n) v) (sym (wanted-append wanted n own behind))
-          ∙ ap (λ (ds : Defined). option_or (get bytes_eq values n) (wanted_value wanted n ds)) (sym (defines_line (count_of counts) here l ls))
+          ∙ or_assoc (value_of values n) (wanted_value wanted n own) (wanted_value wanted n behind)
+          ∙ ap (λ (v : Option ℤ). option_or (value_of values n) v) (sym (wanted-append wanted n own behind))
+          ∙ ap (λ (ds : Defined). option_or (value_of values n) (wanted_value wanted n ds)) (sym (defines_line (count_of counts) here l ls))
           ∙ a.noted n;
     }
 
@@ -121,10 +121,10 @@ shared_wanted set test n ds same = ap (λ (t : List ℕ → Bool). lookup (bytes
 -- what is noted of the parts before those that are left
 pub record AreShared (all : List Entries) (counts : ByName ℕ) (values : ByName ℤ) (left : List Entries) : Type 0 where
   pub short : AreShort values
-  pub noted : (n : List ℕ) → option_or (get bytes_eq values n) (lookup (bytes_eq n) (all_exports (with_counts (count_of counts) left)))
+  pub noted : (n : List ℕ) → option_or (value_of values n) (lookup (bytes_eq n) (all_exports (with_counts (count_of counts) left)))
       ≡ lookup (bytes_eq n) (all_exports (with_counts no_cells all))
 
-pub shared_first : (all : List Entries) (counts : ByName ℕ) (values : ByName ℤ) → ((m : List ℕ) → count_of counts m ≡ 0) → ((n : List ℕ) → get bytes_eq values n ≡ None) → AreShared all counts values all
+pub shared_first : (all : List Entries) (counts : ByName ℕ) (values : ByName ℤ) → ((m : List ℕ) → count_of counts m ≡ 0) → ((n : List ℕ) → value_of values n ≡ None) → AreShared all counts values all
 shared_first all counts values zero none =
     let same : count_of counts ≡ no_cells = λ i m. zero m i in
     record {
@@ -136,7 +136,7 @@ shared_first all counts values zero none =
 
 pub shared_on : (all : List Entries) (counts next_counts : ByName ℕ) (values next_values : ByName ℤ) (es : Entries) (left : List Entries) → AreShared all counts values (es ∷ left)
     → AreShort next_values → ((m : List ℕ) → count_of next_counts m ≡ counts_after (count_of counts) None es m)
-    → ((n : List ℕ) → get bytes_eq next_values n ≡ option_or (get bytes_eq values n) (lookup (bytes_eq n) (exports (count_of counts) es))) → AreShared all next_counts next_values left
+    → ((n : List ℕ) → value_of next_values n ≡ option_or (value_of values n) (lookup (bytes_eq n) (exports (count_of counts) es))) → AreShared all next_counts next_values left
 shared_on all counts next_counts values next_values es left a short counted noted =
     let same : count_of next_counts ≡ counts_after (count_of counts) None es = λ i m. counted m i in
     let own : Defined = exports (count_of counts) es in
@@ -144,9 +144,9 @@ shared_on all counts next_counts values next_values es left a short counted note
     record {
       short = short;
       noted = λ n.
-          ap (λ (c : Counts). option_or (get bytes_eq next_values n) (lookup (bytes_eq n) (rest c))) same
+          ap (λ (c : Counts). option_or (value_of next_values n) (lookup (bytes_eq n) (rest c))) same
           ∙ ap (λ (v : Option ℤ). option_or v (lookup (bytes_eq n) (rest (counts_after (count_of counts) None es)))) (noted n)
-          ∙ or_assoc (get bytes_eq values n) (lookup (bytes_eq n) own) (lookup (bytes_eq n) (rest (counts_after (count_of counts) None es)))
-          ∙ ap (λ (v : Option ℤ). option_or (get bytes_eq values n) v) (sym (lookup-append (bytes_eq n) own (rest (counts_after (count_of counts) None es))))
+          ∙ or_assoc (value_of values n) (lookup (bytes_eq n) own) (lookup (bytes_eq n) (rest (counts_after (count_of counts) None es)))
+          ∙ ap (λ (v : Option ℤ). option_or (value_of values n) v) (sym (lookup-append (bytes_eq n) own (rest (counts_after (count_of counts) None es))))
           ∙ a.noted n;
     }

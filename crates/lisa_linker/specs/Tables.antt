@@ -3,12 +3,9 @@ use Rattle.std.specs.Prelude.{ℕ, ℤ, Bool, true, false, List, [], ◌++◌, O
 use Rattle.std.specs.Global.{Global}
 use Rattle.std.specs.Option.{option_or, IfSome}
 use Rattle.std.specs.Str.{bytes_eq}
-use Rattle.std.specs.HashMap.{HashMap}
-use Rattle.std.specs.HashSet.{HashSet}
-use Rattle.std.specs.declared.hash.FoldHasher.{FoldHasher}
-use Rattle.std.specs.declared.hash.BuildHasherDefault.{BuildHasherDefault}
-use Rattle.indexmap.specs.IndexMap.{get}
-use Rattle.indexmap.specs.IndexSet.{contains}
+use Rattle.std.specs.BTreeMap.{BTreeMap}
+use Rattle.std.specs.BTreeSet.{BTreeSet}
+use Rattle.name_tables.specs.TableViews.{has_name, value_of}
 use Rattle.asm_source.specs.Numbers.{IsShort}
 use Rattle.lisa_engine.specs.Memory.{Memory}
 use Rattle.lisa_engine.specs.declared.parts.ArrayItem.{ArrayItem}
@@ -17,20 +14,20 @@ use Rattle.placed_programs.specs.Addresses.{Counts}
 use Rattle.placed_programs.specs.Symbols.{Symbols}
 
 abbrev pub ByName : Type 0 → Type 0
-ByName V = HashMap (List ℕ) V (BuildHasherDefault FoldHasher)
+ByName V = BTreeMap (List ℕ) V
 
 abbrev pub NameSet : Type 0
-NameSet = HashSet (List ℕ) (BuildHasherDefault FoldHasher)
+NameSet = BTreeSet (List ℕ)
 
 -- ---- values of names
 
 -- what a name means by the values of its own object and those of the others
 abbrev pub symbols_in : (own others : ByName ℤ) → Symbols
-symbols_in own others name = option_or (get bytes_eq own name) (get bytes_eq others name)
+symbols_in own others name = option_or (value_of own name) (value_of others name)
 
 -- each value has a size below 2 ^ 64
 abbrev pub AreShort : ByName ℤ → Type 0
-AreShort values = (name : List ℕ) → IfSome (get bytes_eq values name) (IsShort 1)
+AreShort values = (name : List ℕ) → IfSome (value_of values name) (IsShort 1)
 
 -- what a name means by an object's values and those of the others
 abbrev pub symbols_of : Values → Symbols
@@ -43,7 +40,7 @@ pub record HasShort (values : Values) : Type 0 where
 -- a name is one of these, where there are some
 abbrev pub is_wanted : Option NameSet → List ℕ → Bool
 is_wanted None name = true
-is_wanted (Some names) name = contains bytes_eq names name
+is_wanted (Some names) name = has_name names name
 
 -- ---- cells of memories
 
@@ -53,7 +50,7 @@ cells_or_none (Some v) = v.items
 
 -- the cells of the memory of this name
 abbrev pub cells_of : ByName (Vec ℕ Global) → List ℕ → List ℕ
-cells_of cells memory = cells_or_none (get bytes_eq cells memory)
+cells_of cells memory = cells_or_none (value_of cells memory)
 
 -- how many cells each memory has
 abbrev pub sizes_of : ByName (Vec ℕ Global) → Counts

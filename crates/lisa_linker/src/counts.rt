@@ -8,13 +8,14 @@ ghost use Rattle.lisa_object.specs.Objects.{object_line_tree};
 ghost use Rattle.placed_programs.specs.Addresses.{address, adding};
 ghost use Rattle.object_links.specs.LineSizes.{line_size, count_of};
 
-use indexmap::IndexMap;
 use lisa_object::ObjectLine;
 use lisa_words::{Name, NoMemory};
+use name_tables::put_value;
 use object_links::{count_of, line_size};
+use std::collections::BTreeMap;
 
 /// The address of the next cell.
-pub(crate) fn address(counts: &IndexMap<Name, u64>, here: Option<&Name>) -> u64
+pub(crate) fn address(counts: &BTreeMap<Name, u64>, here: Option<&Name>) -> u64
     ensures { result ≡ address (option_copied here.entry) (count_of counts.now) }
 {
     match here {
@@ -24,19 +25,19 @@ pub(crate) fn address(counts: &IndexMap<Name, u64>, here: Option<&Name>) -> u64
 }
 
 // Counts cells of a memory. More than 2^64 of them need memory that isn't there.
-fn add_cells(counts: &mut IndexMap<Name, u64>, name: &Name, size: u64) -> Result<(), NoMemory>
+fn add_cells(counts: &mut BTreeMap<Name, u64>, name: &Name, size: u64) -> Result<(), NoMemory>
     ensures { OnOk result ((m : List ℕ) → count_of counts.new m ≡ (if bytes_eq m name.now then count_of counts.old name.now + size else count_of counts.old m)) }
 {
     let Some(count) = count_of(counts, name).checked_add(size) else {
         return Err(NoMemory);
     };
-    counts.insert(name.clone()?, count)?;
+    put_value(counts, name, count)?;
     Ok(())
 }
 
 /// Counts the cells of a line.
 pub(crate) fn add_line(
-    counts: &mut IndexMap<Name, u64>,
+    counts: &mut BTreeMap<Name, u64>,
     here: Option<&Name>,
     line: &ObjectLine,
 ) -> Result<(), NoMemory>

@@ -4,7 +4,7 @@
 ghost use Rattle.std.specs.Prelude.{◌≡◌, ◌⊎◌, ◌+◌, ◌<◌, ◌≤◌, ◌^◌, ◌++◌, ◌∷◌, [], List, ℕ, ℤ, All, None, Some, map, length, flat_map, IfOk, IfErr, OnOk, MatchOption, IsTrue, false, option_copied};
 ghost use Rattle.std.specs.Map.{lookup};
 ghost use Rattle.std.specs.Str.{bytes_eq};
-ghost use Rattle.indexmap.specs.IndexMap.{get};
+ghost use Rattle.name_tables.specs.TableViews.{value_of};
 ghost use Rattle.lisa_object.specs.declared.faults.LinkFault.TheVariants as faults;
 ghost use Rattle.lisa_object.specs.Objects.{Cell, object_line_tree, object_tree};
 ghost use Rattle.lisa_object.specs.ObjectRules.{start, are_lines, IsObject};
@@ -23,18 +23,18 @@ use crate::cells::{cell_count, push_cell, push_zeros};
 use crate::fixes::{cell_value, range_fault};
 use crate::sums::Values;
 use crate::values::{line_values, shared_values};
-use indexmap::IndexMap;
 use lisa_object::{LinkFault, Object, ObjectLine};
 use lisa_words::{Name, NoMemory};
 use object_links::line_enters;
 use std::alloc::Global;
+use std::collections::BTreeMap;
 
 // Adds the cell with these bits and the fixes at the front of the lines to a memory.
 fn add_cell(
     alloc: Global,
     number: u32,
     values: Values<'_>,
-    cells: &mut IndexMap<Name, Vec<u64>>,
+    cells: &mut BTreeMap<Name, Vec<u64>>,
     memory: &Name,
     bits: u64,
     lines: &[ObjectLine],
@@ -58,7 +58,7 @@ fn fill_line(
     alloc: Global,
     number: u32,
     values: Values<'_>,
-    cells: &mut IndexMap<Name, Vec<u64>>,
+    cells: &mut BTreeMap<Name, Vec<u64>>,
     memory: &Name,
     line: &ObjectLine,
     lines: &[ObjectLine],
@@ -84,7 +84,7 @@ fn fill_here(
     alloc: Global,
     number: u32,
     values: Values<'_>,
-    cells: &mut IndexMap<Name, Vec<u64>>,
+    cells: &mut BTreeMap<Name, Vec<u64>>,
     here: Option<&Name>,
     line: &ObjectLine,
     lines: &[ObjectLine],
@@ -117,7 +117,7 @@ fn fill_lines(
     alloc: Global,
     number: u32,
     values: Values<'_>,
-    cells: &mut IndexMap<Name, Vec<u64>>,
+    cells: &mut BTreeMap<Name, Vec<u64>>,
     lines: &[ObjectLine],
 ) -> Result<(), LinkFault>
     requires short { HasShort values }
@@ -141,9 +141,9 @@ fn fill_lines(
 fn fill_part(
     alloc: Global,
     number: u32,
-    others: &IndexMap<Name, i128>,
-    counts: &mut IndexMap<Name, u64>,
-    cells: &mut IndexMap<Name, Vec<u64>>,
+    others: &BTreeMap<Name, i128>,
+    counts: &mut BTreeMap<Name, u64>,
+    cells: &mut BTreeMap<Name, Vec<u64>>,
     lines: &[ObjectLine],
 ) -> Result<(), LinkFault>
     requires others { AreShort others.now }
@@ -151,11 +151,11 @@ fn fill_part(
     requires counted { (m : List ℕ) → count_of counts.old m ≡ sizes_of cells.old m }
     ensures counted { OnOk result ((m : List ℕ) → count_of counts.new m ≡ counts_after (count_of counts.old) None (entries_of (map object_line_tree lines.now)) m) }
     ensures sized { OnOk result ((m : List ℕ) → count_of counts.new m ≡ sizes_of cells.new m) }
-    ensures added { (shared : List (List ℕ × ℤ)) → ((n : List ℕ) → get bytes_eq others.now n ≡ lookup (bytes_eq n) shared)
+    ensures added { (shared : List (List ℕ × ℤ)) → ((n : List ℕ) → value_of others.now n ≡ lookup (bytes_eq n) shared)
         → OnOk result ((m : List ℕ) → cells_of cells.new m ≡ cells_of cells.old m ++ part_cells object_sense shared m (count_of counts.old, entries_of (map object_line_tree lines.now))) }
-    ensures fits { (shared : List (List ℕ × ℤ)) → ((n : List ℕ) → get bytes_eq others.now n ≡ lookup (bytes_eq n) shared)
+    ensures fits { (shared : List (List ℕ × ℤ)) → ((n : List ℕ) → value_of others.now n ≡ lookup (bytes_eq n) shared)
         → OnOk result (part_fault number shared (count_of counts.old, entries_of (map object_line_tree lines.now)) ≡ None) }
-    ensures fault { (shared : List (List ℕ × ℤ)) → ((n : List ℕ) → get bytes_eq others.now n ≡ lookup (bytes_eq n) shared)
+    ensures fault { (shared : List (List ℕ × ℤ)) → ((n : List ℕ) → value_of others.now n ≡ lookup (bytes_eq n) shared)
         → IfErr result (λ f. (f ≡ faults.NoMemory) ⊎ (part_fault number shared (count_of counts.old, entries_of (map object_line_tree lines.now)) ≡ Some f)) }
 {
     let Ok(own) = line_values(alloc, counts, lines) else {
@@ -170,9 +170,9 @@ fn fill_part(
 fn fill_object(
     alloc: Global,
     number: u32,
-    others: &IndexMap<Name, i128>,
-    counts: &mut IndexMap<Name, u64>,
-    cells: &mut IndexMap<Name, Vec<u64>>,
+    others: &BTreeMap<Name, i128>,
+    counts: &mut BTreeMap<Name, u64>,
+    cells: &mut BTreeMap<Name, Vec<u64>>,
     object: &Object,
 ) -> Result<(), LinkFault>
     requires others { AreShort others.now }
@@ -180,11 +180,11 @@ fn fill_object(
     requires counted { (m : List ℕ) → count_of counts.old m ≡ sizes_of cells.old m }
     ensures counted { OnOk result ((m : List ℕ) → count_of counts.new m ≡ counts_after (count_of counts.old) None (entries_of (object_tree object.now).lines) m) }
     ensures sized { OnOk result ((m : List ℕ) → count_of counts.new m ≡ sizes_of cells.new m) }
-    ensures added { (shared : List (List ℕ × ℤ)) → ((n : List ℕ) → get bytes_eq others.now n ≡ lookup (bytes_eq n) shared)
+    ensures added { (shared : List (List ℕ × ℤ)) → ((n : List ℕ) → value_of others.now n ≡ lookup (bytes_eq n) shared)
         → OnOk result ((m : List ℕ) → cells_of cells.new m ≡ cells_of cells.old m ++ part_cells object_sense shared m (count_of counts.old, entries_of (object_tree object.now).lines)) }
-    ensures fits { (shared : List (List ℕ × ℤ)) → ((n : List ℕ) → get bytes_eq others.now n ≡ lookup (bytes_eq n) shared)
+    ensures fits { (shared : List (List ℕ × ℤ)) → ((n : List ℕ) → value_of others.now n ≡ lookup (bytes_eq n) shared)
         → OnOk result (part_fault number shared (count_of counts.old, entries_of (object_tree object.now).lines) ≡ None) }
-    ensures fault { (shared : List (List ℕ × ℤ)) → ((n : List ℕ) → get bytes_eq others.now n ≡ lookup (bytes_eq n) shared)
+    ensures fault { (shared : List (List ℕ × ℤ)) → ((n : List ℕ) → value_of others.now n ≡ lookup (bytes_eq n) shared)
         → IfErr result (λ f. (f ≡ faults.NoMemory) ⊎ (part_fault number shared (count_of counts.old, entries_of (object_tree object.now).lines) ≡ Some f)) }
 {
     fill_part(alloc, number, others, counts, cells, &object.lines)
@@ -193,21 +193,21 @@ fn fill_object(
 // Adds the cells of all objects to their memories.
 fn fill_all(
     alloc: Global,
-    others: &IndexMap<Name, i128>,
+    others: &BTreeMap<Name, i128>,
     objects: &[Object],
-) -> Result<IndexMap<Name, Vec<u64>>, LinkFault>
+) -> Result<BTreeMap<Name, Vec<u64>>, LinkFault>
     requires others { AreShort others.now }
     requires objects { All (λ o. IsObject (object_tree o)) objects.now }
     requires few { length objects.now < 2 ^ 32 }
-    ensures added { (shared : List (List ℕ × ℤ)) → ((n : List ℕ) → get bytes_eq others.now n ≡ lookup (bytes_eq n) shared)
+    ensures added { (shared : List (List ℕ × ℤ)) → ((n : List ℕ) → value_of others.now n ≡ lookup (bytes_eq n) shared)
         → IfOk result (λ cells. (m : List ℕ) → cells_of cells m ≡ flat_map (part_cells object_sense shared m) (with_counts no_cells (parts_of (map object_tree objects.now)))) }
-    ensures fits { (shared : List (List ℕ × ℤ)) → ((n : List ℕ) → get bytes_eq others.now n ≡ lookup (bytes_eq n) shared)
+    ensures fits { (shared : List (List ℕ × ℤ)) → ((n : List ℕ) → value_of others.now n ≡ lookup (bytes_eq n) shared)
         → OnOk result (range_from 1 shared (with_counts no_cells (parts_of (map object_tree objects.now))) ≡ None) }
-    ensures fault { (shared : List (List ℕ × ℤ)) → ((n : List ℕ) → get bytes_eq others.now n ≡ lookup (bytes_eq n) shared)
+    ensures fault { (shared : List (List ℕ × ℤ)) → ((n : List ℕ) → value_of others.now n ≡ lookup (bytes_eq n) shared)
         → IfErr result (λ f. (f ≡ faults.NoMemory) ⊎ (range_from 1 shared (with_counts no_cells (parts_of (map object_tree objects.now))) ≡ Some f)) }
 {
-    let mut counts = IndexMap::new(alloc);
-    let mut cells = IndexMap::new(alloc);
+    let mut counts = BTreeMap::new(alloc);
+    let mut cells = BTreeMap::new(alloc);
     let mut number = 0;
     'each: for object in objects {
         number += 1;
@@ -220,7 +220,7 @@ fn fill_all(
 pub(crate) fn fill_objects(
     alloc: Global,
     objects: &[Object],
-) -> Result<IndexMap<Name, Vec<u64>>, LinkFault>
+) -> Result<BTreeMap<Name, Vec<u64>>, LinkFault>
     requires objects { All (λ o. IsObject (object_tree o)) objects.now }
     requires few { length objects.now < 2 ^ 32 }
     ensures added { IfOk result (λ cells. (m : List ℕ) → cells_of cells m ≡ all_cells (parts_of (map object_tree objects.now)) m) }

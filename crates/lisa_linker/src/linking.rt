@@ -15,16 +15,16 @@ ghost use Rattle.lisa_linker.specs.Memories.{AreMemories};
 ghost use Rattle.lisa_linker.specs.Tables.{cells_of, filled_with};
 
 use crate::filling::fill_objects;
-use indexmap::IndexMap;
 use lisa_engine::{ArrayItem, Image, ImageMemory};
 use lisa_object::{LinkFault, Object};
 use lisa_words::{Name, NoMemory};
 use object_links::fault_before_values;
 use std::alloc::Global;
+use std::collections::BTreeMap;
 
 // The memory with its cells, where it has some.
 fn filled_memory(
-    cells: &IndexMap<Name, Vec<u64>>,
+    cells: &BTreeMap<Name, Vec<u64>>,
     memory: &ArrayItem,
 ) -> Result<Option<ImageMemory>, NoMemory>
     ensures { IfOk result (λ found. option_to_list found ≡ filter (λ m. is_some_cell m.cells) (record { name = memory.now.name; width = memory.now.width; depth = memory.now.depth; cells = cells_of cells.now memory.now.name } ∷ [])) }
@@ -46,7 +46,7 @@ fn filled_memory(
 // Adds a memory with its cells, where it has some.
 fn push_filled(
     filled: &mut Vec<ImageMemory>,
-    cells: &IndexMap<Name, Vec<u64>>,
+    cells: &BTreeMap<Name, Vec<u64>>,
     memory: &ArrayItem,
 ) -> Result<(), NoMemory>
     ensures { OnOk result (filled.new.items ≡ filled.old.items ++ filter (λ m. is_some_cell m.cells) (filled_with (cells_of cells.now) memory.now ∷ [])) }
@@ -61,7 +61,7 @@ fn push_filled(
 #[tactic(auto, using(object_links::proofs::Steps::one_memory, crate::proofs::Linked::kept_added))]
 fn filled_memories(
     alloc: Global,
-    cells: &IndexMap<Name, Vec<u64>>,
+    cells: &BTreeMap<Name, Vec<u64>>,
     memories: &[ArrayItem],
 ) -> Result<Image, NoMemory>
     ensures { IfOk result (λ image. image ≡ filter (λ m. is_some_cell m.cells) (map (filled_with (cells_of cells.now)) memories.now)) }

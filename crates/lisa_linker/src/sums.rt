@@ -7,14 +7,14 @@ ghost use Rattle.placed_programs.specs.Symbols.{named_value, term_value, sum_val
 ghost use Rattle.lisa_linker.specs.Tables.{HasShort, symbols_of};
 
 use asm_source::{Sum, Term};
-use indexmap::IndexMap;
 use lisa_words::Name;
+use std::collections::BTreeMap;
 
 /// The values of names: those of an object's own, and those of the others.
 #[derive(Clone, Copy)]
 pub(crate) struct Values<'a> {
-    pub(crate) own: &'a IndexMap<Name, i128>,
-    pub(crate) others: &'a IndexMap<Name, i128>,
+    pub(crate) own: &'a BTreeMap<Name, i128>,
+    pub(crate) others: &'a BTreeMap<Name, i128>,
 }
 
 // The value of a name, or of the cell's own address.

@@ -5,7 +5,7 @@ ghost use Rattle.std.specs.Prelude.{◌≡◌, ◌+◌, ◌∷◌, [], List, ℕ
 ghost use Rattle.std.specs.Map.{lookup};
 ghost use Rattle.std.specs.Option.{option_or};
 ghost use Rattle.std.specs.Str.{bytes_eq};
-ghost use Rattle.indexmap.specs.IndexMap.{get};
+ghost use Rattle.name_tables.specs.TableViews.{value_of};
 ghost use Rattle.asm_source.specs.Numbers.{IsShort};
 ghost use Rattle.lisa_object.specs.Objects.{object_line_tree, object_tree};
 ghost use Rattle.lisa_object.specs.ObjectRules.{may_follow, start, are_lines, IsObject};
@@ -19,15 +19,16 @@ ghost use Rattle.lisa_linker.specs.LineValues.{line_defines};
 ghost use Rattle.lisa_linker.specs.Tables.{AreShort, is_wanted};
 
 use crate::counts::{add_line, address};
-use indexmap::{IndexMap, IndexSet};
 use lisa_object::{Object, ObjectLine};
 use lisa_words::{Name, NoMemory};
+use name_tables::put_value;
 use object_links::{line_enters, shared_names};
 use std::alloc::{AllocError, Global};
+use std::collections::{BTreeMap, BTreeSet};
 
 // The name that a line defines, with its value.
 fn defined_value<'a>(
-    counts: &IndexMap<Name, u64>,
+    counts: &BTreeMap<Name, u64>,
     here: Option<&Name>,
     line: &'a ObjectLine,
 ) -> Option<(&'a Name, i128)>
@@ -42,17 +43,17 @@ fn defined_value<'a>(
 }
 
 // Notes the value of a name that has none yet.
-fn note_value(values: &mut IndexMap<Name, i128>, name: &Name, value: i128) -> Result<(), AllocError>
-    ensures noted { OnOk result ((n : List ℕ) → get bytes_eq values.new n ≡ option_or (get bytes_eq values.old n) (lookup (bytes_eq n) ((name.now, value) ∷ []))) }
+fn note_value(values: &mut BTreeMap<Name, i128>, name: &Name, value: i128) -> Result<(), AllocError>
+    ensures noted { OnOk result ((n : List ℕ) → value_of values.new n ≡ option_or (value_of values.old n) (lookup (bytes_eq n) ((name.now, value) ∷ []))) }
 {
     if values.get(name).is_some() {
         return Ok(());
     }
-    values.insert(name.clone()?, value)?;
+    put_value(values, name, value)?;
     Ok(())
 }
 
-fn is_wanted(wanted: Option<&IndexSet<Name>>, name: &Name) -> bool
+fn is_wanted(wanted: Option<&BTreeSet<Name>>, name: &Name) -> bool
     ensures { result ≡ is_wanted (option_copied wanted.entry) name.now }
 {
     match wanted {
@@ -63,12 +64,12 @@ fn is_wanted(wanted: Option<&IndexSet<Name>>, name: &Name) -> bool
 
 // Notes the value of a name, where it is wanted.
 fn note_wanted(
-    wanted: Option<&IndexSet<Name>>,
-    values: &mut IndexMap<Name, i128>,
+    wanted: Option<&BTreeSet<Name>>,
+    values: &mut BTreeMap<Name, i128>,
     defined: Option<(&Name, i128)>,
 ) -> Result<(), AllocError>
-    ensures noted { OnOk result ((n : List ℕ) → get bytes_eq values.new n
-        ≡ option_or (get bytes_eq values.old n) (lookup (bytes_eq n) (filter (λ d. is_wanted (option_copied wanted.entry) d.0) (option_to_list (option_map (λ d. (d.0.now, d.1)) defined.entry))))) }
+    ensures noted { OnOk result ((n : List ℕ) → value_of values.new n
+        ≡ option_or (value_of values.old n) (lookup (bytes_eq n) (filter (λ d. is_wanted (option_copied wanted.entry) d.0) (option_to_list (option_map (λ d. (d.0.now, d.1)) defined.entry))))) }
 {
     if let Some((name, value)) = defined {
         if is_wanted(wanted, name) {
@@ -80,17 +81,17 @@ fn note_wanted(
 
 // Notes the values of the names that lines define, of those that are wanted, and counts the cells of the lines.
 fn note_values(
-    counts: &mut IndexMap<Name, u64>,
-    wanted: Option<&IndexSet<Name>>,
-    values: &mut IndexMap<Name, i128>,
+    counts: &mut BTreeMap<Name, u64>,
+    wanted: Option<&BTreeSet<Name>>,
+    values: &mut BTreeMap<Name, i128>,
     lines: &[ObjectLine],
 ) -> Result<(), NoMemory>
     requires lines { IsTrue (are_lines start (map object_line_tree lines.now)) }
     requires short { AreShort values.old }
     ensures short { OnOk result (AreShort values.new) }
     ensures counted { OnOk result ((m : List ℕ) → count_of counts.new m ≡ counts_after (count_of counts.old) None (entries_of (map object_line_tree lines.now)) m) }
-    ensures noted { OnOk result ((n : List ℕ) → get bytes_eq values.new n
-        ≡ option_or (get bytes_eq values.old n) (lookup (bytes_eq n) (filter (λ d. is_wanted (option_copied wanted.entry) d.0) (definitions (count_of counts.old) None (entries_of (map object_line_tree lines.now)))))) }
+    ensures noted { OnOk result ((n : List ℕ) → value_of values.new n
+        ≡ option_or (value_of values.old n) (lookup (bytes_eq n) (filter (λ d. is_wanted (option_copied wanted.entry) d.0) (definitions (count_of counts.old) None (entries_of (map object_line_tree lines.now)))))) }
 {
     let mut here = None;
     'each: for line in lines {
@@ -105,15 +106,15 @@ fn note_values(
 /// The values of the names that lines define, behind so many cells. The cells of the lines are counted.
 pub(crate) fn line_values(
     alloc: Global,
-    counts: &mut IndexMap<Name, u64>,
+    counts: &mut BTreeMap<Name, u64>,
     lines: &[ObjectLine],
-) -> Result<IndexMap<Name, i128>, NoMemory>
+) -> Result<BTreeMap<Name, i128>, NoMemory>
     requires lines { IsTrue (are_lines start (map object_line_tree lines.now)) }
     ensures short { IfOk result AreShort }
     ensures counted { OnOk result ((m : List ℕ) → count_of counts.new m ≡ counts_after (count_of counts.old) None (entries_of (map object_line_tree lines.now)) m) }
-    ensures values { IfOk result (λ values. (n : List ℕ) → get bytes_eq values n ≡ lookup (bytes_eq n) (definitions (count_of counts.old) None (entries_of (map object_line_tree lines.now)))) }
+    ensures values { IfOk result (λ values. (n : List ℕ) → value_of values n ≡ lookup (bytes_eq n) (definitions (count_of counts.old) None (entries_of (map object_line_tree lines.now)))) }
 {
-    let mut values = IndexMap::new(alloc);
+    let mut values = BTreeMap::new(alloc);
     note_values(counts, None, &mut values, lines)?;
     Ok(values)
 }
@@ -121,16 +122,16 @@ pub(crate) fn line_values(
 // Notes the values that lines share, and counts their cells.
 fn note_shared_lines(
     alloc: Global,
-    counts: &mut IndexMap<Name, u64>,
-    values: &mut IndexMap<Name, i128>,
+    counts: &mut BTreeMap<Name, u64>,
+    values: &mut BTreeMap<Name, i128>,
     lines: &[ObjectLine],
 ) -> Result<(), NoMemory>
     requires lines { IsTrue (are_lines start (map object_line_tree lines.now)) }
     requires short { AreShort values.old }
     ensures short { OnOk result (AreShort values.new) }
     ensures counted { OnOk result ((m : List ℕ) → count_of counts.new m ≡ counts_after (count_of counts.old) None (entries_of (map object_line_tree lines.now)) m) }
-    ensures noted { OnOk result ((n : List ℕ) → get bytes_eq values.new n
-        ≡ option_or (get bytes_eq values.old n) (lookup (bytes_eq n) (exports (count_of counts.old) (entries_of (map object_line_tree lines.now))))) }
+    ensures noted { OnOk result ((n : List ℕ) → value_of values.new n
+        ≡ option_or (value_of values.old n) (lookup (bytes_eq n) (exports (count_of counts.old) (entries_of (map object_line_tree lines.now))))) }
 {
     let shared = shared_names(alloc, lines)?;
     note_values(counts, Some(&shared), values, lines)?;
@@ -140,16 +141,16 @@ fn note_shared_lines(
 // Notes the values that an object shares, and counts its cells.
 fn note_shared(
     alloc: Global,
-    counts: &mut IndexMap<Name, u64>,
-    values: &mut IndexMap<Name, i128>,
+    counts: &mut BTreeMap<Name, u64>,
+    values: &mut BTreeMap<Name, i128>,
     object: &Object,
 ) -> Result<(), NoMemory>
     requires object { IsObject (object_tree object.now) }
     requires short { AreShort values.old }
     ensures short { OnOk result (AreShort values.new) }
     ensures counted { OnOk result ((m : List ℕ) → count_of counts.new m ≡ counts_after (count_of counts.old) None (entries_of (object_tree object.now).lines) m) }
-    ensures noted { OnOk result ((n : List ℕ) → get bytes_eq values.new n
-        ≡ option_or (get bytes_eq values.old n) (lookup (bytes_eq n) (exports (count_of counts.old) (entries_of (object_tree object.now).lines)))) }
+    ensures noted { OnOk result ((n : List ℕ) → value_of values.new n
+        ≡ option_or (value_of values.old n) (lookup (bytes_eq n) (exports (count_of counts.old) (entries_of (object_tree object.now).lines)))) }
 {
     note_shared_lines(alloc, counts, values, &object.lines)
 }
@@ -158,13 +159,13 @@ fn note_shared(
 pub(crate) fn shared_values(
     alloc: Global,
     objects: &[Object],
-) -> Result<IndexMap<Name, i128>, NoMemory>
+) -> Result<BTreeMap<Name, i128>, NoMemory>
     requires objects { All (λ o. IsObject (object_tree o)) objects.now }
     ensures short { IfOk result (λ values. AreShort values) }
-    ensures values { IfOk result (λ values. (n : List ℕ) → get bytes_eq values n ≡ lookup (bytes_eq n) (all_exports (with_counts no_cells (parts_of (map object_tree objects.now))))) }
+    ensures values { IfOk result (λ values. (n : List ℕ) → value_of values n ≡ lookup (bytes_eq n) (all_exports (with_counts no_cells (parts_of (map object_tree objects.now))))) }
 {
-    let mut counts = IndexMap::new(alloc);
-    let mut values = IndexMap::new(alloc);
+    let mut counts = BTreeMap::new(alloc);
+    let mut values = BTreeMap::new(alloc);
     'each: for object in objects {
         note_shared(alloc, &mut counts, &mut values, object)?;
     }

@@ -1,4 +1,5 @@
--- A reference has a value where the declarations that it may mean have it, or where they differ.
+-- A reference has a value where the declarations that it may mean have it, or where they differ. What is said is of those values alone that
+-- are made of none but such values.
 use Rattle.std.proofs.Common.{◌≡◌, ◌≢◌, ◌⊎◌, ℕ, List, [], ◌∷◌, Option, None, Some, true, false, refl, sym, ap, ◌∙◌, subst, inl, inr}
 use Rattle.std.specs.Prelude.{slice_get}
 use Rattle.lisa_tree.specs.Descriptions.{DescriptionTree}
@@ -52,7 +53,7 @@ pub meant_entry : (d : DescriptionTree) {i j : ℕ} → MayMean d i j → (e : E
 meant_entry d (itself e is off same) = (e, subst (λ (k : ℕ). slice_get (entries d) k ≡ Some e) same is, off)
 meant_entry d (higher e p k is what above named more) = meant_entry d more
 
-module _ {T : Type 0} (d : DescriptionTree) (known : ℕ → Option T) where
+module _ {T : Type 0} (d : DescriptionTree) (known : ℕ → Option T) (good : T → Type 0) where
   abbrev pub Has : T → ℕ → Type 0
   Has t j = known (entry_node d j) ≡ Some t
 
@@ -66,14 +67,19 @@ module _ {T : Type 0} (d : DescriptionTree) (known : ℕ → Option T) where
     pub value_of_other : T
     pub is_one : Has value_of_one one
     pub is_other : Has value_of_other other
+    pub good_one : good value_of_one
+    pub good_other : good value_of_other
     pub differ : value_of_one ≢ value_of_other
 
   -- declarations that it may mean have this value, or differ
+  abbrev pub Agreed : ℕ → T → Type 0
+  Agreed i t = SomeMeant d (Has t) i ⊎ Apart i
+
   abbrev pub Agrees : ℕ → T → Type 0
-  Agrees i t = SomeMeant d (Has t) i ⊎ Apart i
+  Agrees i t = good t → Agreed i t
 
   -- what holds of what a reference directly means holds of it
-  rises : (i p k : ℕ) (e : Entry) → slice_get (entries d) i ≡ Some e → e.what ≡ whats.Reference → is_in p (above d e.operation) ≡ true → declared_at d p e.name ≡ Some k → (t : T) → Agrees k t → Agrees i t
+  rises : (i p k : ℕ) (e : Entry) → slice_get (entries d) i ≡ Some e → e.what ≡ whats.Reference → is_in p (above d e.operation) ≡ true → declared_at d p e.name ≡ Some k → (t : T) → Agreed k t → Agreed i t
   rises i p k e is what h at t (inl some) = inl (some.0, (higher e p k is what h at some.1.0, some.1.1))
   rises i p k e is what h at t (inr a) = inr (record {
     one = a.one;
@@ -84,16 +90,18 @@ module _ {T : Type 0} (d : DescriptionTree) (known : ℕ → Option T) where
     value_of_other = a.value_of_other;
     is_one = a.is_one;
     is_other = a.is_other;
+    good_one = a.good_one;
+    good_other = a.good_other;
     differ = a.differ;
   })
 
-  module _ (fact : Fact T) (values : AreValues d fact known) (same : (x : T) → fact.either x x ≡ x) (decides : (x y : T) → (x ≡ y) ⊎ (x ≢ y)) where
-    joins : (i : ℕ) (x y : T) → Agrees i x → Agrees i y → Agrees i (fact.either x y)
-    joins i x y (inr a) b = inr a
-    joins i x y (inl a) (inr b) = inr b
-    joins i x y (inl a) (inl b) = by (decides x y)
+  module _ (fact : Fact T) (values : AreValues d fact known) (same : (x : T) → fact.either x x ≡ x) (decides : (x y : T) → (x ≡ y) ⊎ (x ≢ y)) (parts : (x y : T) → good (fact.either x y) → good x × good y) where
+    joined : (i : ℕ) (x y : T) → good x → good y → Agreed i x → Agreed i y → Agreed i (fact.either x y)
+    joined i x y g h (inr a) b = inr a
+    joined i x y g h (inl a) (inr b) = inr b
+    joined i x y g h (inl a) (inl b) = by (decides x y)
       where
-        by : (x ≡ y) ⊎ (x ≢ y) → Agrees i (fact.either x y)
+        by : (x ≡ y) ⊎ (x ≢ y) → Agreed i (fact.either x y)
         by (inl e) = inl (a.0, (a.1.0, a.1.1 ∙ ap (λ (z : T). Some z) (sym (same x) ∙ ap (fact.either x) e)))
         by (inr differ) = inr (record {
           one = a.0;
@@ -104,8 +112,13 @@ module _ {T : Type 0} (d : DescriptionTree) (known : ℕ → Option T) where
           value_of_other = y;
           is_one = a.1.1;
           is_other = b.1.1;
+          good_one = g;
+          good_other = h;
           differ = differ;
         })
+
+    joins : (i : ℕ) (x y : T) → Agrees i x → Agrees i y → Agrees i (fact.either x y)
+    joins i x y a b = λ g. (let p = parts x y g in joined i x y p.0 p.1 (a p.0) (b p.1))
 
     -- one more step: what follows from a table whose values agree
     step : (table : ℕ → Option T) → ((k : ℕ) (u : T) → table (entry_node d k) ≡ Some u → Agrees k u) → (i : ℕ) (t : T) → known (entry_node d i) ≡ Some t → follows d fact table (entry_node d i) ≡ Some t → Agrees i t
@@ -128,14 +141,14 @@ module _ {T : Type 0} (d : DescriptionTree) (known : ℕ → Option T) where
           where
             declared : (p : ℕ) → is_in p (above d x.operation) ≡ true → (r : Option ℕ) → declared_at d p x.name ≡ r → (u : T) → value_at d table r ≡ Some u → Agrees i u
             declared p h None at u f = absurd (cc f)
-            declared p h (Some k) at u f = rises i p k x is what h at u (each k u f)
+            declared p h (Some k) at u f = λ g. rises i p k x is what h at u (each k u f g)
 
         by : (r : Option Entry) → slice_get (entries d) i ≡ r → Agrees i t
         by None none = let nothing : what_at d i ≡ None = cc none in absurd (cc (sym (ap (entry_value d fact table i) nothing) ∙ value))
         by (Some x) is = sort x.what refl
           where
             alone : refers x.what ≡ false → Agrees i t
-            alone off = inl (i, (itself x is off refl, has))
+            alone off = λ g. inl (i, (itself x is off refl, has))
 
             sort : (w : What) → x.what ≡ w → Agrees i t
             sort (whats.Group c) what = alone (ap refers what)

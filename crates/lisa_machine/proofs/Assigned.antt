@@ -1,6 +1,7 @@
 -- What may be assigned is known of each name, and what is assigned may be.
 use Rattle.std.proofs.Common.{◌≡◌, ◌≢◌, ◌⊎◌, ◌<◌, ℕ, List, [], ◌∷◌, Option, None, Some, Bool, true, false, cond, length, refl, sym, ap, ◌∙◌, subst, inl, inr, ⊎_elim}
 use Rattle.std.specs.Prelude.{slice_get, option_map}
+use Rattle.std.specs.Option.{is_some}
 use Rattle.std.proofs.lemmas.Option.{slice_get_within}
 use Rattle.lisa_tree.specs.declared.tokens.Shape.{Shape}
 use Rattle.lisa_tree.specs.Expressions as exprs
@@ -46,7 +47,7 @@ use Rattle.lisa_machine.proofs.Standing.{expression_stand}
 use Rattle.lisa_machine.proofs.Decoding.{off_right, is_found, is_right, position_there}
 use Rattle.lisa_machine.proofs.Named.{what_is}
 use Rattle.lisa_machine.proofs.Choosing.{rightly_declared}
-use Rattle.lisa_machine.proofs.Chosen.{IsSome, in_here, in_later, none_open, together_some, merged_only, known_only, closed_known, plain_listed}
+use Rattle.lisa_machine.proofs.Chosen.{IsGood, good_some, good_keeps, in_here, in_later, none_open, together_good, merged_only, known_only, closed_known, plain_listed}
 use Rattle.lisa_machine.proofs.Agreeing.{meant_entry, Apart, agrees}
 use Rattle.lisa_machine.proofs.Unrefused.{use_fits, unless}
 use Rattle.lisa_machine.proofs.Settling.{choice_there, operation_is, choice_is, entry_is, child_is, reference_is, all_settled}
@@ -55,14 +56,35 @@ use Rattle.lisa_machine.proofs.Settling.{choice_there, operation_is, choice_is, 
 abbrev IsOne : Option Assignable → Type 0
 IsOne r = r ≡ Some assigns.Mixed → ⊥
 
+-- nor is what they are kept from being known by a refused use
+abbrev IsFit : Assignable → Type 0
+IsFit t = t ≢ assigns.Refused
+
+abbrev IsKnown : Option Assignable → Type 0
+IsKnown r = IsGood IsFit r
+
 -- ---- choices
 
 both_one : (x y : Assignable) → both_assignable x y ≡ assigns.Mixed → ⊥
 both_one assigns.Yes assigns.Yes e = absurd (cc e)
 both_one assigns.Yes assigns.No e = absurd (cc e)
 both_one assigns.Yes assigns.Mixed e = absurd (cc e)
+both_one assigns.Yes assigns.Refused e = absurd (cc e)
+both_one assigns.Refused assigns.Yes e = absurd (cc e)
+both_one assigns.Refused assigns.No e = absurd (cc e)
+both_one assigns.Refused assigns.Mixed e = absurd (cc e)
+both_one assigns.Refused assigns.Refused e = absurd (cc e)
 both_one assigns.No y e = absurd (cc e)
 both_one assigns.Mixed y e = absurd (cc e)
+
+both_fits : (x y : Assignable) → IsFit x → IsFit y → IsFit (both_assignable x y)
+both_fits assigns.Yes assigns.Yes a b = λ e. absurd (cc e)
+both_fits assigns.Yes assigns.No a b = λ e. absurd (cc e)
+both_fits assigns.Yes assigns.Mixed a b = λ e. absurd (cc e)
+both_fits assigns.Yes assigns.Refused a b = λ e. b refl
+both_fits assigns.Refused y a b = λ e. a refl
+both_fits assigns.No y a b = λ e. absurd (cc e)
+both_fits assigns.Mixed y a b = λ e. absurd (cc e)
 
 added_one : (x y : Option Assignable) → IsOne x → IsOne y → IsOne (added both_assignable x y)
 added_one None y a b = b
@@ -74,33 +96,28 @@ together_one value [] each = λ e. absurd (cc e)
 together_one value (a ∷ rest) each = added_one (value a) (known_together both_assignable value rest) (each a (in_here a rest)) (together_one value rest (λ b h. each b (in_later b a rest h)))
 
 chosen_one : (some_open : Bool) (r : Option Assignable) → IsOne r → IsOne (choice_assignable some_open r)
-chosen_one some_open (Some assigns.No) one = λ e. absurd (cc e)
-chosen_one true None one = λ e. absurd (cc e)
-chosen_one true (Some assigns.Yes) one = λ e. absurd (cc e)
-chosen_one true (Some assigns.Mixed) one = λ e. absurd (cc e)
-chosen_one false None one = one
-chosen_one false (Some assigns.Yes) one = one
-chosen_one false (Some assigns.Mixed) one = one
+chosen_one true r one = λ e. absurd (cc e)
+chosen_one false None one = λ e. absurd (cc e)
+chosen_one false (Some x) one = one
 
-chosen_some : (r : Option Assignable) → IsSome r → IsSome (choice_assignable false r)
-chosen_some None k = absurd (cc k.1)
-chosen_some (Some assigns.Yes) k = (assigns.Yes, refl)
-chosen_some (Some assigns.No) k = (assigns.No, refl)
-chosen_some (Some assigns.Mixed) k = (assigns.Mixed, refl)
+chosen_known : (r : Option Assignable) → IsKnown r → IsKnown (choice_assignable false r)
+chosen_known None k = absurd (cc k.1)
+chosen_known (Some x) k = k
 
 chosen_yes : (some_open : Bool) (r : Option Assignable) → choice_assignable some_open r ≡ Some assigns.Yes → (some_open ≡ false) × (r ≡ Some assigns.Yes)
-chosen_yes some_open (Some assigns.No) e = absurd (cc e)
-chosen_yes true None e = absurd (cc e)
-chosen_yes true (Some assigns.Yes) e = absurd (cc e)
-chosen_yes true (Some assigns.Mixed) e = absurd (cc e)
+chosen_yes true r e = absurd (cc e)
 chosen_yes false None e = absurd (cc e)
-chosen_yes false (Some assigns.Yes) e = (refl, refl)
-chosen_yes false (Some assigns.Mixed) e = absurd (cc e)
+chosen_yes false (Some x) e = (refl, e)
 
 both_yes : (x y : Assignable) → both_assignable x y ≡ assigns.Yes → (x ≡ assigns.Yes) × (y ≡ assigns.Yes)
 both_yes assigns.Yes assigns.Yes e = (refl, refl)
 both_yes assigns.Yes assigns.No e = absurd (cc e)
 both_yes assigns.Yes assigns.Mixed e = absurd (cc e)
+both_yes assigns.Yes assigns.Refused e = absurd (cc e)
+both_yes assigns.Refused assigns.Yes e = absurd (cc e)
+both_yes assigns.Refused assigns.No e = absurd (cc e)
+both_yes assigns.Refused assigns.Mixed e = absurd (cc e)
+both_yes assigns.Refused assigns.Refused e = absurd (cc e)
 both_yes assigns.No y e = absurd (cc e)
 both_yes assigns.Mixed y e = absurd (cc e)
 
@@ -108,19 +125,62 @@ either_yes : (x y : Assignable) → either_assignable x y ≡ assigns.Yes → (x
 either_yes assigns.Yes assigns.Yes e = (refl, refl)
 either_yes assigns.Yes assigns.No e = absurd (cc e)
 either_yes assigns.Yes assigns.Mixed e = absurd (cc e)
+either_yes assigns.Yes assigns.Refused e = absurd (cc e)
 either_yes assigns.No assigns.Yes e = absurd (cc e)
 either_yes assigns.No assigns.No e = absurd (cc e)
 either_yes assigns.No assigns.Mixed e = absurd (cc e)
+either_yes assigns.No assigns.Refused e = absurd (cc e)
 either_yes assigns.Mixed assigns.Yes e = absurd (cc e)
 either_yes assigns.Mixed assigns.No e = absurd (cc e)
 either_yes assigns.Mixed assigns.Mixed e = absurd (cc e)
+either_yes assigns.Mixed assigns.Refused e = absurd (cc e)
+either_yes assigns.Refused assigns.Yes e = absurd (cc e)
+either_yes assigns.Refused assigns.No e = absurd (cc e)
+either_yes assigns.Refused assigns.Mixed e = absurd (cc e)
+either_yes assigns.Refused assigns.Refused e = absurd (cc e)
+
+either_fits : (x y : Assignable) → IsFit x → IsFit y → IsFit (either_assignable x y)
+either_fits assigns.Yes assigns.Yes a b = λ e. absurd (cc e)
+either_fits assigns.Yes assigns.No a b = λ e. absurd (cc e)
+either_fits assigns.Yes assigns.Mixed a b = λ e. absurd (cc e)
+either_fits assigns.Yes assigns.Refused a b = λ e. b refl
+either_fits assigns.No assigns.Yes a b = λ e. absurd (cc e)
+either_fits assigns.No assigns.No a b = λ e. absurd (cc e)
+either_fits assigns.No assigns.Mixed a b = λ e. absurd (cc e)
+either_fits assigns.No assigns.Refused a b = λ e. b refl
+either_fits assigns.Mixed assigns.Yes a b = λ e. absurd (cc e)
+either_fits assigns.Mixed assigns.No a b = λ e. absurd (cc e)
+either_fits assigns.Mixed assigns.Mixed a b = λ e. absurd (cc e)
+either_fits assigns.Mixed assigns.Refused a b = λ e. b refl
+either_fits assigns.Refused assigns.Yes a b = λ e. a refl
+either_fits assigns.Refused assigns.No a b = λ e. a refl
+either_fits assigns.Refused assigns.Mixed a b = λ e. a refl
+either_fits assigns.Refused assigns.Refused a b = λ e. a refl
+
+either_parts : (x y : Assignable) → IsFit (either_assignable x y) → IsFit x × IsFit y
+either_parts assigns.Yes assigns.Yes n = (λ e. absurd (cc e), λ e. absurd (cc e))
+either_parts assigns.Yes assigns.No n = (λ e. absurd (cc e), λ e. absurd (cc e))
+either_parts assigns.Yes assigns.Mixed n = (λ e. absurd (cc e), λ e. absurd (cc e))
+either_parts assigns.Yes assigns.Refused n = absurd (n refl)
+either_parts assigns.No assigns.Yes n = (λ e. absurd (cc e), λ e. absurd (cc e))
+either_parts assigns.No assigns.No n = (λ e. absurd (cc e), λ e. absurd (cc e))
+either_parts assigns.No assigns.Mixed n = (λ e. absurd (cc e), λ e. absurd (cc e))
+either_parts assigns.No assigns.Refused n = absurd (n refl)
+either_parts assigns.Mixed assigns.Yes n = (λ e. absurd (cc e), λ e. absurd (cc e))
+either_parts assigns.Mixed assigns.No n = (λ e. absurd (cc e), λ e. absurd (cc e))
+either_parts assigns.Mixed assigns.Mixed n = (λ e. absurd (cc e), λ e. absurd (cc e))
+either_parts assigns.Mixed assigns.Refused n = absurd (n refl)
+either_parts assigns.Refused assigns.Yes n = absurd (n refl)
+either_parts assigns.Refused assigns.No n = absurd (n refl)
+either_parts assigns.Refused assigns.Mixed n = absurd (n refl)
+either_parts assigns.Refused assigns.Refused n = absurd (n refl)
 
 -- ---- resources
 
-resource_some : (x : ResourceTree) → is_no_word (Some x) ≡ false → IsSome (resource_assignable (Some x))
-resource_some (trees.Register word shape n None) e = (_, refl)
-resource_some (trees.Clocked word shape n) e = (_, refl)
-resource_some (trees.Pin shape n) e = (_, refl)
+resource_some : (x : ResourceTree) → is_no_word (Some x) ≡ false → IsKnown (resource_assignable (Some x))
+resource_some (trees.Register word shape n None) e = (_, refl, λ f. absurd (cc f))
+resource_some (trees.Clocked word shape n) e = (_, refl, λ f. absurd (cc f))
+resource_some (trees.Pin shape n) e = (_, refl, λ f. absurd (cc f))
 resource_some (trees.Register word shape n (Some depth)) e = absurd (cc e)
 resource_some (trees.Memory word shape n depth) e = absurd (cc e)
 resource_some (trees.Pipeline n stages) e = absurd (cc e)
@@ -146,9 +206,9 @@ resource_yes (Some (trees.Memory word shape n depth)) e = absurd (cc e)
 resource_yes (Some (trees.Pipeline n stages)) e = absurd (cc e)
 resource_yes (Some (trees.Fields pipe fields)) e = absurd (cc e)
 
-array_some : (x : ResourceTree) → is_no_array (Some x) ≡ false → IsSome (array_assignable (element_shape (Some x)))
-array_some (trees.Register word shape n (Some depth)) e = (_, refl)
-array_some (trees.Memory word shape n depth) e = (_, refl)
+array_some : (x : ResourceTree) → is_no_array (Some x) ≡ false → IsKnown (array_assignable (element_shape (Some x)))
+array_some (trees.Register word shape n (Some depth)) e = (_, refl, λ f. absurd (cc f))
+array_some (trees.Memory word shape n depth) e = (_, refl, λ f. absurd (cc f))
 array_some (trees.Register word shape n None) e = absurd (cc e)
 array_some (trees.Clocked word shape n) e = absurd (cc e)
 array_some (trees.Pin shape n) e = absurd (cc e)
@@ -159,35 +219,39 @@ array_one : (r : Option Shape) → IsOne (array_assignable r)
 array_one None e = absurd (cc e)
 array_one (Some s) e = absurd (cc e)
 
-settled_some : (r : Option Assignable) → IsSome r → IsOne r → IsSome (settled_assignable r)
+settled_some : (r : Option Assignable) → IsKnown r → IsOne r → IsKnown (settled_assignable r)
 settled_some None k one = absurd (cc k.1)
-settled_some (Some assigns.Yes) k one = (_, refl)
-settled_some (Some assigns.No) k one = (_, refl)
+settled_some (Some assigns.Yes) k one = k
+settled_some (Some assigns.No) k one = k
 settled_some (Some assigns.Mixed) k one = absurd (one refl)
+settled_some (Some assigns.Refused) k one = k
 
 settled_one : (r : Option Assignable) → IsOne (settled_assignable r)
 settled_one None e = absurd (cc e)
 settled_one (Some assigns.Yes) e = absurd (cc e)
 settled_one (Some assigns.No) e = absurd (cc e)
 settled_one (Some assigns.Mixed) e = absurd (cc e)
+settled_one (Some assigns.Refused) e = absurd (cc e)
 
 settled_yes : (r : Option Assignable) → settled_assignable r ≡ Some assigns.Yes → r ≡ Some assigns.Yes
 settled_yes None e = absurd (cc e)
 settled_yes (Some assigns.Yes) e = refl
 settled_yes (Some assigns.No) e = absurd (cc e)
 settled_yes (Some assigns.Mixed) e = absurd (cc e)
+settled_yes (Some assigns.Refused) e = absurd (cc e)
 
-yes_of : (r : Option Assignable) → IsSome r → (r ≡ Some assigns.No → ⊥) → IsOne r → r ≡ Some assigns.Yes
+yes_of : (r : Option Assignable) → IsKnown r → (r ≡ Some assigns.No → ⊥) → IsOne r → r ≡ Some assigns.Yes
 yes_of None k off one = absurd (cc k.1)
 yes_of (Some assigns.Yes) k off one = refl
 yes_of (Some assigns.No) k off one = absurd (off refl)
 yes_of (Some assigns.Mixed) k off one = absurd (one refl)
+yes_of (Some assigns.Refused) k off one = absurd (good_keeps IsFit _ k assigns.Refused refl refl)
 
-unless_one : (refused : Bool) (r : Option Assignable) → IsOne r → IsOne (cond refused None r)
+unless_one : (refused : Bool) (r : Option Assignable) → IsOne r → IsOne (cond refused (Some assigns.Refused) r)
 unless_one true r one = λ e. absurd (cc e)
 unless_one false r one = one
 
-unless_yes : (refused : Bool) (r : Option Assignable) → cond refused None r ≡ Some assigns.Yes → r ≡ Some assigns.Yes
+unless_yes : (refused : Bool) (r : Option Assignable) → cond refused (Some assigns.Refused) r ≡ Some assigns.Yes → r ≡ Some assigns.Yes
 unless_yes true r e = absurd (cc e)
 unless_yes false r e = e
 
@@ -197,17 +261,25 @@ either_same : (x : Assignable) → either_assignable x x ≡ x
 either_same assigns.Yes = refl
 either_same assigns.No = refl
 either_same assigns.Mixed = refl
+either_same assigns.Refused = refl
 
 decides : (x y : Assignable) → (x ≡ y) ⊎ (x ≢ y)
 decides assigns.Yes assigns.Yes = inl refl
 decides assigns.Yes assigns.No = inr (λ e. absurd (cc e))
 decides assigns.Yes assigns.Mixed = inr (λ e. absurd (cc e))
+decides assigns.Yes assigns.Refused = inr (λ e. absurd (cc e))
 decides assigns.No assigns.Yes = inr (λ e. absurd (cc e))
 decides assigns.No assigns.No = inl refl
 decides assigns.No assigns.Mixed = inr (λ e. absurd (cc e))
+decides assigns.No assigns.Refused = inr (λ e. absurd (cc e))
 decides assigns.Mixed assigns.Yes = inr (λ e. absurd (cc e))
 decides assigns.Mixed assigns.No = inr (λ e. absurd (cc e))
 decides assigns.Mixed assigns.Mixed = inl refl
+decides assigns.Mixed assigns.Refused = inr (λ e. absurd (cc e))
+decides assigns.Refused assigns.Yes = inr (λ e. absurd (cc e))
+decides assigns.Refused assigns.No = inr (λ e. absurd (cc e))
+decides assigns.Refused assigns.Mixed = inr (λ e. absurd (cc e))
+decides assigns.Refused assigns.Refused = inl refl
 
 module _ (d : DescriptionTree) (known : Known) (kinds : AreKinds d known) (names : IsFree (duplicate d) d) (stand : IsFree (unknown d) d) (uses_free : IsFree (wrong_kind known d) d) where
   abbrev no_value : ℕ → Bool
@@ -285,7 +357,7 @@ module _ (d : DescriptionTree) (known : Known) (kinds : AreKinds d known) (names
   meant_declared {j = j} m = let e = meant_entry d m in declaration_one j e.0 e.1 e.2
 
   -- declarations that aren't the same differ in assigning
-  apart_so : (i : ℕ) → Apart d known.assignables i → DifferInAssigning d known.assignables i
+  apart_so : (i : ℕ) → Apart d known.assignables IsFit i → DifferInAssigning d known.assignables i
   apart_so i x = by x.value_of_one x.value_of_other refl refl
     where
       by : (u v : Assignable) → x.value_of_one ≡ u → x.value_of_other ≡ v → DifferInAssigning d known.assignables i
@@ -299,6 +371,9 @@ module _ (d : DescriptionTree) (known : Known) (kinds : AreKinds d known) (names
       )
       by assigns.Yes assigns.Yes e f = absurd (x.differ (e ∙ sym f))
       by assigns.No assigns.No e f = absurd (x.differ (e ∙ sym f))
+      by assigns.Refused v e f = absurd (x.good_one e)
+      by assigns.Yes assigns.Refused e f = absurd (x.good_other f)
+      by assigns.No assigns.Refused e f = absurd (x.good_other f)
       by assigns.Mixed v e f = absurd (meant_declared x.means_one (x.is_one ∙ ap (λ (t : Assignable). Some t) e))
       by assigns.Yes assigns.Mixed e f = absurd (meant_declared x.means_other (x.is_other ∙ ap (λ (t : Assignable). Some t) f))
       by assigns.No assigns.Mixed e f = absurd (meant_declared x.means_other (x.is_other ∙ ap (λ (t : Assignable). Some t) f))
@@ -319,62 +394,62 @@ module _ (d : DescriptionTree) (known : Known) (kinds : AreKinds d known) (names
           let off : known.assignables_differ i ≡ false = off_right (known.types_differ i) (known.assignables_differ i) (off_right (sorts_differ (known.traits i)) _ b) in
           ⊎_elim
           (λ some. meant_declared some.1.0 some.1.1)
-          (λ x. absurd (cc (sym off ∙ (kinds.assignables_differ i).1 (apart_so i x))))
-          (agrees d known.assignables fact kinds.assignables either_same decides i assigns.Mixed mixed))
+          (λ x. absurd (cc (sym off ∙ (kinds.assignables_differ i).1 (ap is_some mixed, apart_so i x))))
+          (agrees d known.assignables IsFit fact kinds.assignables either_same decides either_parts i assigns.Mixed mixed (λ h. absurd (cc h))))
 
   -- ---- each expression either may be assigned or may not
 
   resource_there : (n : List ℕ) (k : ℕ) → resource_at d n ≡ Some k → (x : ResourceTree) × (slice_get d.resources k ≡ Some x)
   resource_there n k e = let p = position_there (is_named n) d.resources k e in (p.0, p.1)
 
-  module _ (o : ℕ) (ready : (n : List ℕ) (i : ℕ) → declared_at d o n ≡ Some i → IsSome (known.assignables (entry_node d i))) where
-    name_some : (n : List ℕ) → is_something (meaning d o n) ≡ true → meant_misread known d (meaning d o n) ≡ false → IsSome (meant_assignable known.assignables d (meaning d o n))
+  module _ (o : ℕ) (ready : (n : List ℕ) (i : ℕ) → declared_at d o n ≡ Some i → IsKnown (known.assignables (entry_node d i))) where
+    name_some : (n : List ℕ) → is_something (meaning d o n) ≡ true → meant_misread known d (meaning d o n) ≡ false → IsKnown (meant_assignable known.assignables d (meaning d o n))
     name_some n some right = by (declared_at d o n) (resource_at d n) refl refl some right
       where
-        by : (x y : Option ℕ) → declared_at d o n ≡ x → resource_at d n ≡ y → is_something (meaning_of x y) ≡ true → meant_misread known d (meaning_of x y) ≡ false → IsSome (meant_assignable known.assignables d (meaning_of x y))
+        by : (x y : Option ℕ) → declared_at d o n ≡ x → resource_at d n ≡ y → is_something (meaning_of x y) ≡ true → meant_misread known d (meaning_of x y) ≡ false → IsKnown (meant_assignable known.assignables d (meaning_of x y))
         by (Some i) y at there s r = let f = found d o n i at in settled_some (known.assignables (entry_node d i)) (ready n i at) (entry_one i f.e f.at)
-        by None (Some k) at there s r = let x = resource_there n k there in subst (λ (z : Option ResourceTree). IsSome (resource_assignable z)) (sym x.1) (resource_some x.0 (ap is_no_word (sym x.1) ∙ r))
+        by None (Some k) at there s r = let x = resource_there n k there in subst (λ (z : Option ResourceTree). IsKnown (resource_assignable z)) (sym x.1) (resource_some x.0 (ap is_no_word (sym x.1) ∙ r))
         by None None at there s r = absurd (cc s)
 
-    element_some : (n : List ℕ) → is_something (meaning d o n) ≡ true → meant_misindexed known d (meaning d o n) ≡ false → IsSome (array_assignable (meant_element d (meaning d o n)))
+    element_some : (n : List ℕ) → is_something (meaning d o n) ≡ true → meant_misindexed known d (meaning d o n) ≡ false → IsKnown (array_assignable (meant_element d (meaning d o n)))
     element_some n some right = by (declared_at d o n) (resource_at d n) refl some right
       where
-        by : (x y : Option ℕ) → resource_at d n ≡ y → is_something (meaning_of x y) ≡ true → meant_misindexed known d (meaning_of x y) ≡ false → IsSome (array_assignable (meant_element d (meaning_of x y)))
+        by : (x y : Option ℕ) → resource_at d n ≡ y → is_something (meaning_of x y) ≡ true → meant_misindexed known d (meaning_of x y) ≡ false → IsKnown (array_assignable (meant_element d (meaning_of x y)))
         by (Some i) y there s r = absurd (cc r)
-        by None (Some k) there s r = let x = resource_there n k there in subst (λ (z : Option ResourceTree). IsSome (array_assignable (element_shape z))) (sym x.1) (array_some x.0 (ap is_no_array (sym x.1) ∙ r))
+        by None (Some k) there s r = let x = resource_there n k there in subst (λ (z : Option ResourceTree). IsKnown (array_assignable (element_shape z))) (sym x.1) (array_some x.0 (ap is_no_array (sym x.1) ∙ r))
         by None None there s r = absurd (cc s)
 
-    value_some : (e : ExprTree) → AllStand d (uses o regions.Expression [] e) → IsSome (value_assignable known.assignables d o e)
+    value_some : (e : ExprTree) → AllStand d (uses o regions.Expression [] e) → IsKnown (value_assignable known.assignables d o e)
     value_some (exprs.Named n) s =
         let here = s (at o regions.Expression [] (places.Reads n)) (inl refl) in
         name_some n (is_found (name_at d o) (is_known d o [] n) n (free_place (unknown d) d stand _ here)) (is_right (name_at d o) (is_misread known d o n None) n (free_place (wrong_kind known d) d uses_free _ here))
     value_some (exprs.Element n index) s =
         let here = s (at o regions.Expression [] (places.ReadsElement n)) (inl refl) in
         element_some n (is_found (name_at d o) (is_known d o [] n) n (free_place (unknown d) d stand _ here)) (is_right (name_at d o) (is_misindexed known d o n None) n (free_place (wrong_kind known d) d uses_free _ here))
-    value_some (exprs.Number v base) s = (_, refl)
-    value_some (exprs.Input field) s = (_, refl)
-    value_some (exprs.Output field) s = (_, refl)
-    value_some (exprs.Boundary p b a f) s = (_, refl)
-    value_some exprs.Decoded s = (_, refl)
-    value_some (exprs.Cast shape a) s = (_, refl)
-    value_some (exprs.Complement a) s = (_, refl)
-    value_some (exprs.Negate a) s = (_, refl)
-    value_some (exprs.Two op a b) s = (_, refl)
-    value_some (exprs.Choose c a b) s = (_, refl)
+    value_some (exprs.Number v base) s = (assigns.No, refl, λ f. absurd (cc f))
+    value_some (exprs.Input field) s = (assigns.No, refl, λ f. absurd (cc f))
+    value_some (exprs.Output field) s = (assigns.No, refl, λ f. absurd (cc f))
+    value_some (exprs.Boundary p b a f) s = (assigns.No, refl, λ f. absurd (cc f))
+    value_some exprs.Decoded s = (assigns.No, refl, λ f. absurd (cc f))
+    value_some (exprs.Cast shape a) s = (assigns.No, refl, λ f. absurd (cc f))
+    value_some (exprs.Complement a) s = (assigns.No, refl, λ f. absurd (cc f))
+    value_some (exprs.Negate a) s = (assigns.No, refl, λ f. absurd (cc f))
+    value_some (exprs.Two op a b) s = (assigns.No, refl, λ f. absurd (cc f))
+    value_some (exprs.Choose c a b) s = (assigns.No, refl, λ f. absurd (cc f))
 
-    operation_some : o < length d.operations → IsSome (known.assignables o)
-    operation_some h = subst IsSome (sym (operation_value o h)) (by (expression_in (sections_at d o)) refl)
+    operation_some : o < length d.operations → IsKnown (known.assignables o)
+    operation_some h = subst IsKnown (sym (operation_value o h)) (by (expression_in (sections_at d o)) refl)
       where
-        by : (r : Option ExprTree) → expression_in (sections_at d o) ≡ r → IsSome (expression_assignable no_value known.assignables d o r)
-        by None is = (assigns.No, refl)
+        by : (r : Option ExprTree) → expression_in (sections_at d o) ≡ r → IsKnown (expression_assignable no_value known.assignables d o r)
+        by None is = (assigns.No, refl, λ f. absurd (cc f))
         by (Some e) is =
             let fits = use_fits d known uses_free no_value (λ i f. f) o e (expression_stand d o e is) in
-            subst IsSome (sym (unless (is_refused no_value d o e) (value_assignable known.assignables d o e) fits)) (value_some e (expression_stand d o e is))
+            subst IsKnown (sym (unless (is_refused no_value d o e) (Some assigns.Refused) (value_assignable known.assignables d o e) fits)) (value_some e (expression_stand d o e is))
 
-  choice_some : (c : ℕ) → 0 < length (plain_at d c) → ((o : ℕ) → is_in o (plain_at d c) ≡ true → IsSome (known.assignables o)) → IsSome (fact.of_choice known.assignables c)
+  choice_some : (c : ℕ) → 0 < length (plain_at d c) → ((o : ℕ) → is_in o (plain_at d c) ≡ true → IsKnown (known.assignables o)) → IsKnown (fact.of_choice known.assignables c)
   choice_some c some each =
-      subst (λ (b : Bool). IsSome (choice_assignable b (known_together both_assignable known.assignables (plain_at d c)))) (sym (none_open known.assignables (plain_at d c) each))
-      (chosen_some (known_together both_assignable known.assignables (plain_at d c)) (together_some both_assignable known.assignables (plain_at d c) some each))
+      subst (λ (b : Bool). IsKnown (choice_assignable b (known_together both_assignable known.assignables (plain_at d c)))) (sym (none_open known.assignables (plain_at d c) (λ o h. good_some IsFit _ (each o h))))
+      (chosen_known (known_together both_assignable known.assignables (plain_at d c)) (together_good IsFit both_assignable both_fits known.assignables (plain_at d c) some each))
 
   -- ---- what is assigned
 
@@ -386,11 +461,11 @@ module _ (d : DescriptionTree) (known : Known) (kinds : AreKinds d known) (names
       let off : known.unassignable i ≡ false = off_right (is_apart (known.traits i)) (known.unassignable i) (off_right (known.typeless i) _ g) in
       let x = found d o n i at in
       yes_of (known.assignables (entry_node d i))
-      (all_settled d known names stand uses_free fact steady known.assignables kinds.assignables operation_some choice_some ranks o n i at)
+      (all_settled d known names stand uses_free fact steady known.assignables kinds.assignables IsFit (λ i. λ f. absurd (cc f)) (λ i t k. k) either_fits operation_some choice_some ranks o n i at)
       (λ denied. ⊎_elim
       (λ some. absurd (cc (sym off ∙ (kinds.unassignable i).1 some)))
       (λ y. absurd (cc (sym off ∙ (kinds.unassignable i).1 (apart_so i y).1)))
-      (agrees d known.assignables fact kinds.assignables either_same decides i assigns.No denied))
+      (agrees d known.assignables IsFit fact kinds.assignables either_same decides either_parts i assigns.No denied (λ h. absurd (cc h))))
       (entry_one i x.e x.at)
 
   pub child_yes : (i c : ℕ) → (what_at d i ≡ Some (whats.Group c)) ⊎ (what_at d i ≡ Some (whats.Instance c)) → known.assignables (entry_node d i) ≡ Some assigns.Yes → (o : ℕ) → is_in o (plain_at d c) ≡ true → known.assignables o ≡ Some assigns.Yes

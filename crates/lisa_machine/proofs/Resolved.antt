@@ -60,6 +60,7 @@ scalar_of (trees.Fields pipe fields) e = absurd (cc e)
 shape_typed : (r : Option TypeOf) → HasShape (typed r) → (s : Shape) × (r ≡ Some (types.Typed s))
 shape_typed None h = absurd (cc h.1)
 shape_typed (Some types.NoType) h = absurd (cc h.1)
+shape_typed (Some types.Refused) h = absurd (cc h.1)
 shape_typed (Some (types.Typed s)) h = (s, refl)
 
 module _ (d : DescriptionTree) where

@@ -35,7 +35,8 @@ use Rattle.lisa_machine.proofs.Decoding.{off_left, off_right, not_off, some_of, 
 use Rattle.description_types.proofs.OneKnown.{same_option}
 use Rattle.lisa_machine.proofs.Named.{entry_found, what_is}
 use Rattle.lisa_machine.proofs.Choosing.{group_left, instance_left}
-use Rattle.lisa_machine.proofs.Chosen.{IsSome, merged_known, plain_listed}
+use Rattle.lisa_machine.proofs.Agreeing.{merged_keeps}
+use Rattle.lisa_machine.proofs.Chosen.{IsGood, good_some, good_keeps, merged_known, plain_listed}
 
 any_in : (test : ℕ → Bool) (p : ℕ) (ps : List ℕ) → is_in p ps ≡ true → test p ≡ true → list_any test ps ≡ true
 any_in test p [] h e = absurd (cc h)
@@ -135,34 +136,36 @@ module _ (d : DescriptionTree) (known : Known) (names : IsFree (duplicate d) d) 
         entry_is i e is ∙ ap (λ (x : What). entry_value d fact table i (Some x)) what
         ∙ ap (reference_value d fact.either table (owner_at d i)) name ∙ ap (λ (o : ℕ). merged fact.either (declared_value d table e.name) (above d o)) owner
 
-    child_some : (i : ℕ) (r : Option T) → IsSome r → IsSome (option_map (fact.of_child i) r)
-    child_some i None k = absurd (cc k.1)
-    child_some i (Some t) k = (fact.of_child i t, refl)
+    -- ---- going up along the ranks, where an operation is settled once its names are, and a choice once its alternatives are, with values of
+    -- which something holds that labels have and that what is made of two values keeps
 
-    -- ---- going up along the ranks, where an operation is settled once its names are, and a choice once its alternatives are
-
-    module _ (settles : (o : ℕ) → ((n : List ℕ) (i : ℕ) → declared_at d o n ≡ Some i → IsSome (table (entry_node d i))) → o < length d.operations → IsSome (table o))
-        (chooses : (c : ℕ) → 0 < length (plain_at d c) → ((o : ℕ) → is_in o (plain_at d c) ≡ true → IsSome (table o)) → IsSome (fact.of_choice table c)) (ranks : Ranks d) where
+    module _ (good : T → Type 0) (labels : (i : ℕ) → good (fact.of_label i)) (children : (i : ℕ) (t : T) → good t → good (fact.of_child i t)) (eithers : (x y : T) → good x → good y → good (fact.either x y))
+        (settles : (o : ℕ) → ((n : List ℕ) (i : ℕ) → declared_at d o n ≡ Some i → IsGood good (table (entry_node d i))) → o < length d.operations → IsGood good (table o))
+        (chooses : (c : ℕ) → 0 < length (plain_at d c) → ((o : ℕ) → is_in o (plain_at d c) ≡ true → IsGood good (table o)) → IsGood good (fact.of_choice table c)) (ranks : Ranks d) where
       abbrev IsReady : Node → Type 0
-      IsReady (Operation o) = o < length d.operations → IsSome (table o)
-      IsReady (Choosing c) = c < length (choices d) → 0 < length (plain_at d c) → IsSome (table (choice_node d c))
-      IsReady (Declaring i) = i < length (entries d) → IsSome (table (entry_node d i))
+      IsReady (Operation o) = o < length d.operations → IsGood good (table o)
+      IsReady (Choosing c) = c < length (choices d) → 0 < length (plain_at d c) → IsGood good (table (choice_node d c))
+      IsReady (Declaring i) = i < length (entries d) → IsGood good (table (entry_node d i))
 
       abbrev AreReady : ℕ → Type 0
       AreReady r = (x : Node) → ranks.rank x < r → IsReady x
 
+      child_good : (i : ℕ) (r : Option T) → IsGood good r → IsGood good (option_map (fact.of_child i) r)
+      child_good i None k = absurd (cc k.1)
+      child_good i (Some t) k = (fact.of_child i t, refl, children i t (good_keeps good (Some t) k t refl))
+
       -- ---- one rank more
 
       module _ (r : ℕ) (below : AreReady r) where
-        chosen : (i : ℕ) (e : Entry) → slice_get (entries d) i ≡ Some e → (c : ℕ) → (e.what ≡ whats.Group c) ⊎ (e.what ≡ whats.Instance c) → ranks.rank (Choosing c) < r → IsSome (table (entry_node d i))
+        chosen : (i : ℕ) (e : Entry) → slice_get (entries d) i ≡ Some e → (c : ℕ) → (e.what ≡ whats.Group c) ⊎ (e.what ≡ whats.Instance c) → ranks.rank (Choosing c) < r → IsGood good (table (entry_node d i))
         chosen i e is c which low =
             let x = choice_there i e is c which in
-            subst IsSome (sym (child_is i e is c which)) (child_some i (table (choice_node d c)) (below (Choosing c) low (slice_get_within (choices d) c x.0 x.1) (some_plain i e is c which)))
+            subst (IsGood good) (sym (child_is i e is c which)) (child_good i (table (choice_node d c)) (below (Choosing c) low (slice_get_within (choices d) c x.0 x.1) (some_plain i e is c which)))
 
-        labelled : (i : ℕ) (e : Entry) → slice_get (entries d) i ≡ Some e → e.what ≡ whats.Label → IsSome (table (entry_node d i))
-        labelled i e is what = subst IsSome (sym (entry_is i e is ∙ ap (λ (x : What). entry_value d fact table i (Some x)) what)) (_, refl)
+        labelled : (i : ℕ) (e : Entry) → slice_get (entries d) i ≡ Some e → e.what ≡ whats.Label → IsGood good (table (entry_node d i))
+        labelled i e is what = subst (IsGood good) (sym (entry_is i e is ∙ ap (λ (x : What). entry_value d fact table i (Some x)) what)) (fact.of_label i, refl, labels i)
 
-        own_ready : (o : ℕ) → ranks.rank (Operation o) < suc r → (n : List ℕ) (i : ℕ) → declared_at d o n ≡ Some i → IsSome (table (entry_node d i))
+        own_ready : (o : ℕ) → ranks.rank (Operation o) < suc r → (n : List ℕ) (i : ℕ) → declared_at d o n ≡ Some i → IsGood good (table (entry_node d i))
         own_ready o low n i at =
             let f = found d o n i at in
             let owner : f.e.operation ≡ o = owner_is f.e f.at ∙ f.owner in
@@ -172,7 +175,7 @@ module _ (d : DescriptionTree) (known : Known) (names : IsFree (duplicate d) d) 
             owner_is : (e : Entry) → slice_get (entries d) i ≡ Some e → e.operation ≡ owner_at d i
             owner_is e is = cc is
 
-            by : (e : Entry) → slice_get (entries d) i ≡ Some e → ranks.rank (Operation e.operation) < suc r → (w : What) → e.what ≡ w → IsSome (table (entry_node d i))
+            by : (e : Entry) → slice_get (entries d) i ≡ Some e → ranks.rank (Operation e.operation) < suc r → (w : What) → e.what ≡ w → IsGood good (table (entry_node d i))
             by e is small (whats.Group c) what =
                 let x = choice_there i e is c (inl what) in
                 let l = ranks.falls (Operation e.operation) (Choosing c) (owns_choice e c x.0 x.1 x.2) in
@@ -186,10 +189,11 @@ module _ (d : DescriptionTree) (known : Known) (names : IsFree (duplicate d) d) 
                 let l = ranks.falls (Operation e.operation) (Declaring i) (owns_reference i e is what) in
                 below (Declaring i) (omega (arith, l, small)) (slice_get_within (entries d) i e is)
 
-        meant : (i : ℕ) (e : Entry) → slice_get (entries d) i ≡ Some e → e.what ≡ whats.Reference → ranks.rank (Declaring i) < suc r → IsSome (table (entry_node d i))
+        meant : (i : ℕ) (e : Entry) → slice_get (entries d) i ≡ Some e → e.what ≡ whats.Reference → ranks.rank (Declaring i) < suc r → IsGood good (table (entry_node d i))
         meant i e is what low =
-            subst IsSome (sym (reference_is i e is what))
-            (merged_known fact.either (declared_value d table e.name) (above d e.operation) (some_above (is_loose d e.operation e.name) refl (tight i e is what)) each)
+            let k = merged_known fact.either (declared_value d table e.name) (above d e.operation) (some_above (is_loose d e.operation e.name) refl (tight i e is what)) (λ p h. good_some good _ (each p h)) in
+            subst (IsGood good) (sym (reference_is i e is what))
+            (k.0, k.1, merged_keeps fact.either good eithers (declared_value d table e.name) (above d e.operation) (λ p h. good_keeps good _ (each p h)) k.0 k.1)
           where
             some_above : (b : Bool) → is_loose d e.operation e.name ≡ b → b ≡ false → 0 < length (above d e.operation)
             some_above b same off =
@@ -203,23 +207,23 @@ module _ (d : DescriptionTree) (known : Known) (names : IsFree (duplicate d) d) 
                 positive zero h = absurd (cc h)
                 positive (suc k) h = omega arith
 
-            each : (p : ℕ) → is_in p (above d e.operation) ≡ true → IsSome (declared_value d table e.name p)
+            each : (p : ℕ) → is_in p (above d e.operation) ≡ true → IsGood good (declared_value d table e.name p)
             each p h =
                 let g = third (is_main d e.operation) (nat_eq (length (above d e.operation)) 0) (list_any (lacks d e.name) (above d e.operation)) (tight i e is what) in
                 let there = some_of (declared_at d p e.name) (not_off (is_some (declared_at d p e.name)) (none_in (lacks d e.name) p (above d e.operation) h g)) in
                 let l = ranks.falls (Declaring i) (Declaring there.0) (means i there.0 p e is what h there.1) in
-                subst IsSome (sym (ap (value_at d table) there.1)) (below (Declaring there.0) (omega (arith, l, low)) (declared_below d p e.name there.0 there.1))
+                subst (IsGood good) (sym (ap (value_at d table) there.1)) (below (Declaring there.0) (omega (arith, l, low)) (declared_below d p e.name there.0 there.1))
               where
                 third : (x y z : Bool) → (x || y || z) ≡ false → z ≡ false
                 third x y z f = grind arith
 
         one_more : AreReady (suc r)
         one_more (Operation o) low = λ h. settles o (own_ready o low) h
-        one_more (Choosing c) low = λ h some. subst IsSome (sym (choice_is c h)) (chooses c some
+        one_more (Choosing c) low = λ h some. subst (IsGood good) (sym (choice_is c h)) (chooses c some
             (λ o e. let listed = plain_listed d c o e in let l = ranks.falls (Choosing c) (Operation o) listed in below (Operation o) (omega (arith, l, low)) (alternatives_below d c o listed)))
         one_more (Declaring i) low = λ h. let e = read_entry (entries d) i h in by e.0 e.1 e.0.what refl
           where
-            by : (e : Entry) → slice_get (entries d) i ≡ Some e → (w : What) → e.what ≡ w → IsSome (table (entry_node d i))
+            by : (e : Entry) → slice_get (entries d) i ≡ Some e → (w : What) → e.what ≡ w → IsGood good (table (entry_node d i))
             by e is (whats.Group c) what = let l = ranks.falls (Declaring i) (Choosing c) (picks i e c is (inl what)) in chosen i e is c (inl what) (omega (arith, l, low))
             by e is (whats.Instance c) what = let l = ranks.falls (Declaring i) (Choosing c) (picks i e c is (inr what)) in chosen i e is c (inr what) (omega (arith, l, low))
             by e is whats.Label what = labelled i e is what
@@ -229,5 +233,5 @@ module _ (d : DescriptionTree) (known : Known) (names : IsFree (duplicate d) d) 
       all_ready zero = λ x low. absurd (omega (arith, low))
       all_ready (suc r) = one_more r (all_ready r)
 
-      pub all_settled : (o : ℕ) (n : List ℕ) (i : ℕ) → declared_at d o n ≡ Some i → IsSome (table (entry_node d i))
+      pub all_settled : (o : ℕ) (n : List ℕ) (i : ℕ) → declared_at d o n ≡ Some i → IsGood good (table (entry_node d i))
       all_settled o n i at = all_ready (suc (ranks.rank (Declaring i))) (Declaring i) (omega arith) (declared_below d o n i at)

@@ -1,15 +1,16 @@
 -- In a description in which nothing is wrong each expression has a type.
-use Rattle.std.proofs.Common.{◌≡◌, ◌⊎◌, ◌<◌, ◌||◌, ◌++◌, ℕ, List, [], Option, None, Some, Bool, true, false, cond, length, refl, sym, ap, ◌∙◌, subst, inl, inr, ⊎_elim}
+use Rattle.std.proofs.Common.{◌≡◌, ◌⊎◌, ◌<◌, ◌&&◌, ◌||◌, ◌++◌, ℕ, List, [], Option, None, Some, Bool, true, false, cond, not, length, refl, sym, ap, ◌∙◌, subst, inl, inr, ⊎_elim}
 use Rattle.std.specs.Prelude.{slice_get, option_map}
-use Rattle.std.specs.Option.{is_some}
+use Rattle.std.specs.Option.{is_none, is_some}
 use Rattle.std.proofs.lemmas.Option.{slice_get_within}
 use Rattle.lisa_tree.specs.declared.tokens.Shape.{Shape}
+use Rattle.lisa_words.specs.declared.words.Kind.{Kind}
 use Rattle.lisa_words.specs.declared.binary.Operator.{Operator}
 use Rattle.lisa_words.specs.declared.binary.Operator.TheVariants as operators
 use Rattle.lisa_tree.specs.Expressions as exprs
 use Rattle.lisa_tree.specs.Expressions.{ExprTree}
 use Rattle.lisa_tree.specs.Descriptions as trees
-use Rattle.lisa_tree.specs.Descriptions.{ResourceTree, DescriptionTree}
+use Rattle.lisa_tree.specs.Descriptions.{SectionTree, ResourceTree, DescriptionTree}
 use Rattle.description_places.specs.declared.scopes.Local.{Local}
 use Rattle.description_places.specs.declared.sites.Region.{Region}
 use Rattle.description_places.specs.declared.sites.Region.TheVariants as regions
@@ -21,21 +22,23 @@ use Rattle.lisa_tree.specs.declared.declared.What.TheVariants as whats
 use Rattle.lisa_tree.specs.declared.declared.Meaning.{Meaning}
 use Rattle.lisa_tree.specs.declared.declared.Meaning.TheVariants as meanings
 use Rattle.lisa_tree.specs.Resources.{is_named, resource_at, field_shape}
-use Rattle.lisa_tree.specs.Operations.{name_at, sections_at, expression_in}
-use Rattle.lisa_tree.specs.Declarations.{Entry, entries, choices, declared_at, above, plain_at, what_at}
+use Rattle.lisa_tree.specs.Operations.{name_at, sections_at, expression_in, coding_in, syntax_in}
+use Rattle.lisa_tree.specs.Declarations.{Entry, entries, choices, declared_at, above, plain_at, what_at, owner_at, entry_name_at}
 use Rattle.lisa_tree.specs.Meanings.{meaning, meaning_of}
 use Rattle.lisa_tree.specs.Paths.{choice_node, entry_node, refers}
 use Rattle.description_graph.proofs.Hits.{found}
 use Rattle.graph_paths.specs.Paths.{is_in}
+use Rattle.coded_names.specs.Codings.{field_width, number_kind}
 use Rattle.description_types.specs.declared.values.TypeOf.{TypeOf}
 use Rattle.description_types.specs.declared.values.TypeOf.TheVariants as types
 use Rattle.description_types.specs.Shapes.{bit, joined, beside, paired}
 use Rattle.description_types.specs.Types.{word_shape, element_shape, typed, meant_type, or_meant_type, name_type, meant_element, or_meant_element, element_type, two_type, type_of}
-use Rattle.description_types.specs.Refused.{is_apart, rests_on_refused}
+use Rattle.description_types.specs.Refused.{is_apart, meant_open, is_open, rests_on_refused, rests_on_open}
 use Rattle.description_types.specs.Facts.{Fact, IsSteady, merged, at_entry as value_at, declared_value}
+use Rattle.description_types.specs.Codings.{kind_or_unsigned, width_type, name_coding}
 use Rattle.description_types.specs.Kinds.{as_type, expression_type, both_types, type_fact}
 use Rattle.description_types.specs.Steady.{types_steady}
-use Rattle.description_types.specs.Tables.{apart, DifferInType, Known, AreKinds}
+use Rattle.description_types.specs.Tables.{apart, DifferInType, IsSettled, Known, AreKinds}
 use Rattle.description_types.proofs.KnownTypes.{self_shape, types_decide}
 use Rattle.name_checks.specs.Doubled.{duplicate}
 use Rattle.name_checks.specs.Unknown as unknowns
@@ -51,8 +54,8 @@ use Rattle.lisa_machine.proofs.Named.{what_is}
 use Rattle.lisa_machine.proofs.Choosing.{rightly_declared}
 use Rattle.lisa_machine.proofs.Settling.{choice_there, operation_is, choice_is, child_is, reference_is, all_settled}
 use Rattle.lisa_machine.proofs.Agreeing.{only_itself, agrees}
-use Rattle.lisa_machine.proofs.Unrefused.{uses_fit, unless}
-use Rattle.lisa_machine.proofs.Chosen.{IsKnown, choice_known, choice_typed, merged_only, both_typed}
+use Rattle.lisa_machine.proofs.Unrefused.{rests_on_none, uses_fit, unless}
+use Rattle.lisa_machine.proofs.Chosen.{IsFit, IsKnown, good_keeps, types_stand, types_part, choice_known, choice_typed, merged_only, both_typed}
 use Rattle.description_places.specs.Literals.{literal}
 
 abbrev pub HasShape : Option Shape → Type 0
@@ -122,10 +125,24 @@ pub typed_of : (r : Option TypeOf) → IsKnown r → (r ≡ Some types.NoType �
 typed_of None k some = absurd (cc k.1)
 typed_of (Some types.NoType) k some = absurd (some refl)
 typed_of (Some (types.Typed s)) k some = (s, refl)
+typed_of (Some types.Refused) k some = absurd (good_keeps IsFit _ k types.Refused refl refl)
+
+to_type : (s : Shape) (r : Option Shape) → r ≡ Some s → Some (as_type r) ≡ Some (types.Typed s)
+to_type s r e = ap (λ (x : Option Shape). Some (as_type x)) e
+
+-- a label has a type or none
+label_fits : (sections : List SectionTree) (r : Option (List ℕ)) → IsFit (name_coding sections r).label
+label_fits sections None = λ e. absurd (cc e)
+label_fits sections (Some n) = by (kind_or_unsigned (number_kind n (syntax_in sections))) (field_width n (coding_in sections))
+  where
+    by : (kind : Kind) (w : Option ℕ) → IsFit (width_type kind w)
+    by kind None = λ e. absurd (cc e)
+    by kind (Some w) = λ e. absurd (cc e)
 
 -- what two of the same type make
 both_same : (x : TypeOf) → both_types x x ≡ x
 both_same types.NoType = refl
+both_same types.Refused = refl
 both_same (types.Typed s) = ap (λ (b : Bool). cond b (types.Typed s) types.NoType) (self_shape s)
 
 module _ (d : DescriptionTree) (known : Known) (kinds : AreKinds d known) (names : IsFree (duplicate d) d) (stand : IsFree (unknown d) d) (uses_free : IsFree (wrong_kind known d) d) where
@@ -152,8 +169,8 @@ module _ (d : DescriptionTree) (known : Known) (kinds : AreKinds d known) (names
 
   -- ---- no name means declarations that differ, and none that is a value means one without a type
 
-  alike : (i : ℕ) (e : Entry) → slice_get (entries d) i ≡ Some e → DifferInType d known.types i → ⊥
-  alike i e is x = by e.what refl
+  alike : (i : ℕ) (e : Entry) → slice_get (entries d) i ≡ Some e → IsSettled d known.types i → DifferInType d known.types i → ⊥
+  alike i e is has x = by e.what refl
     where
       some_same : (s t : TypeOf) → Some s ≡ Some t → s ≡ t
       some_same s t h = cc h
@@ -171,12 +188,12 @@ module _ (d : DescriptionTree) (known : Known) (kinds : AreKinds d known) (names
       by whats.Reference what =
           let b : what_misdeclared known d i (Some whats.Reference) ≡ false = ap (λ (y : What). what_misdeclared known d i (Some y)) (sym what) ∙ rightly_declared d known names uses_free i e is in
           let off : known.types_differ i ≡ false = off_left (known.types_differ i) (known.assignables_differ i) (off_right (sorts_differ (known.traits i)) _ b) in
-          absurd (cc (sym off ∙ (kinds.types_differ i).1 x))
+          absurd (cc (sym off ∙ (kinds.types_differ i).1 (has, x)))
 
   pub some_type : (i : ℕ) (e : Entry) → slice_get (entries d) i ≡ Some e → known.typeless i ≡ false → known.types (entry_node d i) ≡ Some types.NoType → ⊥
   some_type i e is off none = ⊎_elim
       (λ some. absurd (cc (sym off ∙ (kinds.typeless i).1 some)))
-      (λ x. alike i e is (record {
+      (λ x. alike i e is (ap is_some none) (record {
         one = x.one;
         other = x.other;
         means_one = x.means_one;
@@ -185,9 +202,11 @@ module _ (d : DescriptionTree) (known : Known) (kinds : AreKinds d known) (names
         type_of_other = x.value_of_other;
         is_one = x.is_one;
         is_other = x.is_other;
+        one_stands = x.good_one;
+        other_stands = x.good_other;
         differ = x.differ;
       }))
-      (agrees d known.types fact kinds.types both_same types_decide i types.NoType none)
+      (agrees d known.types IsFit fact kinds.types both_same types_decide types_part i types.NoType none (λ h. absurd (cc h)))
 
   -- ---- expressions, where each name that the operation declares has a type
 
@@ -285,33 +304,60 @@ module _ (d : DescriptionTree) (known : Known) (kinds : AreKinds d known) (names
     target_typed region scope (exprs.Two operator a b) s = expression_typed region scope (exprs.Two operator a b) s
     target_typed region scope (exprs.Choose c a b) s = expression_typed region scope (exprs.Choose c a b) s
 
-    -- in its expression no use is refused
-    unrefused : (e : ExprTree) → expression_in (sections_at d o) ≡ Some e → expression_type (apart known.traits) known.types d o (Some e) ≡ as_type (type_of known.types d o [] e)
+    -- in its expression nothing is open
+    closed : (e : ExprTree) → AllStand d (uses o regions.Expression [] e) → is_open (apart known.traits) known.types d o e ≡ false
+    closed (exprs.Named n) s = by (declared_at d o n) (resource_at d n) refl
+      where
+        closes : (apart : Bool) (r : Option TypeOf) → IsKnown r → (not apart && is_none r) ≡ false
+        closes true r k = refl
+        closes false None k = absurd (cc k.1)
+        closes false (Some t) k = refl
+
+        by : (x y : Option ℕ) → declared_at d o n ≡ x → meant_open (apart known.traits) known.types d (meaning_of x y) ≡ false
+        by (Some i) y at = closes (apart known.traits i) (known.types (entry_node d i)) (ready n i at)
+        by None (Some k) at = refl
+        by None None at = refl
+    closed (exprs.Number v base) s = refl
+    closed (exprs.Element n index) s = refl
+    closed (exprs.Input field) s = refl
+    closed (exprs.Output field) s = refl
+    closed (exprs.Boundary pipe before after field) s = refl
+    closed exprs.Decoded s = refl
+    closed (exprs.Cast shape a) s = refl
+    closed (exprs.Complement a) s = refl
+    closed (exprs.Negate a) s = refl
+    closed (exprs.Two operator a b) s = refl
+    closed (exprs.Choose c a b) s = refl
+
+    -- nor is a use refused
+    unrefused : (e : ExprTree) → expression_in (sections_at d o) ≡ Some e → expression_type (apart known.traits) known.types d o (Some e) ≡ Some (as_type (type_of known.types d o [] e))
     unrefused e is =
-        unless (rests_on_refused (apart known.traits) d o e) (as_type (type_of known.types d o [] e))
-        (uses_fit d known uses_free (apart known.traits) (λ i f. off_right (known.typeless i) (is_apart (known.traits i)) f) o e (expression_stand d o e is))
+        unless (rests_on_open (apart known.traits) known.types d o e) None (Some (cond (rests_on_refused (apart known.traits) d o e) types.Refused (as_type (type_of known.types d o [] e))))
+        (rests_on_none d o (is_open (apart known.traits) known.types d o) closed e (expression_stand d o e is))
+        ∙ ap (λ (t : TypeOf). Some t) (unless (rests_on_refused (apart known.traits) d o e) types.Refused (as_type (type_of known.types d o [] e))
+        (uses_fit d known uses_free (apart known.traits) (λ i f. off_right (known.typeless i) (is_apart (known.traits i)) f) o e (expression_stand d o e is)))
 
     -- an operation of which each declared name has a type
     pub operation_known : o < length d.operations → IsKnown (known.types o)
     operation_known h = subst IsKnown (sym (operation_value o h)) (by (expression_in (sections_at d o)) refl)
       where
         by : (r : Option ExprTree) → expression_in (sections_at d o) ≡ r → IsKnown (expression_type (apart known.traits) known.types d o r)
-        by None is = (types.NoType, refl)
-        by (Some e) is = let t = expression_typed regions.Expression [] e (expression_stand d o e is) in (types.Typed t.0, unrefused e is ∙ ap as_type t.1)
+        by None is = (types.NoType, refl, λ e. absurd (cc e))
+        by (Some e) is = let t = expression_typed regions.Expression [] e (expression_stand d o e is) in (types.Typed t.0, unrefused e is ∙ to_type t.0 (type_of known.types d o [] e) t.1, λ h. absurd (cc h))
 
   -- ---- going up along the ranks
 
   module _ (ranks : Ranks d) where
     pub all_declared : (o : ℕ) (n : List ℕ) (i : ℕ) → declared_at d o n ≡ Some i → IsKnown (known.types (entry_node d i))
     all_declared o n i at =
-        all_settled d known names stand uses_free fact steady known.types kinds.types operation_known (λ c some each. choice_known d (apart known.traits) known.types c some each) ranks o n i at
+        all_settled d known names stand uses_free fact steady known.types kinds.types IsFit (λ i. label_fits (sections_at d (owner_at d i)) (entry_name_at d i)) (λ i t k. k) types_stand operation_known (λ c some each. choice_known d (apart known.traits) known.types c some each) ranks o n i at
 
     pub operation_typed : (o : ℕ) (e : ExprTree) → expression_in (sections_at d o) ≡ Some e → (s : Shape) × (type_of known.types d o [] e ≡ Some s) × (known.types o ≡ Some (types.Typed s))
     operation_typed o e is =
         let t = expression_typed o (all_declared o) regions.Expression [] e (expression_stand d o e is) in
         let k = expression_number (sections_at d o) e is in
         let h = has_section d o k.0 (trees.Expression e) k.1 in
-        (t.0, t.1, operation_value o (slice_get_within d.operations o h.operation h.is) ∙ ap (expression_type (apart known.traits) known.types d o) is ∙ unrefused o (all_declared o) e is ∙ ap as_type t.1)
+        (t.0, t.1, operation_value o (slice_get_within d.operations o h.operation h.is) ∙ ap (expression_type (apart known.traits) known.types d o) is ∙ unrefused o (all_declared o) e is ∙ to_type t.0 (type_of known.types d o [] e) t.1)
 
   -- ---- a type comes from all that a name may mean
 

@@ -13,7 +13,7 @@ use Rattle.lisa_tree.specs.declared.declared.Meaning.TheVariants as meanings
 use Rattle.lisa_tree.specs.Resources.{stage_at, is_pipeline}
 use Rattle.lisa_tree.specs.Operations.{name_at, own_stage, is_root}
 use Rattle.lisa_tree.specs.Meanings.{meaning}
-use Rattle.description_types.specs.Refused.{may_input, are_apart, meant_refused, is_refused, two_refused, rests_on_refused}
+use Rattle.description_types.specs.Refused.{may_input, are_apart, meant_refused, is_refused, two_rest, rests_on, rests_on_refused}
 use Rattle.description_types.specs.Tables.{Known}
 use Rattle.kind_checks.specs.Uses.{tells_decoded, meant_misread, is_misread}
 use Rattle.kind_checks.specs.WrongKinds.{wrong_kind, faulty, boundary_name}
@@ -21,7 +21,7 @@ use Rattle.lisa_machine.specs.Freedom.{IsFree, AllStand}
 use Rattle.lisa_machine.proofs.Among.{free_place, among_left, among_right}
 use Rattle.lisa_machine.proofs.Decoding.{no_name, is_right}
 
-neither : (operator : Operator) (a b : Bool) → a ≡ false → b ≡ false → two_refused operator a b ≡ false
+neither : (operator : Operator) (a b : Bool) → a ≡ false → b ≡ false → two_rest operator a b ≡ false
 neither operators.Left a b e f = e
 neither operators.Right a b e f = e
 neither operators.Add a b e f = ap₂ (λ (x y : Bool). x || y) e f
@@ -31,6 +31,28 @@ neither operators.And a b e f = ap₂ (λ (x y : Bool). x || y) e f
 neither operators.Or a b e f = ap₂ (λ (x y : Bool). x || y) e f
 neither operators.Xor a b e f = ap₂ (λ (x y : Bool). x || y) e f
 neither _ a b e f = refl
+
+-- what holds of no expression whose names stand isn't rested on
+module _ (d : DescriptionTree) (o : ℕ) (holds : ExprTree → Bool) (none : (e : ExprTree) → AllStand d (uses o regions.Expression [] e) → holds e ≡ false) where
+  pub rests_on_none : (e : ExprTree) → AllStand d (uses o regions.Expression [] e) → rests_on holds e ≡ false
+  rests_on_none (exprs.Complement a) s = rests_on_none a s
+  rests_on_none (exprs.Two operator a b) s =
+      neither operator _ _
+      (rests_on_none a (λ x h. s x (among_left x (uses o regions.Expression [] a) (uses o regions.Expression [] b) h)))
+      (rests_on_none b (λ x h. s x (among_right x (uses o regions.Expression [] a) (uses o regions.Expression [] b) h)))
+  rests_on_none (exprs.Choose c a b) s =
+      ap₂ (λ (x y : Bool). x || y)
+      (rests_on_none a (λ x h. s x (among_right x (uses o regions.Expression [] c) (uses o regions.Expression [] a ++ uses o regions.Expression [] b) (among_left x (uses o regions.Expression [] a) (uses o regions.Expression [] b) h))))
+      (rests_on_none b (λ x h. s x (among_right x (uses o regions.Expression [] c) (uses o regions.Expression [] a ++ uses o regions.Expression [] b) (among_right x (uses o regions.Expression [] a) (uses o regions.Expression [] b) h))))
+  rests_on_none (exprs.Named n) s = none (exprs.Named n) s
+  rests_on_none (exprs.Input field) s = none (exprs.Input field) s
+  rests_on_none (exprs.Output field) s = none (exprs.Output field) s
+  rests_on_none (exprs.Boundary pipe before after field) s = none (exprs.Boundary pipe before after field) s
+  rests_on_none exprs.Decoded s = none exprs.Decoded s
+  rests_on_none (exprs.Number v base) s = none (exprs.Number v base) s
+  rests_on_none (exprs.Element n index) s = none (exprs.Element n index) s
+  rests_on_none (exprs.Cast shape a) s = none (exprs.Cast shape a) s
+  rests_on_none (exprs.Negate a) s = none (exprs.Negate a) s
 
 -- a boundary of which no name is wrong is one
 bounds : (pipe field : List ℕ) (is apart : Bool) → cond is (faulty apart field) (Some pipe) ≡ None → (not is || apart) ≡ false
@@ -62,26 +84,9 @@ module _ (d : DescriptionTree) (known : Known) (uses_free : IsFree (wrong_kind k
   use_fits (exprs.Choose c a b) s = refl
 
   pub uses_fit : (e : ExprTree) → AllStand d (uses o regions.Expression [] e) → rests_on_refused unfit d o e ≡ false
-  uses_fit (exprs.Complement a) s = uses_fit a s
-  uses_fit (exprs.Two operator a b) s =
-      neither operator _ _
-      (uses_fit a (λ x h. s x (among_left x (uses o regions.Expression [] a) (uses o regions.Expression [] b) h)))
-      (uses_fit b (λ x h. s x (among_right x (uses o regions.Expression [] a) (uses o regions.Expression [] b) h)))
-  uses_fit (exprs.Choose c a b) s =
-      ap₂ (λ (x y : Bool). x || y)
-      (uses_fit a (λ x h. s x (among_right x (uses o regions.Expression [] c) (uses o regions.Expression [] a ++ uses o regions.Expression [] b) (among_left x (uses o regions.Expression [] a) (uses o regions.Expression [] b) h))))
-      (uses_fit b (λ x h. s x (among_right x (uses o regions.Expression [] c) (uses o regions.Expression [] a ++ uses o regions.Expression [] b) (among_right x (uses o regions.Expression [] a) (uses o regions.Expression [] b) h))))
-  uses_fit (exprs.Named n) s = use_fits (exprs.Named n) s
-  uses_fit (exprs.Input field) s = use_fits (exprs.Input field) s
-  uses_fit (exprs.Output field) s = use_fits (exprs.Output field) s
-  uses_fit (exprs.Boundary pipe before after field) s = use_fits (exprs.Boundary pipe before after field) s
-  uses_fit exprs.Decoded s = use_fits exprs.Decoded s
-  uses_fit (exprs.Number v base) s = refl
-  uses_fit (exprs.Element n index) s = refl
-  uses_fit (exprs.Cast shape a) s = refl
-  uses_fit (exprs.Negate a) s = refl
+  uses_fit = rests_on_none d o (is_refused unfit d o) use_fits
 
--- what isn't refused is as it is
-pub unless : {T : Type 0} (refused : Bool) (x : Option T) → refused ≡ false → cond refused None x ≡ x
-unless true x e = absurd (cc e)
-unless false x e = refl
+-- what isn't so is as it is
+pub unless : {T : Type 0} (so : Bool) (own x : T) → so ≡ false → cond so own x ≡ x
+unless true own x e = absurd (cc e)
+unless false own x e = refl

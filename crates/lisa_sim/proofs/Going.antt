@@ -1,6 +1,7 @@
 -- A machine that goes on.
 use Rattle.std.proofs.Common.{◌≡◌, ◌<◌, ◌≤◌, ℕ, List, [], ◌∷◌, ◌++◌, Some, All, length, map, sym, ap, ◌∙◌, subst, arith}
 use Rattle.std.specs.Prelude.{slice_get}
+use Rattle.std.proofs.lemmas.List.Sums.{fold-append}
 use Rattle.lisa_tree.specs.declared.descriptions.Description.{Description}
 use Rattle.lisa_tree.specs.Descriptions.{DescriptionTree}
 use Rattle.lisa_engine.specs.Memory.{Memory}
@@ -17,19 +18,22 @@ use Rattle.item_layouts.specs.Layouts.{HasPlace, item_places}
 use Rattle.item_layouts.proofs.Listed.{listed}
 use Rattle.activation_trees.specs.Unfolding.{occurrences}
 use Rattle.pipeline_time.specs.Bits.{shown}
-use Rattle.pipeline_time.specs.States.{after}
+use Rattle.pipeline_time.specs.States.{State as Past, log_of, edge_of, next, first_state, after}
 use Rattle.lisa_activation.specs.declared.kept.Queues.{Queues}
+use Rattle.pipeline_runs.specs.declared.seen.Seen.{Seen as Sight}
 use Rattle.pipeline_runs.specs.Pipelines.{ShowsHardware}
+use Rattle.pipeline_runs.specs.Seeing.{IsSeen}
 use Rattle.lisa_meaning.specs.Moments.{Contents}
 use Rattle.lisa_meaning.specs.Cores.{core_of}
-use Rattle.lisa_meaning.specs.States.{layout_of, after_edges, state_of}
+use Rattle.lisa_meaning.specs.States.{first_contents, layout_of, after_edges, state_of}
 use Rattle.lisa_meaning.specs.Showing.{EdgesHaveItems, ItemsShowAll}
 use Rattle.pipeline_states.specs.Showing.{state_in, IsReached}
-use Rattle.pipeline_states.specs.Hardware.{EdgesAreShown, IsOneEdgeOn}
+use Rattle.pipeline_states.specs.Hardware.{AllIsShown, EdgesAreShown, IsOneEdgeOn}
 use Rattle.pipeline_states.proofs.States.{state_same}
 use Rattle.scene_paths.specs.Lookups.{tree_of}
 use Rattle.lisa_sim.specs.Bodies.{Seen, Kept, kept_of, begun_of, lasting_of}
 use Rattle.lisa_sim.specs.Runnings.{CanRun, IsBefore}
+use Rattle.lisa_sim.specs.Seeing.{IsLastSeen}
 
 -- ---- what a pipeline shows
 
@@ -76,6 +80,23 @@ module _ (d : DescriptionTree) (image : List Memory) (runs : CanRun d image) (ha
   leads_on places are entries same =
       ap (λ (ps : List ItemPlace). state_in ps memory' queues' words') are
       ∙ one_edge_on.states entries (ap (λ (ps : List ItemPlace). state_in ps memory queues words) (sym are) ∙ same)
+
+-- what was seen of an edge is what its state's journal has last
+pub last_seen : (d : DescriptionTree) (image : List Memory) (runs : CanRun d image) (have : EdgesHaveItems d) (all : ItemsShowAll d) (shows_all : AllIsShown d)
+    (memory : Contents) (queues : Queues) (words pins : List ℕ) (reached : IsReached d image memory queues words) (seen : Sight)
+    → ((first : Contents) (entries : List (List ℕ)) → ShowsHardware memory queues words (shown (core_of d) (after (core_of d) first entries)) → IsSeen (core_of d) (log_of (core_of d) (edge_of (core_of d) pins (after (core_of d) first entries))) seen)
+    → (places : List ItemPlace) → places ≡ item_places (layout_of d) → (entries : List (List ℕ)) → state_in places memory queues words ≡ state_of d image entries → IsLastSeen d image (entries ++ pins ∷ []) seen
+last_seen d image runs have all shows_all memory queues words pins reached seen told places are entries same =
+    let core = core_of d in
+    let first = first_contents d image in
+    let state = after core first entries in
+    record {
+      last = log_of core (edge_of core pins state);
+      earlier = state.past;
+      journal = ap (λ (s : Past Contents). s.past) (fold-append (next core) (first_state core first) entries (pins ∷ []));
+      is_seen = told first entries
+          (shows_all image memory queues words entries runs.few runs.rules runs.found have all reached (ap (λ (ps : List ItemPlace). state_in ps memory queues words) (sym are) ∙ same));
+    }
 
 -- ---- what an edge keeps
 

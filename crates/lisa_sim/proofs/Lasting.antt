@@ -1,11 +1,13 @@
 -- What an edge over a store keeps.
-use Rattle.std.proofs.Common.{◌≡◌, List, [], ap, ◌∙◌}
+use Rattle.std.proofs.Common.{◌≡◌, ◌≤◌, ◌+◌, List, [], ap, sym, subst, ◌∙◌, arith}
 use Rattle.lisa_tree.specs.declared.descriptions.Description.{Description}
 use Rattle.lisa_engine.specs.Touches.{put_back}
 use Rattle.lisa_engine.specs.declared.parts.Touch.{Touch}
 use Rattle.lisa_meaning.specs.Moments.{Contents}
 use Rattle.moment_stores.specs.declared.store.Store.{Store}
-use Rattle.moment_stores.specs.Stores.{image_of, memory_of, cells_before, touches_of, KeepsMachine, KeepsPlace}
+use Rattle.scene_paths.specs.Lookups.{tree_of}
+use Rattle.behavior_runs.specs.Rooms.{room_for}
+use Rattle.moment_stores.specs.Stores.{description_of, local_count, local_room, image_of, memory_of, cells_before, touches_of, KeepsMachine, KeepsPlace}
 use Rattle.lisa_sim.specs.Bodies.{Kept}
 
 abbrev pub kept_in : Description → Store → Kept
@@ -22,3 +24,17 @@ begun_same d old new keeps none memory =
 
 pub kept_same : (d : Description) (old new : Store) → KeepsPlace old new → kept_in d new ≡ kept_in d old
 kept_same d old new keeps = λ i. record { described = d; image = keeps.machine.image i; before = keeps.before i }
+
+pub kept_still : (d e : Description) (old new : Store) → KeepsPlace old new → e ≡ d → kept_in e new ≡ kept_in d old
+kept_still d e old new keeps same = λ i. record { described = same i; image = keeps.machine.image i; before = keeps.before i }
+
+-- a store is of a description's machine, and has room for the locals of its behaviours
+abbrev pub Fits : Description → Store → Type 0
+Fits d store = (description_of store ≡ tree_of d) × (local_count store + room_for (tree_of d) ≤ local_room store)
+
+pub fits_still : (d e : Description) (old new : Store) → KeepsPlace old new → local_count new ≡ local_count old → e ≡ d → Fits d old → Fits e new
+fits_still d e old new keeps count same fits =
+    let room = keeps.machine.room in
+    let has = fits.1 in
+    let still : Fits d new = (keeps.machine.description ∙ fits.0, omega (arith, count, room, has)) in
+    subst (λ (x : Description). Fits x new) (sym same) still

@@ -1,4 +1,3 @@
-pub mod Marks
 pub mod Lasting
 pub mod Puttings
 pub mod Holds

@@ -1,3 +1,5 @@
 pub mod Bodies
 pub mod Holding
 pub mod Runnings
+pub mod Seeing
+pub mod Simulators

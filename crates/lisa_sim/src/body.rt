@@ -16,13 +16,13 @@ use crate::puts::put_items;
 use item_layouts::ItemPlace;
 use lisa_engine::Touch;
 use moment_stores::Store;
-use scene_paths::Described;
+use occurrence_choices::Chooser;
 use std::marker::Model;
 
-/// A description, and a store of its machine.
+/// A description with what its forms choose, and a store of its machine.
 #[derive(Drop)]
 pub(crate) struct Body<'a> {
-    pub(crate) described: Described<'a>,
+    pub(crate) chooser: Chooser<'a>,
     pub(crate) store: Store<'a>,
 }
 
@@ -41,9 +41,9 @@ impl<'a> Model for Body<'a> {
 
     ghost coded = { Prim.hlevel (codes, act.the_row.coded, expression.the_row.coded, statement.the_row.coded) };
 
-    ghost view = { λ b. record { described = b.described; image = image_of b.store; moment = moment_of b.store; touches = touches_of b.store } };
+    ghost view = { λ b. record { described = b.chooser; image = image_of b.store; moment = moment_of b.store; touches = touches_of b.store } };
 
-    ghost invariant = { λ b. (description_of b.store ≡ tree_of b.described) × (local_count b.store + room_for (tree_of b.described) ≤ local_room b.store) };
+    ghost invariant = { λ b. (description_of b.store ≡ tree_of b.chooser) × (local_count b.store + room_for (tree_of b.chooser) ≤ local_room b.store) };
 }
 
 impl<'a> Body<'a> {

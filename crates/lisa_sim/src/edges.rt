@@ -1,21 +1,18 @@
 //! What operations do in an edge, over a store.
 
-ghost use Rattle.std.specs.Prelude.{◌≡◌, ◌<◌, ◌||◌, ℕ, nat_eq, suc};
+ghost use Rattle.std.specs.Prelude.{◌≡◌, ◌<◌, ◌≤◌, ◌+◌, ℕ, suc};
 ghost use Rattle.activation_bits.specs.Members.{has};
 ghost use Rattle.pipeline_time.specs.Edges.{is_held, is_flushed};
-ghost use Rattle.moment_stores.specs.Stores.{moment_of};
+ghost use Rattle.lisa_meaning.specs.Cores.{behave};
+ghost use Rattle.moment_stores.specs.Stores.{description_of, moment_of, local_count, local_room, Keeps};
+ghost use Rattle.scene_paths.specs.Lookups.{tree_of};
+ghost use Rattle.behavior_runs.specs.Rooms.{room_for};
 
 use crate::body::Body;
 use behavior_runs::{behave, fetch, holds};
 use moment_stores::Store;
-use pipeline_runs::Behaves;
-
-fn with_stage(stages: u8, stage: u32) -> u8
-    requires { stage < 8 }
-    ensures { (other : ℕ) → has result other ≡ (has stages other || nat_eq other stage) }
-{
-    stages | (1 << stage)
-}
+use occurrence_choices::Chooser;
+use pipeline_runs::{Behaves, with_stage};
 
 // The stages that are held.
 fn held_stages(store: &Store<'_>) -> u8
@@ -41,6 +38,19 @@ fn flushed_stages(store: &Store<'_>) -> u8
         }
     }
     stages
+}
+
+// Sees a word, and runs the BEHAVIOR of an occurrence with it.
+fn see_and_behave(chooser: &mut Chooser<'_>, number: u32, word: u64, store: &mut Store<'_>)
+    requires description { description_of store.old ≡ tree_of chooser.old }
+    requires room { local_count store.old + room_for (tree_of chooser.old) ≤ local_room store.old }
+    ensures moment { moment_of store.new ≡ behave (tree_of chooser.old) number word (moment_of store.old) }
+    ensures keeps { Keeps store.old store.new }
+    ensures count { local_count store.new ≡ local_count store.old }
+    ensures chooser { chooser.new ≡ chooser.old }
+{
+    chooser.see(word);
+    behave(chooser.described(), number, word, store);
 }
 
 impl<'a> Behaves for Body<'a> {
@@ -75,7 +85,7 @@ impl<'a> Behaves for Body<'a> {
     }
 
     fn behave(&mut self, number: u32, word: u64) {
-        behave(&self.described, number, word, &mut self.store);
+        see_and_behave(&mut self.chooser, number, word, &mut self.store);
     }
 
     fn close(&mut self) {
@@ -83,19 +93,19 @@ impl<'a> Behaves for Body<'a> {
     }
 
     fn holds(&self, number: u32, test: u32, word: u64) -> bool {
-        holds(&self.described, number, test, word, &self.store)
+        holds(self.chooser.described(), number, test, word, &self.store)
     }
 
     fn chooses(&self, number: u32, word: u64) -> bool {
-        self.described.chooses(number, word)
+        self.chooser.chooses(number, word)
     }
 
     fn is_root(&self, number: u32) -> bool {
-        self.described.is_root_at(number)
+        self.chooser.described().is_root_at(number)
     }
 
     fn fetch(&self) -> u64 {
-        fetch(&self.described, &self.store)
+        fetch(self.chooser.described(), &self.store)
     }
 
     fn held(&self) -> u8 {
@@ -107,6 +117,6 @@ impl<'a> Behaves for Body<'a> {
     }
 
     fn decodes(&self, word: u64) -> bool {
-        self.described.decodes(word)
+        self.chooser.decodes(word)
     }
 }

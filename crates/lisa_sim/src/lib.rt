@@ -9,4 +9,5 @@ mod runner;
 mod simulator;
 mod states;
 
+pub use pipeline_runs::Seen;
 pub use simulator::Simulator;

@@ -29,8 +29,8 @@ use lisa_forms::{Coding, Forms};
 use lisa_machine::Machine;
 use lisa_words::NoMemory;
 use moment_stores::Store;
+use occurrence_choices::Chooser;
 use pipeline_runs::{Pipeline, Plan};
-use scene_paths::Described;
 use state_items::make_places;
 use std::alloc::Global;
 
@@ -39,7 +39,7 @@ use std::alloc::Global;
 pub(crate) struct Parts<'a> {
     pub(crate) plan: Plan,
     pub(crate) places: Vec<ItemPlace>,
-    pub(crate) described: Described<'a>,
+    pub(crate) chooser: Chooser<'a>,
     /// For how many locals behaviours need room.
     pub(crate) room: usize,
 }
@@ -65,17 +65,17 @@ pub(crate) fn make_parts<'a>(
     requires few { length (stages (description_tree machine.now)) ≤ 8 }
     ensures plan { IfOk result (λ parts. IsPlanOf (core_of (description_tree machine.now)) parts.plan) }
     ensures places { IfOk result (λ parts. parts.places.items ≡ item_places (layout_of (description_tree machine.now))) }
-    ensures tree { IfOk result (λ parts. tree_of parts.described ≡ description_tree machine.now) }
+    ensures tree { IfOk result (λ parts. tree_of parts.chooser ≡ description_tree machine.now) }
     ensures room { IfOk result (λ parts. parts.room ≡ room_for (description_tree machine.now)) }
 {
     let plan = plan_of(alloc, machine, forms)?;
     let places = make_places(alloc, machine, forms)?;
-    let described = Described::make(alloc, machine, forms, coding)?;
-    let room = count_locals(machine, described.levels())?;
+    let chooser = Chooser::make(alloc, machine, forms, coding)?;
+    let room = count_locals(machine, chooser.described().levels())?;
     Ok(Parts {
         plan,
         places,
-        described,
+        chooser,
         room,
     })
 }
@@ -105,11 +105,11 @@ pub(crate) fn make_pipeline<'a>(
     machine: &'a Machine,
     image: &'a Image,
     plan: &Plan,
-    described: Described<'a>,
+    chooser: Chooser<'a>,
     room: usize,
 ) -> Result<Pipeline<Body<'a>>, MakeFault>
     requires image { IsImage image.now }
-    requires tree { tree_of described ≡ description_tree machine.now }
+    requires tree { tree_of chooser ≡ description_tree machine.now }
     requires room { room ≡ room_for (description_tree machine.now) }
     requires sound { IsSound (core_of (description_tree machine.now)) }
     requires planned { IsPlanOf (core_of (description_tree machine.now)) plan.now }
@@ -122,7 +122,7 @@ pub(crate) fn make_pipeline<'a>(
     ensures missing { (name : List ℕ) → result ≡ Err (MakeFault.NoSuchMemory name) → missing_memory (arrays_of (description_tree machine.now)) image.now ≡ Some name }
 {
     let store = make_store(alloc, machine, image, room)?;
-    let body = Body { described, store };
+    let body = Body { chooser, store };
     let pipeline = Pipeline::make(alloc, plan, body)?;
     Ok(pipeline)
 }

@@ -13,6 +13,7 @@ ghost use Rattle.lisa_forms.specs.Codings.{IsCodingOf};
 ghost use Rattle.scene_paths.specs.Lookups.{tree_of};
 ghost use Rattle.lisa_meaning.specs.States.{state_of};
 ghost use Rattle.lisa_sim.specs.Runnings.{IsBefore};
+ghost use Rattle.lisa_sim.specs.Seeing.{IsLastSeen};
 
 use crate::body::Body;
 use crate::parts::{Parts, make_parts, make_pipeline};
@@ -25,8 +26,8 @@ use lisa_machine::Machine;
 use lisa_meaning::laws::{
     cores_are_sound, edges_have_items, items_show_all, trees_are_occurrences,
 };
-use pipeline_runs::{Pipeline, Plan};
-use pipeline_states::edges_are_shown;
+use pipeline_runs::{Pipeline, Plan, Seen};
+use pipeline_states::{all_is_shown, edges_are_shown};
 use std::alloc::Global;
 use std::marker::Model;
 
@@ -86,10 +87,10 @@ impl<'a> Runner<'a> {
         let Parts {
             plan,
             places,
-            described,
+            chooser,
             room,
         } = parts;
-        let pipeline = make_pipeline(alloc, machine, image, &plan, described, room)?;
+        let pipeline = make_pipeline(alloc, machine, image, &plan, chooser, room)?;
         Ok(Runner {
             plan,
             places,
@@ -152,6 +153,24 @@ impl<'a> Runner<'a> {
         edges_are_shown();
         self.pipeline.run_edge(&self.plan, pins);
         let _touches = self.pipeline.edge.store.touches();
+    }
+
+    // Makes an edge with these values of the pins. Answers what each stage did in it.
+    pub(crate) fn edge_seen(&mut self, pins: &[u64]) -> Seen
+        requires { IsFitting (pins_of (tree_of self.old.described)) pins.now }
+        ensures seen { (l : List (List ℕ)) → self.old.present ≡ state_of (tree_of self.old.described) self.old.image l → IsLastSeen (tree_of self.old.described) self.old.image (l ++ pins.now ∷ []) result }
+        ensures leads { (l : List (List ℕ)) → self.old.present ≡ state_of (tree_of self.old.described) self.old.image l → self.new.present ≡ state_of (tree_of self.old.described) self.old.image (l ++ pins.now ∷ []) }
+        ensures touches { Tracks (arrays_of (tree_of self.old.described)) self.old.present.cells self.new.present.cells self.new.touches }
+        ensures described { self.new.described ≡ self.old.described }
+        ensures image { self.new.image ≡ self.old.image }
+    {
+        edges_have_items();
+        items_show_all();
+        all_is_shown();
+        edges_are_shown();
+        let seen = self.pipeline.run_edge_seen(&self.plan, pins);
+        let _touches = self.pipeline.edge.store.touches();
+        seen
     }
 
     // Goes to the state before any edge.

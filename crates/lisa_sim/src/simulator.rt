@@ -1,15 +1,17 @@
 //! The simulator of a description.
 
-ghost use Rattle.std.specs.Prelude.{◌≡◌, ℕ, List, [], Err, Some, None, IfOk, OnOk};
+ghost use Rattle.std.specs.Prelude.{◌≡◌, ℕ, List, [], ◌∷◌, ◌++◌, Err, Some, None, IfOk, OnOk};
 ghost use Rattle.lisa_tree.specs.Descriptions.{description_tree};
 ghost use Rattle.lisa_engine.specs.Images.{IsImage, missing_memory};
-ghost use Rattle.lisa_engine.specs.Shape.{IsShaped, HaveWidths, HaveDistinctNames};
+ghost use Rattle.lisa_engine.specs.Shape.{IsFitting, IsShaped, AreEntries, HaveWidths, HaveDistinctNames};
+ghost use Rattle.lisa_engine.specs.Touches.{Tracks};
 ghost use Rattle.machine_parts.specs.Parts.{arrays_of, pins_of};
 ghost use Rattle.lisa_forms.specs.Parts.{AreFormsOf};
 ghost use Rattle.lisa_forms.specs.Verdicts.{HasForms};
 ghost use Rattle.lisa_forms.specs.Codings.{IsCodingOf};
 ghost use Rattle.scene_paths.specs.Lookups.{tree_of};
 ghost use Rattle.lisa_meaning.specs.States.{state_of};
+ghost use Rattle.lisa_sim.specs.Seeing.{IsLastSeen};
 
 use crate::runner::Runner;
 use item_promises::{shown_names_differ, shown_widths_fit};
@@ -17,6 +19,7 @@ use lisa_engine::{ArrayItem, Engine, Image, Item, MakeFault, Touch};
 use lisa_forms::{Coding, Forms};
 use lisa_machine::Machine;
 use lisa_meaning::laws::states_are_shaped;
+use pipeline_runs::Seen;
 use std::alloc::Global;
 
 /// A description that is run edge by edge. Its items, arrays and pins are the description's.
@@ -34,6 +37,8 @@ pub struct Simulator<'a> {
 }
 
 impl<'a> Simulator<'a> {
+    ghost use Rattle.lisa_sim.specs.Simulators.{description_of, image_of};
+
     /// The simulator of a description after no edge. All the room that it needs is taken here.
     pub fn make(
         alloc: Global,
@@ -51,6 +56,8 @@ impl<'a> Simulator<'a> {
         ensures items { IfOk result (λ s. ⟦<Simulator<'a> as Engine>⟧.item_list s ≡ forms.now.items.items) }
         ensures arrays { IfOk result (λ s. ⟦<Simulator<'a> as Engine>⟧.array_list s ≡ arrays_of (description_tree machine.now)) }
         ensures pins { IfOk result (λ s. ⟦<Simulator<'a> as Engine>⟧.pin_list s ≡ pins_of (description_tree machine.now)) }
+        ensures description { IfOk result (λ s. description_of s ≡ description_tree machine.now) }
+        ensures image { IfOk result (λ s. image_of s ≡ image.now) }
         ensures found { OnOk result (missing_memory (arrays_of (description_tree machine.now)) image.now ≡ None) }
         ensures missing { (name : List ℕ) → result ≡ Err (MakeFault.NoSuchMemory name) → missing_memory (arrays_of (description_tree machine.now)) image.now ≡ Some name }
     {
@@ -64,6 +71,25 @@ impl<'a> Simulator<'a> {
             forms,
             runner,
         })
+    }
+
+    /// Makes an edge with these values of the pins, as `edge` does. Answers what each stage did in it.
+    pub fn edge_seen(&mut self, pins: &[u64]) -> Seen
+        requires { IsFitting (⟦<Simulator<'a> as Engine>⟧.pin_list self.old) pins.now }
+        ensures seen { (l : List (List ℕ)) → ⟦<Simulator<'a> as Engine>⟧.present self.old ≡ ⟦<Simulator<'a> as Engine>⟧.defined self.old l
+            → IsLastSeen (description_of self.old) (image_of self.old) (l ++ pins.now ∷ []) result }
+        ensures leads { (l : List (List ℕ)) → AreEntries (⟦<Simulator<'a> as Engine>⟧.pin_list self.old) l → ⟦<Simulator<'a> as Engine>⟧.present self.old ≡ ⟦<Simulator<'a> as Engine>⟧.defined self.old l
+            → ⟦<Simulator<'a> as Engine>⟧.present self.new ≡ ⟦<Simulator<'a> as Engine>⟧.defined self.new (l ++ pins.now ∷ []) }
+        ensures touches { Tracks (⟦<Simulator<'a> as Engine>⟧.array_list self.old) (⟦<Simulator<'a> as Engine>⟧.present self.old).cells (⟦<Simulator<'a> as Engine>⟧.present self.new).cells (⟦<Simulator<'a> as Engine>⟧.touch_list self.new) }
+        ensures defined { ⟦<Simulator<'a> as Engine>⟧.defined self.new ≡ ⟦<Simulator<'a> as Engine>⟧.defined self.old }
+        ensures items { ⟦<Simulator<'a> as Engine>⟧.item_list self.new ≡ ⟦<Simulator<'a> as Engine>⟧.item_list self.old }
+        ensures arrays { ⟦<Simulator<'a> as Engine>⟧.array_list self.new ≡ ⟦<Simulator<'a> as Engine>⟧.array_list self.old }
+        ensures pins { ⟦<Simulator<'a> as Engine>⟧.pin_list self.new ≡ ⟦<Simulator<'a> as Engine>⟧.pin_list self.old }
+        ensures description { description_of self.new ≡ description_of self.old }
+        ensures image { image_of self.new ≡ image_of self.old }
+    {
+        self.runner.reached();
+        self.runner.edge_seen(pins)
     }
 }
 

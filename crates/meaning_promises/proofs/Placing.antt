@@ -186,6 +186,7 @@ module _ (d : DescriptionTree) (s : IsSound d) where
   shape_known : (r : Option TypeOf) (t : Shape) → typed r ≡ Some t → r ≡ Some (types.Typed t)
   shape_known None t e = absurd (cc e)
   shape_known (Some types.NoType) t e = absurd (cc e)
+  shape_known (Some types.Refused) t e = absurd (cc e)
   shape_known (Some (types.Typed u)) t e = ap (λ (x : Shape). Some (types.Typed x)) (same_Some u t e)
 
   module _ (form : Option FormTree) (word : ℕ) where

@@ -189,6 +189,7 @@ module _ (d : DescriptionTree) (s : IsSound d) where
           of_type : (i : ℕ) → declared_at d here.operation n ≡ Some i → (r : Option TypeOf) → known (entry_node d i) ≡ r → IsTypedBy (typed r) (declared_value (Values a m) d (On (here ∷ above)) n (home d n (here ∷ above)))
           of_type i at None type = tt
           of_type i at (Some types.NoType) type = tt
+          of_type i at (Some types.Refused) type = tt
           of_type i at (Some (types.Typed t)) type = declared_read n stands no_local i at t type
 
           by : (x y : Option ℕ) → declared_at d here.operation n ≡ x → IsTypedBy (meant_type known d (meaning_of x y)) (meant_value (Values a m) d (On (here ∷ above)) m n (meaning_of x y))

@@ -5,7 +5,7 @@ use Rattle.step_program.specs.declared.expressions.TwoOp.{TwoOp}
 use Rattle.netlist_wires.specs.declared.keys.Flat.{Flat}
 use Rattle.netlist_wires.specs.declared.keys.Body.{Body}
 use Rattle.netlist_wires.specs.declared.keys.Key.{Key}
-use Rattle.netlist_wires.specs.declared.keys.Body.TheVariants.{Copied, Inverse, Load, Operate, Select}
+use Rattle.netlist_wires.specs.declared.keys.Body.TheVariants.{Copied, Lowest, Padded, Inverse, Load, Operate, Select}
 use Rattle.step_program.specs.contracts.expressions.TwoOpPartialEq.TheImpl as ops
 use Rattle.netlist_wires.specs.contracts.keys.FlatPartialEq.TheImpl as flats
 use Rattle.netlist_wires.specs.contracts.keys.BodyPartialEq.TheImpl as bodies
@@ -19,6 +19,12 @@ flat_same a b e = search rules
 
 pub body_same : (a b : Body) → bodies.eq-value.it a b ≡ true → a ≡ b
 body_same (Copied f) (Copied g) e = ap Copied (flat_same f g e)
+body_same (Lowest a f) (Lowest b g) e =
+    let x = and_parts _ _ e in
+    ap₂ {C = Body} (λ (a : ℕ) (f : Flat). Lowest a f) (eqb-true a b x.0) (flat_same f g x.1)
+body_same (Padded a f) (Padded b g) e =
+    let x = and_parts _ _ e in
+    ap₂ {C = Body} (λ (a : ℕ) (f : Flat). Padded a f) (eqb-true a b x.0) (flat_same f g x.1)
 body_same (Inverse f) (Inverse g) e = ap Inverse (flat_same f g e)
 body_same (Load a f) (Load b g) e =
     let x = and_parts _ _ e in

@@ -1,5 +1,5 @@
 -- Each key stands once, and so no two wires are alike.
-use Rattle.std.proofs.Common.{◌≡◌, ◌≢◌, ℕ, zero, suc, ◌^◌, ◌<◌, ◌≤◌, Bool, true, false, ◌&&◌, List, [], ◌∷◌, ◌++◌, length, get_or, refl, sym, ap, ap₂, ◌∙◌, subst, arith, nat_eq, nat_lt, ◌⊎◌, inl, inr, ⊎_elim}
+use Rattle.std.proofs.Common.{◌≡◌, ◌≢◌, ℕ, ◌-◌, zero, suc, ◌^◌, ◌<◌, ◌≤◌, Bool, true, false, ◌&&◌, List, [], ◌∷◌, ◌++◌, length, get_or, refl, sym, ap, ap₂, ◌∙◌, subst, arith, nat_eq, nat_lt, ◌⊎◌, inl, inr, ⊎_elim}
 use Rattle.std.specs.Prelude.{Option, Some, None, AllPairs, position, slice_index_or}
 use Rattle.std.specs.List.{slice_get, list_any, position_or_len}
 use Rattle.std.proofs.lemmas.Bool.{cond_both, false≢true}
@@ -24,14 +24,14 @@ use Rattle.step_program.specs.WellFormed.{IsWellFormed}
 use Rattle.netlist_wires.specs.declared.keys.Flat.{Flat}
 use Rattle.netlist_wires.specs.declared.keys.Flat.TheVariants.{Fixed, OfItem, OfPin, OfWire}
 use Rattle.netlist_wires.specs.declared.keys.Body.{Body}
-use Rattle.netlist_wires.specs.declared.keys.Body.TheVariants.{Copied, Inverse, Load, Operate, Select}
+use Rattle.netlist_wires.specs.declared.keys.Body.TheVariants.{Copied, Lowest, Padded, Inverse, Load, Operate, Select}
 use Rattle.netlist_wires.specs.declared.keys.Key.{Key}
 use Rattle.netlist_wires.specs.declared.keys.Write.{Write}
 use Rattle.netlist_wires.specs.Tables.{HasDistinctNames}
-use Rattle.netlist_wires.specs.Wiring.{item_name, pin_name, array_name, wire_name, operator_of, named, body_tree, Made, Find, shared, share, behind, load, Sym, nothing, refit, changed, settled, is_zero, keeps_right, keeps_left, combined_by, combined, lower, given_once, given, Going, aimed, gone, gone_all, begun_going, ended}
+use Rattle.netlist_wires.specs.Wiring.{item_name, pin_name, array_name, wire_name, operator_of, named, lowest, body_tree, Made, Find, shared, share, behind, load, Sym, nothing, refit, changed, settled, is_zero, keeps_right, keeps_left, combined_by, shifts_out, combined_unless, combined, lower, given_once, given, Going, aimed, gone, gone_all, begun_going, ended}
 use Rattle.netlist_wires.proofs.Members.{wire_nets}
 use Rattle.netlist_wires.proofs.Named.{item_names, item_at, array_at, wire_same, free_no_wire, items_apart, arrays_apart, pins_apart, items_no_pins, items_free, pins_free}
-use Rattle.netlist_wires.proofs.Growing.{IsBelow, IsBodyBelow, IsOrdered}
+use Rattle.netlist_wires.proofs.Growing.{IsNamed, IsBelow, IsBodyBelow, IsOrdered}
 use Rattle.netlist_build.specs.Symbolic.{first}
 use Rattle.netlist_build.proofs.Finds.{any_or_len}
 use Rattle.step_program.specs.contracts.expressions.TwoOpPartialEq.TheImpl as two_impl
@@ -67,6 +67,8 @@ flat_equal (OfWire k) = same_number k
 
 body_equal : (body : Body) → body_impl.eq-value.it body body ≡ true
 body_equal (Copied f) = flat_equal f
+body_equal (Lowest h f) = both_true (same_number h) (flat_equal f)
+body_equal (Padded z f) = both_true (same_number z) (flat_equal f)
 body_equal (Inverse f) = flat_equal f
 body_equal (Load a f) = both_true (same_number a) (flat_equal f)
 body_equal (Operate op f g) = both_true (op_equal op) (both_true (flat_equal f) (flat_equal g))
@@ -131,17 +133,17 @@ module _ (find : Find) (finds : Finds find) where
   load_once p a (write ∷ ws) x keys once =
       behind_once (array_width p a) (nat_eq write.array a) write x (load find p a ws x keys) (load_once p a ws x keys once)
 
-  refit_once : (same : Bool) (to : ℕ) (f : Flat) (keys : List Key) → IsOnce keys → IsOnce (refit find same to f keys).keys
-  refit_once true to f keys once = once
-  refit_once false to (Fixed w v) keys once = once
-  refit_once false to (OfItem i) keys once = share_once to (Copied (OfItem i)) keys once
-  refit_once false to (OfPin i) keys once = share_once to (Copied (OfPin i)) keys once
-  refit_once false to (OfWire k) keys once = share_once to (Copied (OfWire k)) keys once
+  refit_once : (same : Bool) (to : ℕ) (body : Body) (f : Flat) (keys : List Key) → IsOnce keys → IsOnce (refit find same to body f keys).keys
+  refit_once true to body f keys once = once
+  refit_once false to body (Fixed w v) keys once = once
+  refit_once false to body (OfItem i) keys once = share_once to body keys once
+  refit_once false to body (OfPin i) keys once = share_once to body keys once
+  refit_once false to body (OfWire k) keys once = share_once to body keys once
 
   changed_once : (one : OneOp) (w : ℕ) (f : Flat) (keys : List Key) → IsOnce keys → IsOnce (changed find one w f keys).keys
   changed_once ones.Not w f keys once = share_once w (Inverse f) keys once
-  changed_once (ones.Cut narrow) w f keys once = refit_once (nat_eq narrow w) narrow f keys once
-  changed_once (ones.Widen wide) w f keys once = refit_once (nat_eq wide w) wide f keys once
+  changed_once (ones.Cut narrow) w f keys once = refit_once (nat_eq narrow w) narrow (Lowest (narrow - 1) f) f keys once
+  changed_once (ones.Widen wide) w f keys once = refit_once (nat_eq wide w) wide (Padded (wide - w) f) f keys once
 
   settled_once : (w : ℕ) (f : Flat) (keys : List Key) → IsOnce keys → IsOnce (settled find w f keys).keys
   settled_once w (Fixed v b) keys once = once
@@ -154,8 +156,12 @@ module _ (find : Find) (finds : Finds find) where
   combined_by_once op w false true f g keys once = settled_once w f keys once
   combined_by_once op w false false f g keys once = share_once w (Operate op f g) keys once
 
+  combined_unless_once : (op : TwoOp) (w : ℕ) (out : Bool) (f g : Flat) (keys : List Key) → IsOnce keys → IsOnce (combined_unless find op w out f g keys).keys
+  combined_unless_once op w true f g keys once = once
+  combined_unless_once op w false f g keys once = combined_by_once op w (keeps_right op && is_zero f) (keeps_left op && is_zero g) f g keys once
+
   combined_once : (op : TwoOp) (w : ℕ) (f g : Flat) (keys : List Key) → IsOnce keys → IsOnce (combined find op w f g keys).keys
-  combined_once op w f g keys once = combined_by_once op w (keeps_right op && is_zero f) (keeps_left op && is_zero g) f g keys once
+  combined_once op w f g keys once = combined_unless_once op w (shifts_out op w g) f g keys once
 
   lower_once : (p : Program) (s : Sym) (e : Expr) (keys : List Key) → IsOnce keys → IsOnce (lower find p s e keys).keys
   lower_once p s (Const w v) keys once = once
@@ -303,8 +309,67 @@ module _ (p : Program) (formed : IsWellFormed p) (distinct : HasDistinctNames p)
       let same : wire_name j ≡ wire_name k = cc in ap OfWire (wire_same j k (omega (arith, ln, b)) (omega (arith, lm, c)) same)
   flat_same n m ln lm _ _ b c e = absurd (cc)
 
+  -- bits of an operand are the bits of no other one, and nothing else
+  bits_parts : {a b : List ℕ} {h g : ℕ} → trees.Bits a h 0 ≡ trees.Bits b g 0 → (trees.Named a ≡ trees.Named b) × (h ≡ g)
+  bits_parts e = (cc, cc)
+
+  lowest_parts : (h g : ℕ) (f k : Flat) → IsNamed f → IsNamed k → lowest p h f ≡ lowest p g k → (named p f ≡ named p k) × (h ≡ g)
+  lowest_parts h g (Fixed w v) k is other e = absurd is
+  lowest_parts h g (OfItem i) (Fixed w v) is other e = absurd other
+  lowest_parts h g (OfItem i) (OfItem j) is other e = bits_parts e
+  lowest_parts h g (OfItem i) (OfPin j) is other e = bits_parts e
+  lowest_parts h g (OfItem i) (OfWire j) is other e = bits_parts e
+  lowest_parts h g (OfPin i) (Fixed w v) is other e = absurd other
+  lowest_parts h g (OfPin i) (OfItem j) is other e = bits_parts e
+  lowest_parts h g (OfPin i) (OfPin j) is other e = bits_parts e
+  lowest_parts h g (OfPin i) (OfWire j) is other e = bits_parts e
+  lowest_parts h g (OfWire i) (Fixed w v) is other e = absurd other
+  lowest_parts h g (OfWire i) (OfItem j) is other e = bits_parts e
+  lowest_parts h g (OfWire i) (OfPin j) is other e = bits_parts e
+  lowest_parts h g (OfWire i) (OfWire j) is other e = bits_parts e
+
+  abbrev selects : VTree → ℕ
+  selects (trees.Bits name high low) = 1
+  selects _ = 0
+
+  lowest_selects : (h : ℕ) (f : Flat) → IsNamed f → selects (lowest p h f) ≡ 1
+  lowest_selects h (Fixed w v) is = absurd is
+  lowest_selects h (OfItem i) is = refl
+  lowest_selects h (OfPin i) is = refl
+  lowest_selects h (OfWire k) is = refl
+
+  named_selects : (f : Flat) → selects (named p f) ≡ 0
+  named_selects (Fixed w v) = refl
+  named_selects (OfItem i) = refl
+  named_selects (OfPin i) = refl
+  named_selects (OfWire k) = refl
+
+  no_select : (h : ℕ) (f : Flat) (e : VTree) → IsNamed f → selects e ≡ 0 → lowest p h f ≡ e → ⊥
+  no_select h f e is none same = absurd (omega (arith, lowest_selects h f is, ap selects same, none))
+
   body_same : (n m : ℕ) → n ≤ 2 ^ 64 → m ≤ 2 ^ 64 → (a b : Body) → IsBodyBelow p n a → IsBodyBelow p m b → body_tree p a ≡ body_tree p b → a ≡ b
   body_same n m ln lm (Copied f) (Copied g) b c e = ap Copied (flat_same n m ln lm f g b c e)
+  body_same n m ln lm (Lowest h f) (Lowest g k) b c e =
+      let r = lowest_parts h g f k b.1 c.1 e in
+      ap₂ {C = Body} (λ (h : ℕ) (f : Flat). Lowest h f) r.1 (flat_same n m ln lm f k b.2 c.2 r.0)
+  body_same n m ln lm (Lowest h f) (Copied g) b c e = absurd (no_select h f (named p g) b.1 (named_selects g) e)
+  body_same n m ln lm (Lowest h f) (Padded z g) b c e = absurd (no_select h f (body_tree p (Padded z g)) b.1 refl e)
+  body_same n m ln lm (Lowest h f) (Inverse g) b c e = absurd (no_select h f (body_tree p (Inverse g)) b.1 refl e)
+  body_same n m ln lm (Lowest h f) (Load a g) b c e = absurd (no_select h f (body_tree p (Load a g)) b.1 refl e)
+  body_same n m ln lm (Lowest h f) (Operate o g k) b c e = absurd (no_select h f (body_tree p (Operate o g k)) b.1 refl e)
+  body_same n m ln lm (Lowest h f) (Select g k l) b c e = absurd (no_select h f (body_tree p (Select g k l)) b.1 refl e)
+  body_same n m ln lm (Copied g) (Lowest h f) b c e = absurd (no_select h f (named p g) c.1 (named_selects g) (sym e))
+  body_same n m ln lm (Padded z g) (Lowest h f) b c e = absurd (no_select h f (body_tree p (Padded z g)) c.1 refl (sym e))
+  body_same n m ln lm (Inverse g) (Lowest h f) b c e = absurd (no_select h f (body_tree p (Inverse g)) c.1 refl (sym e))
+  body_same n m ln lm (Load a g) (Lowest h f) b c e = absurd (no_select h f (body_tree p (Load a g)) c.1 refl (sym e))
+  body_same n m ln lm (Operate o g k) (Lowest h f) b c e = absurd (no_select h f (body_tree p (Operate o g k)) c.1 refl (sym e))
+  body_same n m ln lm (Select g k l) (Lowest h f) b c e = absurd (no_select h f (body_tree p (Select g k l)) c.1 refl (sym e))
+  body_same n m ln lm (Padded z f) (Padded y g) b c e =
+      let zeros : z ≡ y = cc in
+      let same : named p f ≡ named p g = cc in
+      ap₂ {C = Body} (λ (z : ℕ) (f : Flat). Padded z f) zeros (flat_same n m ln lm f g b.1 c.1 same)
+  body_same n m ln lm (Copied f) (Padded z g) b c e = absurd (no_operand p f (body_tree p (Padded z g)) refl e)
+  body_same n m ln lm (Padded z g) (Copied f) b c e = absurd (no_operand p f (body_tree p (Padded z g)) refl (sym e))
   body_same n m ln lm (Copied f) (Inverse g) b c e = absurd (no_operand p f (body_tree p (Inverse g)) refl e)
   body_same n m ln lm (Copied f) (Load a g) b c e = absurd (no_operand p f (body_tree p (Load a g)) refl e)
   body_same n m ln lm (Copied f) (Operate o g h) b c e = absurd (no_operand p f (body_tree p (Operate o g h)) refl e)

@@ -10,7 +10,7 @@ use Rattle.step_program.specs.WellFormed.{IsWellFormed}
 use Rattle.netlist_wires.specs.declared.keys.Flat.{Flat}
 use Rattle.netlist_wires.specs.declared.keys.Flat.TheVariants.{Fixed, OfItem, OfPin, OfWire}
 use Rattle.netlist_wires.specs.declared.keys.Body.{Body}
-use Rattle.netlist_wires.specs.declared.keys.Body.TheVariants.{Copied, Inverse, Load, Operate, Select}
+use Rattle.netlist_wires.specs.declared.keys.Body.TheVariants.{Copied, Lowest, Padded, Inverse, Load, Operate, Select}
 use Rattle.netlist_wires.specs.declared.keys.Key.{Key}
 use Rattle.netlist_wires.specs.declared.keys.Write.{Write}
 use Rattle.netlist_wires.specs.Tables.{IsFind}
@@ -28,6 +28,8 @@ flat_word p n (OfWire k) b = tt
 
 body_words : (p : Program) (n : ℕ) (body : Body) → IsBodyBelow p n body → HasWords body
 body_words p n (Copied f) b = flat_word p n f b
+body_words p n (Lowest high f) b = flat_word p n f b.2
+body_words p n (Padded zeros f) b = (b.0, flat_word p n f b.1)
 body_words p n (Inverse f) b = flat_word p n f b
 body_words p n (Load a f) b = flat_word p n f b.1
 body_words p n (Operate op f g) b = (flat_word p n f b.0, flat_word p n g b.1)

@@ -7,7 +7,7 @@ use Rattle.step_program.specs.WellFormed.{IsWidth}
 use Rattle.netlist_wires.specs.declared.keys.Flat.{Flat}
 use Rattle.netlist_wires.specs.declared.keys.Flat.TheVariants.{Fixed}
 use Rattle.netlist_wires.specs.declared.keys.Body.{Body}
-use Rattle.netlist_wires.specs.declared.keys.Body.TheVariants.{Copied, Inverse, Load, Operate, Select}
+use Rattle.netlist_wires.specs.declared.keys.Body.TheVariants.{Copied, Lowest, Padded, Inverse, Load, Operate, Select}
 use Rattle.netlist_wires.specs.declared.keys.Key.{Key}
 use Rattle.netlist_wires.specs.declared.keys.Write.{Write}
 use Rattle.netlist_wires.specs.Wiring.{put_cell, reg_members, array_members, first_settings, wires_from, clock_name}
@@ -19,6 +19,8 @@ IsWord _ = Unit {0}
 
 abbrev pub HasWords : Body → Type 0
 HasWords (Copied f) = IsWord f
+HasWords (Lowest high f) = IsWord f
+HasWords (Padded zeros f) = IsWidth zeros × IsWord f
 HasWords (Inverse f) = IsWord f
 HasWords (Load array f) = IsWord f
 HasWords (Operate op f g) = IsWord f × IsWord g

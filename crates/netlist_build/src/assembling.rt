@@ -3,8 +3,8 @@ ghost use Rattle.std.specs.Prelude.{◌≡◌, ℕ, List, IfOk, OnOk, All, map, 
 ghost use Rattle.lisa_engine.specs.Shape.{IsFitting};
 ghost use Rattle.verilog_text.specs.Trees.{ActionTrees, vexpr_tree, member_tree, setting_tree, action_then};
 ghost use Rattle.step_program.specs.Programs.{program_tree};
-ghost use Rattle.step_program.specs.WellFormed.{IsDeclared};
-ghost use Rattle.netlist_wires.specs.Wiring.{operator_of, named, body_tree, wire_name, wires_from, set_items, put_cell, first_settings, clock_name, reg_members, array_members};
+ghost use Rattle.step_program.specs.WellFormed.{IsDeclared, IsWidth};
+ghost use Rattle.netlist_wires.specs.Wiring.{operator_of, named, lowest, padded, body_tree, wire_name, wires_from, set_items, put_cell, first_settings, clock_name, reg_members, array_members};
 ghost use Rattle.netlist_build.specs.Assembled.{IsWord, HasWords, IsWrite, actions_then, puts};
 
 use lisa_engine::{ArrayItem, Item};
@@ -73,6 +73,34 @@ fn operator_of(two: TwoOp) -> Operator
     }
 }
 
+// The bits of an operand from one down.
+fn lowest(alloc: Global, program: &StepProgram, high: u32, flat: Flat) -> Result<VExpr, AllocError>
+    requires { IsWord flat }
+    ensures { IfOk result (λ e. vexpr_tree e ≡ lowest (program_tree program.now) high flat) }
+{
+    match flat {
+        Flat::Fixed(width, bits) => Ok(VExpr::Number(Word { bits, width })),
+        Flat::OfItem(item) => Ok(VExpr::Bits(item_name(alloc, &program.items, item)?, high, 0)),
+        Flat::OfPin(pin) => Ok(VExpr::Bits(item_name(alloc, &program.pins, pin)?, high, 0)),
+        Flat::OfWire(wire) => Ok(VExpr::Bits(wire_name(alloc, wire)?, high, 0)),
+    }
+}
+
+// An operand behind so many zeros.
+fn padded(alloc: Global, program: &StepProgram, zeros: u32, flat: Flat) -> Result<VExpr, AllocError>
+    requires zeros { IsWidth zeros }
+    requires word { IsWord flat }
+    ensures { IfOk result (λ e. vexpr_tree e ≡ padded (program_tree program.now) zeros flat) }
+{
+    let mut parts = Vec::new(alloc);
+    parts.push(VExpr::Number(Word {
+        bits: 0,
+        width: zeros,
+    }))?;
+    parts.push(named(alloc, program, flat)?)?;
+    Ok(VExpr::Join(parts))
+}
+
 // What a wire carries as an expression.
 fn written(alloc: Global, program: &StepProgram, body: Body) -> Result<VExpr, AllocError>
     requires { HasWords body }
@@ -80,6 +108,8 @@ fn written(alloc: Global, program: &StepProgram, body: Body) -> Result<VExpr, Al
 {
     match body {
         Body::Copied(f) => named(alloc, program, f),
+        Body::Lowest(high, f) => lowest(alloc, program, high, f),
+        Body::Padded(zeros, f) => padded(alloc, program, zeros, f),
         Body::Inverse(f) => {
             let a = Box::new(alloc, named(alloc, program, f)?)?;
             Ok(VExpr::One(VOne::Complement, a))

@@ -2,7 +2,7 @@
 ghost use Rattle.std.specs.Prelude.{◌≡◌, ◌≤◌, ◌%◌, ◌^◌, IfOk, OnOk, length, reverse, slice_index_or};
 ghost use Rattle.step_program.specs.Programs.{expr_tree, move_of, program_tree};
 ghost use Rattle.step_program.specs.Effects.{width};
-ghost use Rattle.netlist_wires.specs.Wiring.{share, behind, load, nothing, refit, changed, settled, is_zero, keeps_right, keeps_left, combined, lower, given_once, given, gone, gone_all, begun_going};
+ghost use Rattle.netlist_wires.specs.Wiring.{share, behind, load, nothing, refit, changed, settled, is_zero, keeps_right, keeps_left, reaches, shifts_out, combined, lower, given_once, given, gone, gone_all, begun_going};
 ghost use Rattle.netlist_build.specs.Symbolic.{sym_of, first, made, going};
 
 use crate::symbols::{Operand, Symbols};
@@ -70,17 +70,23 @@ fn refit_number(bits: u64, to: u32) -> u64
     bits % (1 << to)
 }
 
-// An operand at another width, or at the same.
-fn refit(keys: &mut IndexSet<Key>, same: bool, to: u32, flat: Flat) -> Result<Flat, AllocError>
-    ensures flat { IfOk result (λ out. out ≡ (refit (first ⟦<Key as PartialEq>⟧.eq) same to flat keys.old.keys).flat) }
-    ensures keys { OnOk result (keys.new.keys ≡ (refit (first ⟦<Key as PartialEq>⟧.eq) same to flat keys.old.keys).keys) }
+// An operand at another width, or at the same: where it is no number, what is told is made of it.
+fn refit(
+    keys: &mut IndexSet<Key>,
+    same: bool,
+    to: u32,
+    body: Body,
+    flat: Flat,
+) -> Result<Flat, AllocError>
+    ensures flat { IfOk result (λ out. out ≡ (refit (first ⟦<Key as PartialEq>⟧.eq) same to body flat keys.old.keys).flat) }
+    ensures keys { OnOk result (keys.new.keys ≡ (refit (first ⟦<Key as PartialEq>⟧.eq) same to body flat keys.old.keys).keys) }
 {
     if same {
         return Ok(flat);
     }
     match flat {
         Flat::Fixed(_, bits) => Ok(Flat::Fixed(to, refit_number(bits, to))),
-        Flat::OfItem(_) | Flat::OfPin(_) | Flat::OfWire(_) => share(keys, to, Body::Copied(flat)),
+        Flat::OfItem(_) | Flat::OfPin(_) | Flat::OfWire(_) => share(keys, to, body),
     }
 }
 
@@ -91,8 +97,14 @@ fn change(keys: &mut IndexSet<Key>, one: OneOp, a: Operand) -> Result<Flat, Allo
 {
     match one {
         OneOp::Not => share(keys, a.width, Body::Inverse(a.flat)),
-        OneOp::Cut(narrow) => refit(keys, narrow == a.width, narrow, a.flat),
-        OneOp::Widen(wide) => refit(keys, wide == a.width, wide, a.flat),
+        OneOp::Cut(narrow) => {
+            let cut = Body::Lowest(narrow.saturating_sub(1), a.flat);
+            refit(keys, narrow == a.width, narrow, cut, a.flat)
+        }
+        OneOp::Widen(wide) => {
+            let widened = Body::Padded(wide.saturating_sub(a.width), a.flat);
+            refit(keys, wide == a.width, wide, widened, a.flat)
+        }
     }
 }
 
@@ -147,6 +159,27 @@ fn keeps_left(two: TwoOp) -> bool
     }
 }
 
+// Whether an operand is a number that is no smaller than a width.
+fn reaches(width: u32, flat: Flat) -> bool
+    ensures { result ≡ reaches width flat }
+{
+    match flat {
+        Flat::Fixed(_, bits) => width as u64 <= bits,
+        Flat::OfItem(_) | Flat::OfPin(_) | Flat::OfWire(_) => false,
+    }
+}
+
+// Whether an operator of a width shifts each bit of its left operand out.
+fn shifts_out(two: TwoOp, width: u32, right: Flat) -> bool
+    ensures { result ≡ shifts_out two width right }
+{
+    match two {
+        TwoOp::Shl | TwoOp::Shr => reaches(width, right),
+        TwoOp::Add | TwoOp::Sub | TwoOp::Mul | TwoOp::And => false,
+        TwoOp::Or | TwoOp::Xor | TwoOp::Equal | TwoOp::Less => false,
+    }
+}
+
 // What an operator makes of two operands.
 fn combine(
     keys: &mut IndexSet<Key>,
@@ -158,6 +191,9 @@ fn combine(
     ensures flat { IfOk result (λ flat. flat ≡ (combined (first ⟦<Key as PartialEq>⟧.eq) two width left right keys.old.keys).flat) }
     ensures keys { OnOk result (keys.new.keys ≡ (combined (first ⟦<Key as PartialEq>⟧.eq) two width left right keys.old.keys).keys) }
 {
+    if shifts_out(two, width, right) {
+        return Ok(Flat::Fixed(width, 0));
+    }
     if keeps_right(two) && is_zero(left) {
         return settle(keys, width, right);
     }

@@ -1,10 +1,10 @@
 -- Nothing is broken in a program's module.
-use Rattle.std.proofs.Common.{◌≡◌, ℕ, zero, suc, ◌+◌, ◌^◌, ◌<◌, ◌≤◌, Bool, true, false, List, [], ◌∷◌, ◌++◌, length, map, get_or, refl, sym, ap, ap₂, ◌∙◌, subst, arith, ◌⊎◌, inl, inr, ⊎_elim, Option, Some, None, cond, nat_eq}
+use Rattle.std.proofs.Common.{◌≡◌, ℕ, zero, suc, ◌+◌, ◌^◌, ◌<◌, ◌≤◌, Bool, true, false, List, [], ◌∷◌, ◌++◌, length, map, get_or, refl, sym, ap, ap₂, ◌∙◌, subst, arith, ◌⊎◌, inl, inr, ⊎_elim, Option, Some, None, cond, nat_eq, nat_le, nat_lt, not}
 use Rattle.std.specs.Prelude.{All, Contains, flat_map, find, slice_index, slice_index_or, sum_by}
 use Rattle.std.specs.List.{slice_get}
 use Rattle.std.specs.Option.{option_map}
 use Rattle.std.specs.Str.{bytes_eq}
-use Rattle.std.proofs.lemmas.Bool.{cases_lt, cases_order, false_from_ne_true, false≢true, eq-eqb}
+use Rattle.std.proofs.lemmas.Bool.{cases_lt, cases_order, false_from_ne_true, false≢true, and_from, eq-eqb, le-leb, lt-ltb}
 use Rattle.std.proofs.lemmas.List.{get_or-map, length-map, append-nil}
 use Rattle.std.proofs.lemmas.Option.{slice_get_within, slice_get-get_or, slice_get-map, get_or_from_slice_get}
 use Rattle.std.proofs.lemmas.Slice.Eq.{bytes_eq-Decides}
@@ -21,24 +21,24 @@ use Rattle.verilog_text.specs.Clocked.{settings, blocks, widths_of}
 use Rattle.verilog_text.specs.Clockable.{IsNarrow, AreNarrowActions}
 use Rattle.verilog_text.specs.Spelling.{VSpells}
 use Rattle.verilog_text.specs.Printing.{module_text}
-use Rattle.verilog_text.specs.Conditions.{IsFirst, Sort, Clock, Input, Register, Store, Net, Declared, member_declares, head_declares, declares, names_of, sort_of, with_earlier, Use, Read, Index, Assign, Start, Edge, used_name, expr_uses, action_uses, uses_in, uses, is_wrong, FirstEvent, given, events_in, IsNoFirst, expr_indexes, action_indexes, member_indexes, NeedsWidth, targets, driven, Counted, Depth, counted, IsExcess, IsDuplicate, IsUndeclared, IsWrongUse, IsUnset, IsMisindexed, IsDrivenTwice, IsTooMany}
+use Rattle.verilog_text.specs.Conditions.{IsFirst, Sort, Clock, Input, Register, Store, Net, Declared, member_declares, head_declares, declares, names_of, sort_of, with_earlier, Use, Read, Select, Index, Assign, Start, Edge, used_name, expr_uses, action_uses, uses_in, uses, is_select, is_wrong, FirstEvent, given, events_in, IsNoFirst, expr_indexes, action_indexes, member_indexes, NeedsWidth, targets, driven, Counted, Depth, counted, IsExcess, IsDuplicate, IsUndeclared, IsWrongUse, IsUnset, IsMisindexed, IsDrivenTwice, IsTooMany}
 use Rattle.verilog_text.specs.Faults.{VAccepts}
 use Rattle.verilog_rules.proofs.Apart.{Has, AreApart, has_front, has_back, has_either, apart_append}
 use Rattle.verilog_rules.proofs.Narrow.{Each, IsSmall, each_append}
 use Rattle.step_program.specs.declared.expressions.TwoOp.{TwoOp}
 use Rattle.step_program.specs.declared.expressions.TwoOp.TheVariants as ops
 use Rattle.step_program.specs.Programs.{Program}
-use Rattle.step_program.specs.Effects.{array_depth}
+use Rattle.step_program.specs.Effects.{item_width, pin_width, array_depth}
 use Rattle.step_program.specs.WellFormed.{IsFreeName, IsWellFormed}
 use Rattle.step_program.proofs.Fits.{read_map}
 use Rattle.netlist_wires.specs.declared.keys.Flat.{Flat}
 use Rattle.netlist_wires.specs.declared.keys.Flat.TheVariants.{Fixed, OfItem, OfPin, OfWire}
 use Rattle.netlist_wires.specs.declared.keys.Body.{Body}
-use Rattle.netlist_wires.specs.declared.keys.Body.TheVariants.{Copied, Inverse, Load, Operate, Select as Chosen}
+use Rattle.netlist_wires.specs.declared.keys.Body.TheVariants.{Copied, Lowest, Padded, Inverse, Load, Operate, Select as Chosen}
 use Rattle.netlist_wires.specs.declared.keys.Key.{Key}
 use Rattle.netlist_wires.specs.declared.keys.Write.{Write}
 use Rattle.netlist_wires.specs.Tables.{HasDistinctNames}
-use Rattle.netlist_wires.specs.Wiring.{item_name, pin_name, array_name, wire_name, operator_of, named, body_tree, nothing, Going, wires_from, set_items, put_cell, put_cells, actions, first_settings, clock_name, reg_members, array_members, module_at}
+use Rattle.netlist_wires.specs.Wiring.{item_name, pin_name, array_name, wire_name, operator_of, named, lowest, body_tree, nothing, Going, wires_from, set_items, put_cell, put_cells, actions, first_settings, clock_name, reg_members, array_members, module_at}
 use Rattle.netlist_wires.proofs.Members.{wire_items, regs_is, arrays_is, settings_is, blocks_is}
 use Rattle.netlist_wires.proofs.Named.{has_place, item_names, array_names, items_apart, arrays_apart, pins_apart, items_no_pins, items_no_arrays, arrays_no_pins, items_free, arrays_free, pins_free, no_wires, has_wire, wires_apart}
 use Rattle.netlist_wires.proofs.Growing.{IsBelow, IsBodyBelow, IsIndexed, IsOrdered, flat_width, below_on, item_small, pin_small, array_small}
@@ -321,12 +321,52 @@ module _ (p : Program) (formed : IsWellFormed p) (distinct : HasDistinctNames p)
   fine_index : (declared : List (List ℕ)) (a : ℕ) → a < length p.arrays → Has declared (array_name p a) → IsFine (declared, Index (array_name p a))
   fine_index declared a h has = (has, ap (λ (s : Option Sort). is_wrong s (Index (array_name p a))) (array_sort a h))
 
-  fine_body : (n : ℕ) (declared : List (List ℕ)) (body : Body) → n ≤ length end.keys → HasFirst n declared → IsBodyBelow p n body → AreFine declared (expr_uses (body_tree p body))
-  fine_body n declared (Copied f) less has b = fine_flat n declared f less has b
-  fine_body n declared (Inverse f) less has b = fine_flat n declared f less has b
-  fine_body n declared (Load a f) less has b = (fine_index declared a b.0 (has.arrays a b.0), fine_flat n declared f less has b.1)
-  fine_body n declared (Operate op f g) less has b = fine_append declared (expr_uses (named p f)) (expr_uses (named p g)) (fine_flat n declared f less has b.0) (fine_flat n declared g less has b.1)
-  fine_body n declared (Chosen c f g) less has b =
+  -- ends of which the low one is 0 are in order, and inside where the high one is
+  is_inside : (width wide high : ℕ) → wide ≡ width → high < wide → not (is_select width high 0) ≡ false
+  is_inside width wide high same less = ap not (and_from (nat_le 0 high) (nat_lt high width) (le-leb 0 high (omega arith)) (lt-ltb high width (omega (arith, same, less))))
+
+  fine_lowest : (n : ℕ) (declared : List (List ℕ)) (high : ℕ) (f : Flat) → n ≤ length end.keys → HasFirst n declared → IsBelow p n f → high < flat_width p end.keys f
+      → AreFine declared (expr_uses (lowest p high f))
+  fine_lowest n declared high (Fixed w v) less has b i = tt
+  fine_lowest n declared high (OfItem k) less has b i = (
+    (
+      has.items k b,
+      ap (λ (s : Option Sort). is_wrong s (Select (item_name p k) high 0)) (item_sort k b)
+          ∙ is_inside (get_or p.items k any_item).width (item_width p k) high (read_map (λ (item : Item). item.width) p.items k any_item b) i,
+    ),
+    tt,
+  )
+  fine_lowest n declared high (OfPin k) less has b i = (
+    (
+      has.pins k b,
+      ap (λ (s : Option Sort). is_wrong s (Select (pin_name p k) high 0)) (pin_sort k b)
+          ∙ is_inside (get_or p.pins k any_item).width (pin_width p k) high (read_map (λ (item : Item). item.width) p.pins k any_item b) i,
+    ),
+    tt,
+  )
+  fine_lowest n declared high (OfWire k) less has b i = (
+    (
+      has.wires k b,
+      ap (λ (s : Option Sort). is_wrong s (Select (wire_name k) high 0)) (wire_sort k (omega (arith, less, b)))
+          ∙ is_inside (get_or wires k any_item).width (slice_index (map (λ (key : Key). key.width) end.keys) k) high (net_width 0 end.keys k (omega (arith, less, b))) i,
+    ),
+    tt,
+  )
+    where
+      net_width : (from : ℕ) (keys : List Key) (k : ℕ) → k < length keys → slice_index (map (λ (key : Key). key.width) keys) k ≡ (get_or (wire_items from keys) k any_item).width
+      net_width from [] k h = absurd (omega (arith, h))
+      net_width from (key ∷ keys) zero h = refl
+      net_width from (key ∷ keys) (suc k) h = net_width (suc from) keys k (omega (arith, h))
+
+  fine_body : (n : ℕ) (declared : List (List ℕ)) (body : Body) → n ≤ length end.keys → HasFirst n declared → IsBodyBelow p n body → IsIndexed p end.keys body
+      → AreFine declared (expr_uses (body_tree p body))
+  fine_body n declared (Copied f) less has b i = fine_flat n declared f less has b
+  fine_body n declared (Lowest high f) less has b i = fine_lowest n declared high f less has b.2 i
+  fine_body n declared (Padded zeros f) less has b i = fine_append declared (expr_uses (named p f)) [] (fine_flat n declared f less has b.1) tt
+  fine_body n declared (Inverse f) less has b i = fine_flat n declared f less has b
+  fine_body n declared (Load a f) less has b i = (fine_index declared a b.0 (has.arrays a b.0), fine_flat n declared f less has b.1)
+  fine_body n declared (Operate op f g) less has b i = fine_append declared (expr_uses (named p f)) (expr_uses (named p g)) (fine_flat n declared f less has b.0) (fine_flat n declared g less has b.1)
+  fine_body n declared (Chosen c f g) less has b i =
       fine_append declared (expr_uses (named p c)) (expr_uses (named p f) ++ expr_uses (named p g)) (fine_flat n declared c less has b.0)
       (fine_append declared (expr_uses (named p f)) (expr_uses (named p g)) (fine_flat n declared f less has b.1) (fine_flat n declared g less has b.2))
 
@@ -368,15 +408,16 @@ module _ (p : Program) (formed : IsWellFormed p) (distinct : HasDistinctNames p)
       }
 
   fine_wires : (n : ℕ) (keys : List Key) (declared : List (List ℕ)) (rest : List MemberTree) → n + length keys ≤ length end.keys → HasFirst n declared
-      → ((k : ℕ) (key : Key) → slice_get keys k ≡ Some key → IsBodyBelow p (n + k) key.body)
+      → ((k : ℕ) (key : Key) → slice_get keys k ≡ Some key → IsBodyBelow p (n + k) key.body × IsIndexed p end.keys key.body)
       → ((now : List (List ℕ)) → HasFirst (n + length keys) now → Rest rest now) → Rest (wires_from p n keys ++ rest) declared
   fine_wires n [] declared rest less has low go = go declared (subst (λ (k : ℕ). HasFirst k declared) {x = n} {y = n + 0} (omega arith) has)
   fine_wires n (key ∷ keys) declared rest less has low go =
-      let low0 : IsBodyBelow p n key.body = subst (λ (k : ℕ). IsBodyBelow p k key.body) {x = n + 0} {y = n} (omega arith) (low zero key refl) in
+      let here = low zero key refl in
+      let low0 : IsBodyBelow p n key.body = subst (λ (k : ℕ). IsBodyBelow p k key.body) {x = n + 0} {y = n} (omega arith) here.0 in
       each_append IsFine (map (λ u. (declared, u)) (expr_uses (body_tree p key.body))) (uses_in (declared ++ (wire_name n ∷ [])) (wires_from p (suc n) keys ++ rest))
-      (fine_body n declared key.body (omega (arith, less)) has low0)
+      (fine_body n declared key.body (omega (arith, less)) has low0 here.1)
       (fine_wires (suc n) keys (declared ++ (wire_name n ∷ [])) rest (omega (arith, less)) (one_more n declared has)
-      (λ k x e. subst (λ (j : ℕ). IsBodyBelow p j x.body) {x = n + suc k} {y = suc n + k} (omega arith) (low (suc k) x e))
+      (λ k x e. (let r = low (suc k) x e in (subst (λ (j : ℕ). IsBodyBelow p j x.body) {x = n + suc k} {y = suc n + k} (omega arith) r.0, r.1)))
       (λ now h. go now (subst (λ (k : ℕ). HasFirst k now) {x = suc n + length keys} {y = n + length (key ∷ keys)} (omega arith) h)))
 
   fine_starts : (declared : List (List ℕ)) (items : List Item) (first : List ℕ) → ((x : List ℕ) → Has (item_names items) x → Has declared x × (is_wrong (sort_of m x) (Start x) ≡ false))
@@ -440,7 +481,7 @@ module _ (p : Program) (formed : IsWellFormed p) (distinct : HasDistinctNames p)
       each_append IsFine (map (λ u. (after_arrays, u)) (map (λ s. Start s.name) (first_settings p.items p.first))) _
       (fine_starts after_arrays p.items p.first (λ x h. (in_items x h, item_starts x h)))
       (fine_wires 0 end.keys (after_arrays ++ []) _ (omega arith) (first_on 0 after_arrays (after_arrays ++ []) (λ x h. has_front after_arrays [] x h) has)
-      (λ k key e. subst (λ (n : ℕ). IsBodyBelow p n key.body) {x = k} {y = 0 + k} (omega arith) (ordered k key e).below)
+      (λ k key e. (let is = ordered k key e in (subst (λ (n : ℕ). IsBodyBelow p n key.body) {x = k} {y = 0 + k} (omega arith) is.below, is.indexed)))
       (λ now h. fine_always now (subst (λ (n : ℕ). HasFirst n now) {x = 0 + length end.keys} {y = length end.keys} (omega arith) h))))))
 
   holds5 : (name : List ℕ) → ¬ IsUndeclared m name
@@ -541,8 +582,16 @@ module _ (p : Program) (formed : IsWellFormed p) (distinct : HasDistinctNames p)
   right_alone : (f : Flat) → Each IsRight (expr_indexes (named p f))
   right_alone f = subst (Each IsRight) (sym (no_indexes f)) tt
 
+  right_lowest : (high : ℕ) (f : Flat) → Each IsRight (expr_indexes (lowest p high f))
+  right_lowest high (Fixed w v) = tt
+  right_lowest high (OfItem i) = tt
+  right_lowest high (OfPin i) = tt
+  right_lowest high (OfWire k) = tt
+
   right_body : (n : ℕ) (body : Body) → n ≤ length end.keys → IsBodyBelow p n body → IsIndexed p end.keys body → Each IsRight (expr_indexes (body_tree p body))
   right_body n (Copied f) less b i = right_alone f
+  right_body n (Lowest high f) less b i = right_lowest high f
+  right_body n (Padded zeros f) less b i = right_none f [] tt
   right_body n (Inverse f) less b i = right_alone f
   right_body n (Load a f) less b i = (right_index a f b.0 (below_on p n (length end.keys) f less b.1) i, right_alone f)
   right_body n (Operate op f g) less b i = right_none f (expr_indexes (named p g)) (right_alone g)
@@ -618,12 +667,20 @@ module _ (p : Program) (formed : IsWellFormed p) (distinct : HasDistinctNames p)
   two_most ops.Equal a b h k = omega arith
   two_most ops.Less a b h k = omega arith
 
-  narrow_body : (body : Body) → IsBodyBelow p (length end.keys) body → IsNarrow (widths_of m) (body_tree p body)
-  narrow_body (Copied f) b = narrow_flat f b
-  narrow_body (Inverse f) b = (below_64 f b, narrow_flat f b)
-  narrow_body (Load a f) b = (omega (arith, array_wide_is p formed distinct end few a b.0, (array_small p formed a b.0).1), narrow_flat f b.1)
-  narrow_body (Operate op f g) b = (two_most op _ _ (below_64 f b.0) (below_64 g b.1), narrow_flat f b.0, narrow_flat g b.1)
-  narrow_body (Chosen c f g) b = (omega (arith, below_64 f b.1, below_64 g b.2), narrow_flat c b.0, narrow_flat f b.1, narrow_flat g b.2)
+  narrow_lowest : (high : ℕ) (f : Flat) → high < 64 → IsBelow p (length end.keys) f → IsNarrow (widths_of m) (lowest p high f)
+  narrow_lowest high (Fixed w v) h b = below_64 (Fixed w v) b
+  narrow_lowest high (OfItem i) h b = omega (arith, h)
+  narrow_lowest high (OfPin i) h b = omega (arith, h)
+  narrow_lowest high (OfWire k) h b = omega (arith, h)
+
+  narrow_body : (body : Body) → IsBodyBelow p (length end.keys) body → IsIndexed p end.keys body → IsNarrow (widths_of m) (body_tree p body)
+  narrow_body (Copied f) b i = narrow_flat f b
+  narrow_body (Lowest high f) b i = narrow_lowest high f b.0 b.2
+  narrow_body (Padded zeros f) b i = (omega (arith, i, wide_flat f b.1), (b.0.1, (narrow_flat f b.1, tt)))
+  narrow_body (Inverse f) b i = (below_64 f b, narrow_flat f b)
+  narrow_body (Load a f) b i = (omega (arith, array_wide_is p formed distinct end few a b.0, (array_small p formed a b.0).1), narrow_flat f b.1)
+  narrow_body (Operate op f g) b i = (two_most op _ _ (below_64 f b.0) (below_64 g b.1), narrow_flat f b.0, narrow_flat g b.1)
+  narrow_body (Chosen c f g) b i = (omega (arith, below_64 f b.1, below_64 g b.2), narrow_flat c b.0, narrow_flat f b.1, narrow_flat g b.2)
 
   narrow_sets : (from : ℕ) (fs : List Flat) (rest : ActionTrees) → ((i : ℕ) → i < length fs → IsBelow p (length end.keys) (slice_index_or fs i nothing)) → AreNarrowActions (widths_of m) rest
       → AreNarrowActions (widths_of m) (set_items p from fs rest)
@@ -634,14 +691,16 @@ module _ (p : Program) (formed : IsWellFormed p) (distinct : HasDistinctNames p)
   narrow_puts [] rest b h = h
   narrow_puts (w ∷ ws) rest b h = narrow_puts ws (put_cell p w rest) b.1 (narrow_flat w.guard b.0.1, (narrow_flat w.index b.0.2, narrow_flat w.value b.0.3, tt), tt, h)
 
-  small_wires : (n : ℕ) (keys : List Key) (rest : List MemberTree) → ((k : ℕ) (key : Key) → slice_get keys k ≡ Some key → IsBodyBelow p (length end.keys) key.body × (key.width ≤ 64))
+  small_wires : (n : ℕ) (keys : List Key) (rest : List MemberTree) → ((k : ℕ) (key : Key) → slice_get keys k ≡ Some key → IsBodyBelow p (length end.keys) key.body × (key.width ≤ 64) × IsIndexed p end.keys key.body)
       → Each (IsSmall (widths_of m)) rest → Each (IsSmall (widths_of m)) (wires_from p n keys ++ rest)
   small_wires n [] rest ok h = h
   small_wires n (key ∷ keys) rest ok h =
-      let here = ok zero key refl in ((here.1, narrow_body key.body here.0), small_wires (suc n) keys rest (λ k x e. ok (suc k) x e) h)
+      let here = ok zero key refl in ((here.1, narrow_body key.body here.0 here.2), small_wires (suc n) keys rest (λ k x e. ok (suc k) x e) h)
 
   body_below : (k n : ℕ) (body : Body) → k ≤ n → IsBodyBelow p k body → IsBodyBelow p n body
   body_below k n (Copied f) h b = below_on p k n f h b
+  body_below k n (Lowest high f) h b = (b.0, b.1, below_on p k n f h b.2)
+  body_below k n (Padded zeros f) h b = (b.0, below_on p k n f h b.1)
   body_below k n (Inverse f) h b = below_on p k n f h b
   body_below k n (Load a f) h b = (b.0, below_on p k n f h b.1)
   body_below k n (Operate op f g) h b = (below_on p k n f h b.0, below_on p k n g h b.1)
@@ -653,7 +712,7 @@ module _ (p : Program) (formed : IsWellFormed p) (distinct : HasDistinctNames p)
       (each_append (IsSmall (widths_of m)) (array_members p.arrays) _ (each_map (IsSmall (widths_of m)) trees.Array p.arrays (each_of (λ (array : ArrayItem). array.width ≤ 64) p.arrays (λ k d h. (formed.arrays k d h).1.1))) (
         tt,
         small_wires 0 end.keys (trees.Always clock_name (actions p end.sym) ∷ [])
-            (λ k key e. (let is = ordered k key e in (body_below k (length end.keys) key.body (omega (arith, slice_get_within end.keys k key e)) is.below, is.small.1)))
+            (λ k key e. (let is = ordered k key e in (body_below k (length end.keys) key.body (omega (arith, slice_get_within end.keys k key e)) is.below, is.small.1, is.indexed)))
             (narrow_sets 0 end.sym.items (put_cells p end.sym.writes trees.Done) (λ i h. items_below i (omega (arith, items_many, h))) (narrow_puts end.sym.writes trees.Done puts tt), tt),
       ))
 

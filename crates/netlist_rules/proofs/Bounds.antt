@@ -16,9 +16,9 @@ use Rattle.verilog_text.specs.declared.tokens.VSign.TheVariants as signs
 use Rattle.verilog_text.specs.declared.expressions.VOne.TheVariants as vones
 use Rattle.verilog_text.specs.Tokens.{VToks, Named, Reserved, Sized, Plain, Mark}
 use Rattle.verilog_text.specs.Trees as trees
-use Rattle.verilog_text.specs.Trees.{VTree, ActionTrees, SettingTree, MemberTree}
+use Rattle.verilog_text.specs.Trees.{VTree, Then, End, ActionTrees, SettingTree, MemberTree}
 use Rattle.verilog_text.specs.Grammar.{vsign_of, setting_tokens}
-use Rattle.verilog_text.specs.Printing.{own_level, wrapped, bare, shown, action_tokens, member_tokens, input_tokens, module_tokens, range_tokens, tokens_text}
+use Rattle.verilog_text.specs.Printing.{own_level, wrapped, bare, parts_tokens, more_tokens, shown, action_tokens, member_tokens, input_tokens, module_tokens, range_tokens, tokens_text}
 use Rattle.step_program.specs.declared.expressions.OneOp.{OneOp}
 use Rattle.step_program.specs.declared.expressions.OneOp.TheVariants as ones
 use Rattle.step_program.specs.declared.expressions.TwoOp.{TwoOp}
@@ -29,15 +29,15 @@ use Rattle.step_program.specs.WellFormed.{IsWidth, IsWellFormed}
 use Rattle.netlist_wires.specs.declared.keys.Flat.{Flat}
 use Rattle.netlist_wires.specs.declared.keys.Flat.TheVariants.{Fixed, OfItem, OfPin, OfWire}
 use Rattle.netlist_wires.specs.declared.keys.Body.{Body}
-use Rattle.netlist_wires.specs.declared.keys.Body.TheVariants.{Copied, Inverse, Load, Operate, Select}
+use Rattle.netlist_wires.specs.declared.keys.Body.TheVariants.{Copied, Lowest, Padded, Inverse, Load, Operate, Select}
 use Rattle.netlist_wires.specs.declared.keys.Key.{Key}
 use Rattle.netlist_wires.specs.declared.keys.Write.{Write}
 use Rattle.netlist_wires.specs.Tables.{program_names}
 use Rattle.netlist_wires.specs.Costs.{writes_to, arrays_after}
-use Rattle.netlist_wires.specs.Wiring.{item_name, pin_name, array_name, wire_name, operator_of, named, body_tree, Made, Find, shared, share, behind, load, Sym, nothing, refit, changed, settled, is_zero, keeps_right, keeps_left, combined_by, combined, lower, given_once, given, Going, aimed, gone, gone_all, wires_from, set_items, put_cell, put_cells, actions, first_settings, clock_name, reg_members, array_members, module_at}
+use Rattle.netlist_wires.specs.Wiring.{item_name, pin_name, array_name, wire_name, operator_of, named, lowest, body_tree, Made, Find, shared, share, behind, load, Sym, nothing, refit, changed, settled, is_zero, keeps_right, keeps_left, combined_by, shifts_out, combined_unless, combined, lower, given_once, given, Going, aimed, gone, gone_all, wires_from, set_items, put_cell, put_cells, actions, first_settings, clock_name, reg_members, array_members, module_at}
 use Rattle.netlist_wires.proofs.Named.{item_names, array_names}
 use Rattle.netlist_wires.proofs.Growing.{IsBelow, IsBodyBelow, IsOrdered}
-use Rattle.netlist_rules.proofs.Lengths.{toks_size, toks_size-append}
+use Rattle.netlist_rules.proofs.Lengths.{sized_most, toks_size, toks_size-append}
 use Rattle.netlist_rules.proofs.Spelled.{ArePuts}
 use Rattle.netlist_rules.specs.Sizes.{longest, number_most, wire_most, name_most, operand_most, frame_most, pair_most, expr_most, settled_most, given_most, aim_most, move_most, moves_most, module_most}
 
@@ -51,6 +51,8 @@ flat_most most (OfWire k) = wire_most
 
 abbrev body_most : ℕ → Body → ℕ
 body_most most (Copied f) = flat_most most f
+body_most most (Lowest high f) = 11 + flat_most most f
+body_most most (Padded zeros f) = 12 + flat_most most f
 body_most most (Inverse f) = 2 + flat_most most f
 body_most most (Load a f) = 4 + name_most most + flat_most most f
 body_most most (Operate op f g) = 3 + (flat_most most f + flat_most most g)
@@ -181,24 +183,25 @@ module _ (find : Find) (most : ℕ) (least : 25 ≤ most) where
 
   -- ---- operands of another width
 
-  refit_short : (same : Bool) (to : ℕ) (f : Flat) (keys : List Key) → keys_most most (refit find same to f keys).keys ≤ keys_most most keys + (frame_most + 12 + flat_most most f)
-  refit_short true to f keys = omega arith
-  refit_short false to (Fixed w v) keys = omega arith
-  refit_short false to (OfItem i) keys = omega (arith, share_short to (Copied (OfItem i)) keys)
-  refit_short false to (OfPin i) keys = omega (arith, share_short to (Copied (OfPin i)) keys)
-  refit_short false to (OfWire k) keys = omega (arith, share_short to (Copied (OfWire k)) keys)
+  refit_short : (same : Bool) (to : ℕ) (body : Body) (f : Flat) (keys : List Key) → body_most most body ≤ 12 + flat_most most f
+      → keys_most most (refit find same to body f keys).keys ≤ keys_most most keys + (frame_most + 12 + flat_most most f)
+  refit_short true to body f keys h = omega arith
+  refit_short false to body (Fixed w v) keys h = omega arith
+  refit_short false to body (OfItem i) keys h = omega (arith, h, share_short to body keys)
+  refit_short false to body (OfPin i) keys h = omega (arith, h, share_short to body keys)
+  refit_short false to body (OfWire k) keys h = omega (arith, h, share_short to body keys)
 
   changed_short : (one : OneOp) (w : ℕ) (f : Flat) (keys : List Key) → keys_most most (changed find one w f keys).keys ≤ keys_most most keys + (frame_most + 12 + flat_most most f)
   changed_short ones.Not w f keys = omega (arith, share_short w (Inverse f) keys)
-  changed_short (ones.Cut narrow) w f keys = refit_short (nat_eq narrow w) narrow f keys
-  changed_short (ones.Widen wide) w f keys = refit_short (nat_eq wide w) wide f keys
+  changed_short (ones.Cut narrow) w f keys = refit_short (nat_eq narrow w) narrow (Lowest (narrow - 1) f) f keys (omega arith)
+  changed_short (ones.Widen wide) w f keys = refit_short (nat_eq wide w) wide (Padded (wide - w) f) f keys (omega arith)
 
-  refit_flat : (same : Bool) (to n : ℕ) (f : Flat) (keys : List Key) → flat_most most f ≤ n → flat_most most (refit find same to f keys).flat ≤ cond same n wire_most
-  refit_flat true to n f keys h = h
-  refit_flat false to n (Fixed w v) keys h = omega arith
-  refit_flat false to n (OfItem i) keys h = omega (arith, share_wire to (Copied (OfItem i)) keys)
-  refit_flat false to n (OfPin i) keys h = omega (arith, share_wire to (Copied (OfPin i)) keys)
-  refit_flat false to n (OfWire k) keys h = omega (arith, share_wire to (Copied (OfWire k)) keys)
+  refit_flat : (same : Bool) (to n : ℕ) (body : Body) (f : Flat) (keys : List Key) → flat_most most f ≤ n → flat_most most (refit find same to body f keys).flat ≤ cond same n wire_most
+  refit_flat true to n body f keys h = h
+  refit_flat false to n body (Fixed w v) keys h = omega arith
+  refit_flat false to n body (OfItem i) keys h = omega (arith, share_wire to body keys)
+  refit_flat false to n body (OfPin i) keys h = omega (arith, share_wire to body keys)
+  refit_flat false to n body (OfWire k) keys h = omega (arith, share_wire to body keys)
 
   -- ---- operands that are held, and operands of two
 
@@ -222,8 +225,12 @@ module _ (find : Find) (most : ℕ) (least : 25 ≤ most) where
   combined_by_settled op w false true f g keys = settled_is w f keys
   combined_by_settled op w false false f g keys = share_settled w (Operate op f g) keys
 
+  combined_unless_settled : (op : TwoOp) (w : ℕ) (out : Bool) (f g : Flat) (keys : List Key) → IsSettled (combined_unless find op w out f g keys).flat
+  combined_unless_settled op w true f g keys = tt
+  combined_unless_settled op w false f g keys = combined_by_settled op w (keeps_right op && is_zero f) (keeps_left op && is_zero g) f g keys
+
   combined_settled : (op : TwoOp) (w : ℕ) (f g : Flat) (keys : List Key) → IsSettled (combined find op w f g keys).flat
-  combined_settled op w f g keys = combined_by_settled op w (keeps_right op && is_zero f) (keeps_left op && is_zero g) f g keys
+  combined_settled op w f g keys = combined_unless_settled op w (shifts_out op w g) f g keys
 
   combined_by_short : (op : TwoOp) (w : ℕ) (right left : Bool) (f g : Flat) (keys : List Key)
       → keys_most most (combined_by find op w right left f g keys).keys ≤ keys_most most keys + (frame_most + 3 + flat_most most f + flat_most most g)
@@ -231,8 +238,13 @@ module _ (find : Find) (most : ℕ) (least : 25 ≤ most) where
   combined_by_short op w false true f g keys = omega (arith, settled_any w f keys)
   combined_by_short op w false false f g keys = omega (arith, share_short w (Operate op f g) keys)
 
+  combined_unless_short : (op : TwoOp) (w : ℕ) (out : Bool) (f g : Flat) (keys : List Key)
+      → keys_most most (combined_unless find op w out f g keys).keys ≤ keys_most most keys + (frame_most + 3 + flat_most most f + flat_most most g)
+  combined_unless_short op w true f g keys = omega arith
+  combined_unless_short op w false f g keys = combined_by_short op w (keeps_right op && is_zero f) (keeps_left op && is_zero g) f g keys
+
   combined_short : (op : TwoOp) (w : ℕ) (f g : Flat) (keys : List Key) → keys_most most (combined find op w f g keys).keys ≤ keys_most most keys + (frame_most + 3 + flat_most most f + flat_most most g)
-  combined_short op w f g keys = combined_by_short op w (keeps_right op && is_zero f) (keeps_left op && is_zero g) f g keys
+  combined_short op w f g keys = combined_unless_short op w (shifts_out op w g) f g keys
 
   -- ---- expressions
 
@@ -246,9 +258,9 @@ module _ (find : Find) (most : ℕ) (least : 25 ≤ most) where
       let x = lower find p s index keys in settled_small (load find p a s.writes x.flat x.keys).flat (load_settled p a s.writes x.flat x.keys)
   lower_flat p s (One ones.Not a) keys ok = let x = lower find p s a keys in omega (arith, share_wire (width p a) (Inverse x.flat) x.keys)
   lower_flat p s (One (ones.Cut narrow) a) keys ok =
-      let x = lower find p s a keys in refit_flat (nat_eq narrow (width p a)) narrow (operand_most p most a) x.flat x.keys (lower_flat p s a keys ok)
+      let x = lower find p s a keys in refit_flat (nat_eq narrow (width p a)) narrow (operand_most p most a) (Lowest (narrow - 1) x.flat) x.flat x.keys (lower_flat p s a keys ok)
   lower_flat p s (One (ones.Widen wide) a) keys ok =
-      let x = lower find p s a keys in refit_flat (nat_eq wide (width p a)) wide (operand_most p most a) x.flat x.keys (lower_flat p s a keys ok)
+      let x = lower find p s a keys in refit_flat (nat_eq wide (width p a)) wide (operand_most p most a) (Padded (wide - width p a) x.flat) x.flat x.keys (lower_flat p s a keys ok)
   lower_flat p s (Two op a b) keys ok =
       let x = lower find p s a keys in
       let y = lower find p s b x.keys in
@@ -299,13 +311,13 @@ module _ (find : Find) (most : ℕ) (least : 25 ≤ most) where
   settled_free w n (OfWire k) keys is = omega arith
 
   -- what is cut or extended is a number or a wire, but where its width stays
-  refit_held : (same : Bool) (to w n : ℕ) (f : Flat) (keys now : List Key) → keys_most most (settled find w f now).keys ≤ keys_most most now + n
-      → keys_most most (settled find w (refit find same to f keys).flat now).keys ≤ keys_most most now + cond same n 0
-  refit_held true to w n f keys now h = h
-  refit_held false to w n (Fixed v b) keys now h = omega arith
-  refit_held false to w n (OfItem i) keys now h = settled_free w 0 (share find to (Copied (OfItem i)) keys).flat now (share_settled to (Copied (OfItem i)) keys)
-  refit_held false to w n (OfPin i) keys now h = settled_free w 0 (share find to (Copied (OfPin i)) keys).flat now (share_settled to (Copied (OfPin i)) keys)
-  refit_held false to w n (OfWire k) keys now h = settled_free w 0 (share find to (Copied (OfWire k)) keys).flat now (share_settled to (Copied (OfWire k)) keys)
+  refit_held : (same : Bool) (to w n : ℕ) (body : Body) (f : Flat) (keys now : List Key) → keys_most most (settled find w f now).keys ≤ keys_most most now + n
+      → keys_most most (settled find w (refit find same to body f keys).flat now).keys ≤ keys_most most now + cond same n 0
+  refit_held true to w n body f keys now h = h
+  refit_held false to w n body (Fixed v b) keys now h = omega arith
+  refit_held false to w n body (OfItem i) keys now h = settled_free w 0 (share find to body keys).flat now (share_settled to body keys)
+  refit_held false to w n body (OfPin i) keys now h = settled_free w 0 (share find to body keys).flat now (share_settled to body keys)
+  refit_held false to w n body (OfWire k) keys now h = settled_free w 0 (share find to body keys).flat now (share_settled to body keys)
 
   lower_held : (p : Program) (s : Sym) (e : Expr) (w : ℕ) (keys now : List Key) → AreSettled s.temps
       → keys_most most (settled find w (lower find p s e keys).flat now).keys ≤ keys_most most now + settled_most p most e
@@ -319,9 +331,9 @@ module _ (find : Find) (most : ℕ) (least : 25 ≤ most) where
   lower_held p s (One ones.Not a) w keys now ok =
       let x = lower find p s a keys in settled_free w 0 (share find (width p a) (Inverse x.flat) x.keys).flat now (share_settled (width p a) (Inverse x.flat) x.keys)
   lower_held p s (One (ones.Cut narrow) a) w keys now ok =
-      let x = lower find p s a keys in refit_held (nat_eq narrow (width p a)) narrow w (settled_most p most a) x.flat x.keys now (lower_held p s a w keys now ok)
+      let x = lower find p s a keys in refit_held (nat_eq narrow (width p a)) narrow w (settled_most p most a) (Lowest (narrow - 1) x.flat) x.flat x.keys now (lower_held p s a w keys now ok)
   lower_held p s (One (ones.Widen wide) a) w keys now ok =
-      let x = lower find p s a keys in refit_held (nat_eq wide (width p a)) wide w (settled_most p most a) x.flat x.keys now (lower_held p s a w keys now ok)
+      let x = lower find p s a keys in refit_held (nat_eq wide (width p a)) wide w (settled_most p most a) (Padded (wide - width p a) x.flat) x.flat x.keys now (lower_held p s a w keys now ok)
   lower_held p s (Two op a b) w keys now ok =
       let x = lower find p s a keys in
       let y = lower find p s b x.keys in
@@ -473,7 +485,7 @@ module _ (p : Program) (formed : IsWellFormed p) (end : Going) (few : length end
   -- ---- operands and what wires carry
 
   bare_size : (n : ℕ) (f : Flat) → n ≤ 2 ^ 64 → IsBelow p n f → toks_size (bare (named p f)) ≤ flat_most most f
-  bare_size n (Fixed w v) less b = omega arith
+  bare_size n (Fixed w v) less b = omega (arith, sized_most w v)
   bare_size n (OfItem i) less b = omega (arith, item_short i)
   bare_size n (OfPin i) less b = omega (arith, pin_short i)
   bare_size n (OfWire k) less b = omega (arith, wire_short k (omega (arith, less, b)))
@@ -491,8 +503,23 @@ module _ (p : Program) (formed : IsWellFormed p) (end : Going) (few : length end
   flat_low : (n : ℕ) (f : Flat) → n ≤ 2 ^ 64 → IsBelow p n f → toks_size (shown 0 (named p f)) ≤ name_most most
   flat_low n f less b = omega (arith, flat_size n 0 f (omega arith) less b, flat_small (λ keys key. None) most least f)
 
+  lowest_bare : (n high : ℕ) (f : Flat) → n ≤ 2 ^ 64 → IsBelow p n f → high < 64 → toks_size (bare (lowest p high f)) ≤ 11 + flat_most most f
+  lowest_bare n high (Fixed w v) less b small = omega (arith, sized_most w v)
+  lowest_bare n high (OfItem i) less b small = omega (arith, item_short i, zero_digit, length-decimal-le 2 high (omega arith) (omega (arith, small)) (omega (arith, small)))
+  lowest_bare n high (OfPin i) less b small = omega (arith, pin_short i, zero_digit, length-decimal-le 2 high (omega arith) (omega (arith, small)) (omega (arith, small)))
+  lowest_bare n high (OfWire k) less b small =
+      omega (arith, wire_short k (omega (arith, less, b)), zero_digit, length-decimal-le 2 high (omega arith) (omega (arith, small)) (omega (arith, small)))
+
   body_bare : (n : ℕ) (body : Body) → n ≤ 2 ^ 64 → IsBodyBelow p n body → toks_size (bare (body_tree p body)) ≤ body_most most body
   body_bare n (Copied f) less b = bare_size n f less b
+  body_bare n (Lowest high f) less b = lowest_bare n high f less b.2 b.0
+  body_bare n (Padded zeros f) less b =
+      omega (
+        arith,
+        flat_size n 0 f (omega arith) less b.1,
+        toks_size-append (parts_tokens (Then (trees.Number zeros 0) (Then (named p f) End))) (Mark signs.CloseBrace ∷ []),
+        toks_size-append (shown 0 (named p f)) (more_tokens End),
+      )
   body_bare n (Inverse f) less b = omega (arith, flat_size n 12 f (omega arith) less b)
   body_bare n (Load a f) less b =
       omega (arith, flat_size n 0 f (omega arith) less b.1, array_short a, toks_size-append (shown 0 (named p f)) (Mark signs.CloseSquare ∷ []))
@@ -603,7 +630,7 @@ module _ (p : Program) (formed : IsWellFormed p) (end : Going) (few : length end
   starts_size (item ∷ items) [] short = omega arith
   starts_size (item ∷ items) (v ∷ first) short =
       let more : suc (length items) * (29 + name_most most) ≡ length items * (29 + name_most most) + (29 + name_most most) = grind arith in
-      omega (arith, more, short zero, starts_size items first (λ i. short (suc i)))
+      omega (arith, more, short zero, sized_most item.width v, starts_size items first (λ i. short (suc i)))
 
   pins_size : (items : List Item) (rest : VToks) → ((i : ℕ) → length (slice_index_or (item_names items) i []) ≤ most) → ((i : ℕ) (d : Item) → i < length items → IsWidth (slice_index_or items i d).width)
       → toks_size (flat_map input_tokens items ++ rest) ≤ length items * (19 + name_most most) + toks_size rest

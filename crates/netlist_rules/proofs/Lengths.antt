@@ -1,5 +1,5 @@
 -- How long the text of some tokens is, each with the white space behind it.
-use Rattle.std.proofs.Common.{◌≡◌, ℕ, suc, ◌+◌, ◌≤◌, ◌^◌, ◌<◌, List, [], ◌∷◌, ◌++◌, length, arith}
+use Rattle.std.proofs.Common.{◌≡◌, ℕ, zero, suc, ◌+◌, ◌≤◌, ◌^◌, ◌<◌, List, [], ◌∷◌, ◌++◌, length, arith}
 use Rattle.std.specs.Fmt.{decimal}
 use Rattle.std.proofs.lemmas.Fmt.{length-decimal-le}
 use Rattle.std.proofs.lemmas.List.{length-append}
@@ -9,13 +9,18 @@ use Rattle.verilog_text.specs.Printing.{vsign_text, token_text, space_behind, pi
 use Rattle.verilog_text.proofs.TokenContents.{IsWritten, AreWritten}
 use Rattle.verilog_text.proofs.WrittenTexts.{small_power}
 
--- a number with its size has at most 64 bits, and each other token is exactly as long
+-- a number with its size is 0 or has at most 64 bits, and each other token is exactly as long
 abbrev pub tok_size : VTok → ℕ
 tok_size (Named name) = 2 + length name
 tok_size (Reserved keyword) = suc (length (vword_text keyword))
-tok_size (Sized width value) = 25
+tok_size (Sized width zero) = 6
+tok_size (Sized width (suc value)) = 25
 tok_size (Plain value digits) = suc digits
 tok_size (Mark sign) = suc (length (vsign_text sign))
+
+pub sized_most : (width value : ℕ) → tok_size (Sized width value) ≤ 25
+sized_most width zero = omega arith
+sized_most width (suc value) = omega arith
 
 abbrev pub toks_size : VToks → ℕ
 toks_size [] = 0
@@ -28,12 +33,19 @@ toks_size-append (t ∷ xs) ys = omega (arith, toks_size-append xs ys)
 text_short : (t : VTok) → IsWritten t → suc (length (token_text t)) ≤ tok_size t
 text_short (Named name) h = omega arith
 text_short (Reserved keyword) h = omega arith
-text_short (Sized width value) h =
+text_short (Sized width zero) h =
     omega (
       arith,
-      length-append (decimal width) (39 ∷ 100 ∷ decimal value),
+      length-append (decimal width) (39 ∷ 100 ∷ decimal 0),
       length-decimal-le 2 width (omega arith) (omega (arith, h.1)) (omega (arith, h.1)),
-      length-decimal-le 20 value (omega arith) (omega (arith, small_power width value h.1 h.2)) (small_power width value h.1 h.2),
+      length-decimal-le 1 0 (omega arith) (omega arith) (omega arith),
+    )
+text_short (Sized width (suc value)) h =
+    omega (
+      arith,
+      length-append (decimal width) (39 ∷ 100 ∷ decimal (suc value)),
+      length-decimal-le 2 width (omega arith) (omega (arith, h.1)) (omega (arith, h.1)),
+      length-decimal-le 20 (suc value) (omega arith) (omega (arith, small_power width (suc value) h.1 h.2)) (small_power width (suc value) h.1 h.2),
     )
 text_short (Plain value digits) h = omega (arith, h.1)
 text_short (Mark sign) h = omega arith

@@ -3,6 +3,7 @@ use Rattle.std.proofs.Common.{◌≡◌, ℕ, suc, ◌+◌, ◌-◌, ◌^◌, �
 use Rattle.std.specs.Prelude.{All, flat_map, slice_index, slice_index_or, codes}
 use Rattle.std.specs.List.{slice_get, list_all}
 use Rattle.std.proofs.lemmas.Bool.{and_from, le-leb}
+use Rattle.std.proofs.lemmas.Nat.{pow_pos}
 use Rattle.std.proofs.lemmas.List.{length-map, append-nil}
 use Rattle.std.proofs.Math.Nat.{pow-le-pow_right}
 use Rattle.lisa_engine.specs.Images.{IsDepth}
@@ -24,17 +25,17 @@ use Rattle.verilog_text.specs.Spelling.{VSpells, most_open}
 use Rattle.verilog_text.specs.Printing.{module_tokens, module_text}
 use Rattle.verilog_text.proofs.SpelledTokens.{loosen, level_small, module_spells}
 use Rattle.verilog_text.proofs.TokenContents.{HasText, AreWritten, module_written}
-use Rattle.verilog_text.proofs.OpenBrackets.{IsNeutral, opens_round, opens_square, closes_round, closes_square, neutral_operator, module_shallow}
+use Rattle.verilog_text.proofs.OpenBrackets.{IsNeutral, opens_round, opens_square, opens_brace, closes_round, closes_square, closes_brace, neutral_operator, module_shallow}
 use Rattle.verilog_text.proofs.WrittenTexts.{placed, placed_same, text_lexes}
 use Rattle.step_program.specs.Programs.{Program}
 use Rattle.step_program.specs.WellFormed.{IsGraphic, IsDigit, IsFreeName, IsWidth, IsStored, IsWellFormed}
 use Rattle.netlist_wires.specs.declared.keys.Flat.{Flat}
 use Rattle.netlist_wires.specs.declared.keys.Flat.TheVariants.{Fixed, OfItem, OfPin, OfWire}
 use Rattle.netlist_wires.specs.declared.keys.Body.{Body}
-use Rattle.netlist_wires.specs.declared.keys.Body.TheVariants.{Copied, Inverse, Load, Operate, Select}
+use Rattle.netlist_wires.specs.declared.keys.Body.TheVariants.{Copied, Lowest, Padded, Inverse, Load, Operate, Select}
 use Rattle.netlist_wires.specs.declared.keys.Key.{Key}
 use Rattle.netlist_wires.specs.declared.keys.Write.{Write}
-use Rattle.netlist_wires.specs.Wiring.{item_name, pin_name, array_name, wire_name, operator_of, named, body_tree, nothing, Going, wires_from, set_items, put_cell, put_cells, actions, first_settings, clock_name, reg_members, array_members, members_at, module_at}
+use Rattle.netlist_wires.specs.Wiring.{item_name, pin_name, array_name, wire_name, operator_of, named, lowest, body_tree, nothing, Going, wires_from, set_items, put_cell, put_cells, actions, first_settings, clock_name, reg_members, array_members, members_at, module_at}
 use Rattle.netlist_wires.proofs.Named.{is_wire}
 use Rattle.netlist_wires.proofs.Growing.{IsBelow, IsBodyBelow, IsOrdered}
 use Rattle.netlist_rules.proofs.Pieces.{IsPiece, piece_nil, piece_append, piece_token, piece_closed, piece_more}
@@ -89,15 +90,30 @@ named_depth p (OfWire k) = refl
 
 -- ---- what a wire carries
 
+abbrev lowest_toks : Program → ℕ → Flat → VToks
+lowest_toks p high (Fixed w v) = Sized w v ∷ []
+lowest_toks p high f = flat_tok p f ∷ Mark signs.OpenSquare ∷ ((Plain high 1 ∷ Mark signs.Colon ∷ Plain 0 1 ∷ []) ++ (Mark signs.CloseSquare ∷ []))
+
 abbrev body_toks : Program → Body → VToks
 body_toks p (Copied f) = flat_tok p f ∷ []
+body_toks p (Lowest high f) = lowest_toks p high f
+body_toks p (Padded zeros f) = Mark signs.OpenBrace ∷ ((Sized zeros 0 ∷ Mark signs.Comma ∷ flat_tok p f ∷ []) ++ (Mark signs.CloseBrace ∷ []))
 body_toks p (Inverse f) = Mark signs.Tilde ∷ flat_tok p f ∷ []
 body_toks p (Load a f) = Named (array_name p a) ∷ Mark signs.OpenSquare ∷ ((flat_tok p f ∷ []) ++ (Mark signs.CloseSquare ∷ []))
 body_toks p (Operate op f g) = flat_tok p f ∷ Mark (vsign_of (operator_of op)) ∷ flat_tok p g ∷ []
 body_toks p (Select c f g) = flat_tok p c ∷ Mark signs.Question ∷ flat_tok p f ∷ Mark signs.Colon ∷ flat_tok p g ∷ []
 
+lowest_spells : (p : Program) (high : ℕ) (f : Flat) → SpellsVExpr 12 (lowest_toks p high f) (lowest p high f)
+lowest_spells p high (Fixed w v) = grammar.number
+lowest_spells p high (OfItem i) = grammar.part
+lowest_spells p high (OfPin i) = grammar.part
+lowest_spells p high (OfWire k) = grammar.part
+
 body_spells : (p : Program) (body : Body) → SpellsVExpr 0 (body_toks p body) (body_tree p body)
 body_spells p (Copied f) = flat_at p f 0 (omega arith)
+body_spells p (Lowest high f) = loosen 0 12 _ _ (omega arith) (lowest_spells p high f)
+body_spells p (Padded zeros f) =
+    loosen 0 12 _ _ (omega arith) (grammar.join (grammar.more (loosen 0 12 _ _ (omega arith) grammar.number) (grammar.last (flat_at p f 0 (omega arith))) refl) refl)
 body_spells p (Inverse f) = loosen 0 11 _ _ (omega arith) (grammar.one vones.Complement (flat_spells p f))
 body_spells p (Load a f) = loosen 0 12 _ _ (omega arith) (grammar.cell (flat_at p f 0 (omega arith)) refl)
 body_spells p (Operate op f g) =
@@ -106,8 +122,16 @@ body_spells p (Operate op f g) =
     (grammar.two o refl (flat_at p f (level_of o) (omega (arith, level_small o))) (flat_at p g (suc (level_of o)) (omega (arith, level_small o))) refl)
 body_spells p (Select c f g) = grammar.choose (flat_at p c 1 (omega arith)) (flat_at p f 0 (omega arith)) (flat_at p g 0 (omega arith)) refl
 
+lowest_depth : (p : Program) (high : ℕ) (f : Flat) → v_depth (lowest p high f) ≡ 1
+lowest_depth p high (Fixed w v) = refl
+lowest_depth p high (OfItem i) = refl
+lowest_depth p high (OfPin i) = refl
+lowest_depth p high (OfWire k) = refl
+
 body_depth : (p : Program) (body : Body) → v_depth (body_tree p body) ≤ 2
 body_depth p (Copied f) = omega (arith, named_depth p f)
+body_depth p (Lowest high f) = omega (arith, lowest_depth p high f)
+body_depth p (Padded zeros f) = omega (arith, named_depth p f)
 body_depth p (Inverse f) = omega (arith, named_depth p f)
 body_depth p (Load a f) = omega (arith, named_depth p f)
 body_depth p (Operate op f g) = omega (arith, named_depth p f, named_depth p g)
@@ -231,8 +255,25 @@ module _ (p : Program) (formed : IsWellFormed p) where
   mark_piece : (k : ℕ) (sign : VSign) {ts : VToks} → IsNeutral (Mark sign) → IsPiece k ts → IsPiece k (Mark sign ∷ ts)
   mark_piece k sign same h = piece_token (Mark sign) same tt h
 
+  bits_piece : (n high : ℕ) (f : Flat) → n ≤ 2 ^ 64 → IsBelow p n f → high < 64
+      → IsPiece 2 (flat_tok p f ∷ Mark signs.OpenSquare ∷ ((Plain high 1 ∷ Mark signs.Colon ∷ Plain 0 1 ∷ []) ++ (Mark signs.CloseSquare ∷ [])))
+  bits_piece n high f few b small =
+      flat_piece 2 n f few b
+      (piece_closed (Mark signs.OpenSquare) (Mark signs.CloseSquare) opens_square closes_square tt tt
+      (piece_token (Plain high 1) (λ n. refl) (omega (arith, small)) (mark_piece 1 signs.Colon (λ n. refl) (piece_token (Plain 0 1) (λ n. refl) (omega arith) (piece_nil 1)))) (piece_nil 2))
+
+  lowest_piece : (n high : ℕ) (f : Flat) → n ≤ 2 ^ 64 → IsBelow p n f → high < 64 → IsPiece 2 (lowest_toks p high f)
+  lowest_piece n high (Fixed w v) few b small = flat_piece 2 n (Fixed w v) few b (piece_nil 2)
+  lowest_piece n high (OfItem i) few b small = bits_piece n high (OfItem i) few b small
+  lowest_piece n high (OfPin i) few b small = bits_piece n high (OfPin i) few b small
+  lowest_piece n high (OfWire k) few b small = bits_piece n high (OfWire k) few b small
+
   body_piece : (n : ℕ) (body : Body) → n ≤ 2 ^ 64 → IsBodyBelow p n body → IsPiece 2 (body_toks p body)
   body_piece n (Copied f) few b = flat_piece 2 n f few b (piece_nil 2)
+  body_piece n (Lowest high f) few b = lowest_piece n high f few b.2 b.0
+  body_piece n (Padded zeros f) few b =
+      piece_closed (Mark signs.OpenBrace) (Mark signs.CloseBrace) opens_brace closes_brace tt tt
+      (piece_token (Sized zeros 0) (λ n. refl) (b.0.0, b.0.1, pow_pos zeros) (mark_piece 1 signs.Comma (λ n. refl) (flat_piece 1 n f few b.1 (piece_nil 1)))) (piece_nil 2)
   body_piece n (Inverse f) few b = mark_piece 2 signs.Tilde (λ n. refl) (flat_piece 2 n f few b (piece_nil 2))
   body_piece n (Load a f) few b =
       piece_token (Named (array_name p a)) (λ n. refl) (array_has a b.0)

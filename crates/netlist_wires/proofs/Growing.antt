@@ -1,10 +1,10 @@
 -- As wires are made, each reads what is there, and each operand is as wide as what it stands for; and how many there are.
-use Rattle.std.proofs.Common.{◌≡◌, ℕ, zero, suc, ◌+◌, ◌*◌, ◌^◌, ◌<◌, ◌≤◌, Bool, true, false, ◌&&◌, List, [], ◌∷◌, ◌++◌, length, map, refl, sym, ap, ◌∙◌, subst, arith, nat_eq, cond, length-append, ◌⊎◌, inl, inr, Option, Some, None}
+use Rattle.std.proofs.Common.{◌≡◌, ℕ, zero, suc, ◌+◌, ◌-◌, ◌*◌, ◌^◌, ◌<◌, ◌≤◌, Bool, true, false, ◌&&◌, List, [], ◌∷◌, ◌++◌, length, map, refl, sym, ap, ◌∙◌, subst, arith, nat_eq, cond, length-append, ◌⊎◌, inl, inr, Option, Some, None, ⊎_elim}
 use Rattle.std.specs.Prelude.{All, slice_index, slice_index_or, slice_set}
 use Rattle.std.specs.List.{slice_get}
 use Rattle.std.specs.Option.{option_map}
 use Rattle.std.proofs.lemmas.Nat.{pow_pos}
-use Rattle.std.proofs.lemmas.Bool.{cases_eq, eqb-true}
+use Rattle.std.proofs.lemmas.Bool.{cases_eq, cases_lt, eqb-true, eqb-false}
 use Rattle.std.proofs.lemmas.List.{get_or_append_left, get_or-set_same, get_or-set_other, length-set, length-map, map-append}
 use Rattle.std.proofs.lemmas.List.Elements.{All-map, All-head, All-tail}
 use Rattle.std.proofs.lemmas.Option.{slice_get_within, slice_get-map, get_or_from_slice_get}
@@ -21,12 +21,12 @@ use Rattle.step_program.proofs.Fits.{one_below}
 use Rattle.netlist_wires.specs.declared.keys.Flat.{Flat}
 use Rattle.netlist_wires.specs.declared.keys.Flat.TheVariants.{Fixed, OfItem, OfPin, OfWire}
 use Rattle.netlist_wires.specs.declared.keys.Body.{Body}
-use Rattle.netlist_wires.specs.declared.keys.Body.TheVariants.{Copied, Inverse, Load, Operate, Select}
+use Rattle.netlist_wires.specs.declared.keys.Body.TheVariants.{Copied, Lowest, Padded, Inverse, Load, Operate, Select}
 use Rattle.netlist_wires.specs.declared.keys.Key.{Key}
 use Rattle.netlist_wires.specs.declared.keys.Write.{Write}
 use Rattle.netlist_wires.specs.Tables.{IsFind}
 use Rattle.netlist_wires.specs.Costs.{writes_to, expr_cost, aim_cost, arrays_after, move_cost, moves_cost}
-use Rattle.netlist_wires.specs.Wiring.{Made, Find, shared, share, behind, load, Sym, nothing, refit, changed, settled, is_zero, keeps_right, keeps_left, combined_by, combined, lower, given_once, given, Going, aimed, gone, gone_all, own_items, begun_going}
+use Rattle.netlist_wires.specs.Wiring.{Made, Find, shared, share, behind, load, Sym, nothing, refit, changed, settled, is_zero, keeps_right, keeps_left, combined_by, shifts_out, combined_unless, combined, lower, given_once, given, Going, aimed, gone, gone_all, own_items, begun_going}
 use Rattle.netlist_wires.proofs.Longer.{IsLonger, same_longer, then_longer, longer_length}
 use Rattle.netlist_wires.proofs.Kept.{both_true, left_width, right_width}
 use Rattle.netlist_wires.proofs.Meanings.{at_end}
@@ -40,8 +40,17 @@ IsBelow p n (OfItem i) = i < length p.items
 IsBelow p n (OfPin i) = i < length p.pins
 IsBelow p n (OfWire k) = k < n
 
+-- an operand that is no number
+abbrev pub IsNamed : Flat → Type 0
+IsNamed (Fixed w v) = ⊥
+IsNamed (OfItem i) = Unit {0}
+IsNamed (OfPin i) = Unit {0}
+IsNamed (OfWire k) = Unit {0}
+
 abbrev pub IsBodyBelow : Program → ℕ → Body → Type 0
 IsBodyBelow p n (Copied f) = IsBelow p n f
+IsBodyBelow p n (Lowest high f) = (high < 64) × IsNamed f × IsBelow p n f
+IsBodyBelow p n (Padded zeros f) = IsWidth zeros × IsBelow p n f
 IsBodyBelow p n (Inverse f) = IsBelow p n f
 IsBodyBelow p n (Load array f) = (array < length p.arrays) × IsBelow p n f
 IsBodyBelow p n (Operate op f g) = IsBelow p n f × IsBelow p n g
@@ -56,8 +65,10 @@ flat_width p keys (OfItem i) = item_width p i
 flat_width p keys (OfPin i) = pin_width p i
 flat_width p keys (OfWire k) = slice_index (key_widths keys) k
 
--- an index is as wide as the depth needs
+-- an index is as wide as the depth needs, bits lie inside their operand, and what is padded has at most 64 bits
 abbrev pub IsIndexed : Program → List Key → Body → Type 0
+IsIndexed p keys (Lowest high f) = high < flat_width p keys f
+IsIndexed p keys (Padded zeros f) = zeros + flat_width p keys f ≤ 64
 IsIndexed p keys (Load array f) = array_depth p array ≡ 2 ^ flat_width p keys f
 IsIndexed p keys _ = Unit {0}
 
@@ -81,6 +92,8 @@ below_on p n m (OfWire k) h b = omega (arith, h, b)
 
 body_on : (p : Program) (n m : ℕ) (body : Body) → n ≤ m → IsBodyBelow p n body → IsBodyBelow p m body
 body_on p n m (Copied f) h b = below_on p n m f h b
+body_on p n m (Lowest high f) h b = (b.0, b.1, below_on p n m f h b.2)
+body_on p n m (Padded zeros f) h b = (b.0, below_on p n m f h b.1)
 body_on p n m (Inverse f) h b = below_on p n m f h b
 body_on p n m (Load array f) h b = (b.0, below_on p n m f h b.1)
 body_on p n m (Operate op f g) h b = (below_on p n m f h b.0, below_on p n m g h b.1)
@@ -97,6 +110,8 @@ flat_width_on p {keys = keys} (OfWire k) g b =
 
 indexed_on : (p : Program) {keys now : List Key} (body : Body) → IsLonger keys now → IsBodyBelow p (length keys) body → IsIndexed p keys body → IsIndexed p now body
 indexed_on p (Copied f) g b i = tt
+indexed_on p (Lowest high f) g b i = omega (arith, i, flat_width_on p f g b.2)
+indexed_on p (Padded zeros f) g b i = omega (arith, i, flat_width_on p f g b.1)
 indexed_on p (Inverse f) g b i = tt
 indexed_on p (Load array f) g b i = i ∙ ap (λ (w : ℕ). 2 ^ w) (sym (flat_width_on p f g b.1))
 indexed_on p (Operate op f h) g b i = tt
@@ -283,18 +298,25 @@ module _ (p : Program) (formed : IsWellFormed p) where
         subst (λ (n : ℕ). Grown p keys out n (array_width p a)) (more_writes a w ws)
         (then_grown p keys r out gr (behind_grown a (nat_eq w.array a) w x r (array_small a less) (on w.guard bs.0.guard) (on w.index bs.0.index) (on w.value bs.0.value) (on x bx) gr.sound))
 
-    refit_grown : (same : Bool) (to w : ℕ) (f : Flat) (keys : List Key) → nat_eq to w ≡ same → IsWidth to → IsSound p keys f w → Grown p keys (refit find same to f keys) 1 to
-    refit_grown true to w f keys e small sound = record { longer = same_longer keys; few = omega arith; ordered = λ h. h; sound = subst (IsSound p keys f) (sym (eqb-true to w e)) sound }
-    refit_grown false to w (Fixed v b) keys e small sound =
+    refit_grown : (same : Bool) (to w : ℕ) (body : Body) (f : Flat) (keys : List Key) → nat_eq to w ≡ same → IsWidth to → IsSound p keys f w
+        → (same ≡ false → IsNamed f → IsBodyBelow p (length keys) body × IsIndexed p keys body) → Grown p keys (refit find same to body f keys) 1 to
+    refit_grown true to w body f keys e small sound ok = record { longer = same_longer keys; few = omega arith; ordered = λ h. h; sound = subst (IsSound p keys f) (sym (eqb-true to w e)) sound }
+    refit_grown false to w body (Fixed v b) keys e small sound ok =
         record { longer = same_longer keys; few = omega arith; ordered = λ h. h; sound = record { below = (small, one_below (ones.Cut to) w b); wide = refl } }
-    refit_grown false to w (OfItem i) keys e small sound = share_grown to (Copied (OfItem i)) keys small sound.below tt
-    refit_grown false to w (OfPin i) keys e small sound = share_grown to (Copied (OfPin i)) keys small sound.below tt
-    refit_grown false to w (OfWire k) keys e small sound = share_grown to (Copied (OfWire k)) keys small sound.below tt
+    refit_grown false to w body (OfItem i) keys e small sound ok = share_grown to body keys small (ok refl tt).0 (ok refl tt).1
+    refit_grown false to w body (OfPin i) keys e small sound ok = share_grown to body keys small (ok refl tt).0 (ok refl tt).1
+    refit_grown false to w body (OfWire k) keys e small sound ok = share_grown to body keys small (ok refl tt).0 (ok refl tt).1
 
-    changed_grown : (one : OneOp) (w : ℕ) (f : Flat) (keys : List Key) → IsWidth (one_width one w) → IsSound p keys f w → Grown p keys (changed find one w f keys) 1 (one_width one w)
-    changed_grown ones.Not w f keys small sound = share_grown w (Inverse f) keys small sound.below tt
-    changed_grown (ones.Cut narrow) w f keys small sound = refit_grown (nat_eq narrow w) narrow w f keys refl small sound
-    changed_grown (ones.Widen wide) w f keys small sound = refit_grown (nat_eq wide w) wide w f keys refl small sound
+    changed_grown : (one : OneOp) (w : ℕ) (f : Flat) (keys : List Key) → IsWidth (one_width one w) → FitsOne one w → IsSound p keys f w → Grown p keys (changed find one w f keys) 1 (one_width one w)
+    changed_grown ones.Not w f keys small fit sound = share_grown w (Inverse f) keys small sound.below tt
+    changed_grown (ones.Cut narrow) w f keys small fit sound =
+        refit_grown (nat_eq narrow w) narrow w (Lowest (narrow - 1) f) f keys refl small sound (λ other named. ((omega (arith, small.1), named, sound.below), omega (arith, fit, sound.wide)))
+    changed_grown (ones.Widen wide) w f keys small fit sound =
+        refit_grown (nat_eq wide w) wide w (Padded (wide - w) f) f keys refl small sound (λ other named. (let more : w < wide = wider wide w fit.0 other in
+        (((omega (arith, more), omega (arith, fit.1)), sound.below), omega (arith, more, fit.1, sound.wide))))
+      where
+        wider : (a b : ℕ) → b ≤ a → nat_eq a b ≡ false → b < a
+        wider a b le other = ⊎_elim (λ less. less) (λ ge. absurd (eqb-false a b other (omega (arith, le, ge)))) (cases_lt b a)
 
     settled_grown : (w : ℕ) (f : Flat) (keys : List Key) → IsWidth w → IsSound p keys f w → Grown p keys (settled find w f keys) 1 w
     settled_grown w (Fixed v b) keys small sound = record { longer = same_longer keys; few = omega arith; ordered = λ h. h; sound = sound }
@@ -308,9 +330,15 @@ module _ (p : Program) (formed : IsWellFormed p) where
     combined_by_grown op w v false true f g keys is_r is_l small fit sf sg = settled_grown (two_width op w) f keys small (subst (IsSound p keys f) (left_width op w (both_true is_l).0) sf)
     combined_by_grown op w v false false f g keys is_r is_l small fit sf sg = share_grown (two_width op w) (Operate op f g) keys small (sf.below, sg.below) tt
 
+    combined_unless_grown : (op : TwoOp) (w v : ℕ) (out : Bool) (f g : Flat) (keys : List Key) → IsWidth (two_width op w) → FitsTwo op w v → IsSound p keys f w → IsSound p keys g v
+        → Grown p keys (combined_unless find op (two_width op w) out f g keys) 1 (two_width op w)
+    combined_unless_grown op w v true f g keys small fit sf sg =
+        record { longer = same_longer keys; few = omega arith; ordered = λ h. h; sound = record { below = (small, pow_pos (two_width op w)); wide = refl } }
+    combined_unless_grown op w v false f g keys small fit sf sg = combined_by_grown op w v (keeps_right op && is_zero f) (keeps_left op && is_zero g) f g keys refl refl small fit sf sg
+
     combined_grown : (op : TwoOp) (w v : ℕ) (f g : Flat) (keys : List Key) → IsWidth (two_width op w) → FitsTwo op w v → IsSound p keys f w → IsSound p keys g v
         → Grown p keys (combined find op (two_width op w) f g keys) 1 (two_width op w)
-    combined_grown op w v f g keys small fit sf sg = combined_by_grown op w v (keeps_right op && is_zero f) (keeps_left op && is_zero g) f g keys refl refl small fit sf sg
+    combined_grown op w v f g keys small fit sf sg = combined_unless_grown op w v (shifts_out op (two_width op w) g) f g keys small fit sf sg
 
     pub lower_grown : (s : Sym) (e : Expr) (keys : List Key) → IsSymSound keys s → IsFit p e → Grown p keys (lower find p s e keys) (expr_cost (arrays_of s.writes) e) (width p e)
     lower_grown s (Const w v) keys b fit = record { longer = same_longer keys; few = omega arith; ordered = λ h. h; sound = record { below = fit; wide = refl } }
@@ -327,7 +355,7 @@ module _ (p : Program) (formed : IsWellFormed p) where
     lower_grown s (One one a) keys b fit =
         let x = lower find p s a keys in
         let gx : Grown p keys x (expr_cost (arrays_of s.writes) a) (width p a) = lower_grown s a keys b fit.0 in
-        then_grown p keys x (changed find one (width p a) x.flat x.keys) gx (changed_grown one (width p a) x.flat x.keys (fit_small (One one a) fit) gx.sound)
+        then_grown p keys x (changed find one (width p a) x.flat x.keys) gx (changed_grown one (width p a) x.flat x.keys (fit_small (One one a) fit) fit.1 gx.sound)
     lower_grown s (Two op a b) keys bs fit =
         let arrays = arrays_of s.writes in
         let x = lower find p s a keys in

@@ -1,8 +1,13 @@
--- Operators keep an operand beside the number 0.
-use Rattle.std.proofs.Common.{◌≡◌, ℕ, ◌^◌, ◌%◌, ◌<◌, Bool, true, false, ◌&&◌, refl, sym, ap, ◌∙◌, subst, arith, nat_eq}
+-- Operators keep an operand beside the number 0, and shifts by the width or more leave 0.
+use Rattle.std.proofs.Common.{◌≡◌, ℕ, ◌^◌, ◌%◌, ◌<◌, ◌≤◌, Bool, true, false, ◌&&◌, refl, sym, ap, ◌∙◌, subst, arith, nat_eq}
 use Rattle.std.specs.Int.Bits.{or_zero_l, or_zero_r, xor_zero_l, xor_zero_r}
-use Rattle.std.proofs.lemmas.Bool.{eqb-true}
+use Rattle.std.proofs.lemmas.Bool.{eqb-true, leb-true}
+use Rattle.std.proofs.lemmas.Nat.{pow_pos}
 use Rattle.std.proofs.Math.Nat.{mod-eq_of_lt}
+use Rattle.lisa_words.specs.Words.{word_shr}
+use Rattle.lisa_words.specs.declared.words.Kind.TheVariants.{Unsigned}
+use Rattle.lisa_words.proofs.Reduced.{none_below}
+use Rattle.lisa_words.proofs.WordLaws.{shl_far}
 use Rattle.verilog_text.specs.Values.{Env}
 use Rattle.step_program.specs.declared.expressions.TwoOp.{TwoOp}
 use Rattle.step_program.specs.declared.expressions.TwoOp.TheVariants as ops
@@ -11,7 +16,7 @@ use Rattle.step_program.specs.Effects.{two_width, two_value}
 use Rattle.step_program.specs.WellFormed.{FitsTwo}
 use Rattle.netlist_wires.specs.declared.keys.Flat.{Flat}
 use Rattle.netlist_wires.specs.declared.keys.Flat.TheVariants.{Fixed, OfItem, OfPin, OfWire}
-use Rattle.netlist_wires.specs.Wiring.{is_zero, keeps_right, keeps_left}
+use Rattle.netlist_wires.specs.Wiring.{is_zero, keeps_right, keeps_left, reaches, shifts_out}
 use Rattle.netlist_wires.proofs.Operands.{means}
 
 pub both_true : {a b : Bool} → (a && b) ≡ true → (a ≡ true) × (b ≡ true)
@@ -81,3 +86,26 @@ right_value op w v x y e none fit low = ap (λ (n : ℕ). two_value op w n y) no
 
 pub left_value : (op : TwoOp) (w x y : ℕ) → keeps_left op ≡ true → y ≡ 0 → x < 2 ^ w → two_value op w x y ≡ x
 left_value op w x y e none low = ap (two_value op w x) none ∙ zero_right op w x e low
+
+-- ---- shifts that leave nothing
+
+reaches_means : (p : Program) (env : Env) (w : ℕ) (g : Flat) → reaches w g ≡ true → w ≤ means p env g
+reaches_means p env w (Fixed v b) e = leb-true w b e
+reaches_means p env w (OfItem i) e = absurd (cc)
+reaches_means p env w (OfPin i) e = absurd (cc)
+reaches_means p env w (OfWire k) e = absurd (cc)
+
+shr_none : (w a by : ℕ) → a < 2 ^ w → w ≤ by → word_shr Unsigned w a by ≡ 0
+shr_none w a by low far = ap (λ (k : ℕ). k % 2 ^ w) (none_below w a by far low) ∙ mod-eq_of_lt (pow_pos w)
+
+pub out_value : (p : Program) (env : Env) (op : TwoOp) (w x : ℕ) (g : Flat) → shifts_out op (two_width op w) g ≡ true → x < 2 ^ w → two_value op w x (means p env g) ≡ 0
+out_value p env ops.Add w x g e low = absurd (cc)
+out_value p env ops.Sub w x g e low = absurd (cc)
+out_value p env ops.Mul w x g e low = absurd (cc)
+out_value p env ops.And w x g e low = absurd (cc)
+out_value p env ops.Or w x g e low = absurd (cc)
+out_value p env ops.Xor w x g e low = absurd (cc)
+out_value p env ops.Shl w x g e low = shl_far w x (means p env g) (reaches_means p env w g e)
+out_value p env ops.Shr w x g e low = shr_none w x (means p env g) low (reaches_means p env w g e)
+out_value p env ops.Equal w x g e low = absurd (cc)
+out_value p env ops.Less w x g e low = absurd (cc)

@@ -1,5 +1,5 @@
 -- In an edge of a program's module the names mean the program's items, pins and cells, and each wire has its expression's value.
-use Rattle.std.proofs.Common.{◌≡◌, ℕ, zero, suc, ◌+◌, ◌%◌, ◌^◌, ◌<◌, ◌≤◌, List, [], ◌∷◌, ◌++◌, length, map, get_or, refl, sym, ap, ap₂, ◌∙◌, subst, arith, cond, length-append, Some}
+use Rattle.std.proofs.Common.{◌≡◌, ℕ, zero, suc, ◌+◌, ◌-◌, ◌*◌, ◌/◌, ◌%◌, ◌^◌, ◌<◌, ◌≤◌, List, [], ◌∷◌, ◌++◌, length, map, get_or, refl, sym, ap, ap₂, ◌∙◌, subst, arith, cond, length-append, Some}
 use Rattle.std.specs.Prelude.{max, slice_index, slice_index_or}
 use Rattle.std.specs.List.{slice_get}
 use Rattle.std.proofs.lemmas.List.{get_or_append_left, map-append, length-map}
@@ -19,7 +19,7 @@ use Rattle.step_program.specs.WellFormed.{IsWellFormed}
 use Rattle.netlist_wires.specs.declared.keys.Flat.{Flat}
 use Rattle.netlist_wires.specs.declared.keys.Flat.TheVariants.{Fixed, OfItem, OfPin, OfWire}
 use Rattle.netlist_wires.specs.declared.keys.Body.{Body}
-use Rattle.netlist_wires.specs.declared.keys.Body.TheVariants.{Copied, Inverse, Load, Operate, Select}
+use Rattle.netlist_wires.specs.declared.keys.Body.TheVariants.{Copied, Lowest, Padded, Inverse, Load, Operate, Select}
 use Rattle.netlist_wires.specs.declared.keys.Key.{Key}
 use Rattle.netlist_wires.specs.Tables.{HasDistinctNames}
 use Rattle.netlist_wires.specs.Wiring.{item_name, pin_name, array_name, wire_name, operator_of, named, body_tree, Going, module_at}
@@ -169,6 +169,16 @@ module _ (p : Program) (formed : IsWellFormed p) (distinct : HasDistinctNames p)
         → assigned (env_of m a old.cells) w (body_tree p body) ≡ assigned (env_of m b old.cells) w (body_tree p body)
     stable a b n w (Copied f) less h same =
         ap (λ (x : ℕ). x % 2 ^ w) (same_flat a b n f (max w (v_width (widths_of m) (named p f))) less h same)
+    stable a b n w (Lowest high (Fixed v c)) less h same = refl
+    stable a b n w (Lowest high (OfItem i)) less h same =
+        ap (λ (x : ℕ). x / 2 ^ 0 % 2 ^ suc (high - 0) % 2 ^ w) (same_flat a b n (OfItem i) 0 less h.2 same)
+    stable a b n w (Lowest high (OfPin i)) less h same =
+        ap (λ (x : ℕ). x / 2 ^ 0 % 2 ^ suc (high - 0) % 2 ^ w) (same_flat a b n (OfPin i) 0 less h.2 same)
+    stable a b n w (Lowest high (OfWire k)) less h same =
+        ap (λ (x : ℕ). x / 2 ^ 0 % 2 ^ suc (high - 0) % 2 ^ w) (same_flat a b n (OfWire k) 0 less h.2 same)
+    stable a b n w (Padded zeros f) less h same =
+        let wf = v_width (widths_of m) (named p f) in
+        ap (λ (x : ℕ). (0 * 2 ^ (wf + 0) + (x * 2 ^ 0 + 0)) % 2 ^ w) (same_flat a b n f wf less h.1 same)
     stable a b n w (Inverse f) less h same =
         let l = max w (v_width (widths_of m) (named p f)) in
         ap (λ (x : ℕ). word_not l x % 2 ^ w) (same_flat a b n f l less h same)

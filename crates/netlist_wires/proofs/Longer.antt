@@ -1,5 +1,5 @@
 -- Keys are only added, behind the others.
-use Rattle.std.proofs.Common.{◌≡◌, ℕ, ◌<◌, ◌≤◌, Bool, true, false, ◌&&◌, List, [], ◌∷◌, ◌++◌, length, refl, sym, ap, ◌∙◌, arith, append_assoc, length-append, nat_eq, Option, Some, None}
+use Rattle.std.proofs.Common.{◌≡◌, ℕ, ◌-◌, ◌<◌, ◌≤◌, Bool, true, false, ◌&&◌, List, [], ◌∷◌, ◌++◌, length, refl, sym, ap, ◌∙◌, arith, append_assoc, length-append, nat_eq, Option, Some, None}
 use Rattle.std.specs.List.{slice_get}
 use Rattle.std.specs.Prelude.{slice_index_or}
 use Rattle.std.proofs.lemmas.List.{append-nil, get_or_append_left}
@@ -13,10 +13,10 @@ use Rattle.step_program.specs.Effects.{array_width, width}
 use Rattle.netlist_wires.specs.declared.keys.Flat.{Flat}
 use Rattle.netlist_wires.specs.declared.keys.Flat.TheVariants.{Fixed, OfItem, OfPin, OfWire}
 use Rattle.netlist_wires.specs.declared.keys.Body.{Body}
-use Rattle.netlist_wires.specs.declared.keys.Body.TheVariants.{Copied, Inverse, Load, Operate, Select}
+use Rattle.netlist_wires.specs.declared.keys.Body.TheVariants.{Copied, Lowest, Padded, Inverse, Load, Operate, Select}
 use Rattle.netlist_wires.specs.declared.keys.Key.{Key}
 use Rattle.netlist_wires.specs.declared.keys.Write.{Write}
-use Rattle.netlist_wires.specs.Wiring.{Made, Find, shared, share, behind, load, Sym, nothing, refit, changed, settled, is_zero, keeps_right, keeps_left, combined_by, combined, lower, given_once, given, Going, aimed, gone, gone_all}
+use Rattle.netlist_wires.specs.Wiring.{Made, Find, shared, share, behind, load, Sym, nothing, refit, changed, settled, is_zero, keeps_right, keeps_left, combined_by, shifts_out, combined_unless, combined, lower, given_once, given, Going, aimed, gone, gone_all}
 
 pub record IsLonger (keys now : List Key) : Type 0 where
   pub more : List Key
@@ -61,17 +61,17 @@ module _ (find : Find) where
   load_longer p a (write ∷ ws) x keys =
       then_longer (load_longer p a ws x keys) (behind_longer (array_width p a) (nat_eq write.array a) write x (load find p a ws x keys))
 
-  refit_longer : (same : Bool) (to : ℕ) (f : Flat) (keys : List Key) → IsLonger keys (refit find same to f keys).keys
-  refit_longer true to f keys = same_longer keys
-  refit_longer false to (Fixed w v) keys = same_longer keys
-  refit_longer false to (OfItem i) keys = share_longer to (Copied (OfItem i)) keys
-  refit_longer false to (OfPin i) keys = share_longer to (Copied (OfPin i)) keys
-  refit_longer false to (OfWire k) keys = share_longer to (Copied (OfWire k)) keys
+  refit_longer : (same : Bool) (to : ℕ) (body : Body) (f : Flat) (keys : List Key) → IsLonger keys (refit find same to body f keys).keys
+  refit_longer true to body f keys = same_longer keys
+  refit_longer false to body (Fixed w v) keys = same_longer keys
+  refit_longer false to body (OfItem i) keys = share_longer to body keys
+  refit_longer false to body (OfPin i) keys = share_longer to body keys
+  refit_longer false to body (OfWire k) keys = share_longer to body keys
 
   pub changed_longer : (one : OneOp) (w : ℕ) (f : Flat) (keys : List Key) → IsLonger keys (changed find one w f keys).keys
   changed_longer ones.Not w f keys = share_longer w (Inverse f) keys
-  changed_longer (ones.Cut narrow) w f keys = refit_longer (nat_eq narrow w) narrow f keys
-  changed_longer (ones.Widen wide) w f keys = refit_longer (nat_eq wide w) wide f keys
+  changed_longer (ones.Cut narrow) w f keys = refit_longer (nat_eq narrow w) narrow (Lowest (narrow - 1) f) f keys
+  changed_longer (ones.Widen wide) w f keys = refit_longer (nat_eq wide w) wide (Padded (wide - w) f) f keys
 
   pub settled_longer : (w : ℕ) (f : Flat) (keys : List Key) → IsLonger keys (settled find w f keys).keys
   settled_longer w (Fixed v b) keys = same_longer keys
@@ -84,8 +84,12 @@ module _ (find : Find) where
   combined_by_longer op w false true f g keys = settled_longer w f keys
   combined_by_longer op w false false f g keys = share_longer w (Operate op f g) keys
 
+  combined_unless_longer : (op : TwoOp) (w : ℕ) (out : Bool) (f g : Flat) (keys : List Key) → IsLonger keys (combined_unless find op w out f g keys).keys
+  combined_unless_longer op w true f g keys = same_longer keys
+  combined_unless_longer op w false f g keys = combined_by_longer op w (keeps_right op && is_zero f) (keeps_left op && is_zero g) f g keys
+
   pub combined_longer : (op : TwoOp) (w : ℕ) (f g : Flat) (keys : List Key) → IsLonger keys (combined find op w f g keys).keys
-  combined_longer op w f g keys = combined_by_longer op w (keeps_right op && is_zero f) (keeps_left op && is_zero g) f g keys
+  combined_longer op w f g keys = combined_unless_longer op w (shifts_out op w g) f g keys
 
   pub lower_longer : (p : Program) (s : Sym) (e : Expr) (keys : List Key) → IsLonger keys (lower find p s e keys).keys
   lower_longer p s (Const w v) keys = same_longer keys

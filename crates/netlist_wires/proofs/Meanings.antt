@@ -1,5 +1,5 @@
 -- What is made stands for the present values.
-use Rattle.std.proofs.Common.{◌≡◌, ℕ, suc, ◌%◌, ◌^◌, ◌<◌, Bool, true, false, ◌&&◌, List, [], ◌∷◌, ◌++◌, length, map, refl, sym, ap, ap₂, ◌∙◌, subst, arith, nat_eq, cond, append_assoc, length-append, Option, Some, None}
+use Rattle.std.proofs.Common.{◌≡◌, ℕ, ◌-◌, suc, ◌%◌, ◌^◌, ◌<◌, Bool, true, false, ◌&&◌, List, [], ◌∷◌, ◌++◌, length, map, refl, sym, ap, ap₂, ◌∙◌, subst, arith, nat_eq, cond, append_assoc, length-append, Option, Some, None}
 use Rattle.std.specs.Prelude.{fold, slice_index, slice_index_or, slice_set, All}
 use Rattle.std.specs.List.{slice_get}
 use Rattle.std.proofs.lemmas.Bool.{eqb-true, eqb-false}
@@ -25,14 +25,14 @@ use Rattle.step_program.proofs.Fits.{IsWithin, AreWithin, widths, array_widths, 
 use Rattle.netlist_wires.specs.declared.keys.Flat.{Flat}
 use Rattle.netlist_wires.specs.declared.keys.Flat.TheVariants.{Fixed, OfItem, OfPin, OfWire}
 use Rattle.netlist_wires.specs.declared.keys.Body.{Body}
-use Rattle.netlist_wires.specs.declared.keys.Body.TheVariants.{Copied, Inverse, Load, Operate, Select}
+use Rattle.netlist_wires.specs.declared.keys.Body.TheVariants.{Copied, Lowest, Padded, Inverse, Load, Operate, Select}
 use Rattle.netlist_wires.specs.declared.keys.Key.{Key}
 use Rattle.netlist_wires.specs.declared.keys.Write.{Write}
 use Rattle.netlist_wires.specs.Tables.{IsFind}
-use Rattle.netlist_wires.specs.Wiring.{item_name, pin_name, array_name, wire_name, body_tree, Made, Find, shared, share, behind, load, Sym, nothing, refit, changed, settled, is_zero, keeps_right, keeps_left, combined_by, combined, lower, given_once, given, Going, aimed, gone, gone_all, own_items, begun_going}
+use Rattle.netlist_wires.specs.Wiring.{item_name, pin_name, array_name, wire_name, body_tree, Made, Find, shared, share, behind, load, Sym, nothing, refit, changed, settled, is_zero, keeps_right, keeps_left, combined_by, shifts_out, combined_unless, combined, lower, given_once, given, Going, aimed, gone, gone_all, own_items, begun_going}
 use Rattle.netlist_wires.proofs.Longer.{IsLonger, longer_get, share_longer, load_longer, changed_longer, combined_longer, lower_longer, aimed_longer, all_longer}
-use Rattle.netlist_wires.proofs.Operands.{means, wide, copied, inverted, two_done, equal_done, load_done, select_done, picked}
-use Rattle.netlist_wires.proofs.Kept.{both_true, left_width, right_width, left_value, right_value, zero_means}
+use Rattle.netlist_wires.proofs.Operands.{means, wide, copied, lowest_done, padded_done, inverted, two_done, equal_done, load_done, select_done, picked}
+use Rattle.netlist_wires.proofs.Kept.{both_true, left_width, right_width, left_value, right_value, zero_means, out_value}
 
 -- what an edge's meaning of names tells of the program's items, pins and arrays
 pub record Knows (p : Program) (old : State) (pins : List ℕ) (env : Env) : Type 0 where
@@ -187,26 +187,21 @@ module _ (p : Program) (old : State) (pins : List ℕ) (items_fit : IsWithin (wi
   at_wide : (fs : List Flat) (i : ℕ) → slice_index (map (wide p env) fs) i ≡ wide p env (slice_index_or fs i nothing)
   at_wide fs i = get_or-map (wide p env) fs i nothing
 
-  cut_good : (to : ℕ) (f : Flat) (x : ℕ) (keys : List Key) → means p env f ≡ x → Solves p env (share find to (Copied f) keys).keys → Good (share find to (Copied f) keys) (x % 2 ^ to) to
-  cut_good to f x keys is solves =
-      let r = shared_is to (Copied f) keys solves in
-      (r.0 ∙ copied p env to f ∙ ap (λ (v : ℕ). v % 2 ^ to) is, r.1)
-
-  refit_good : (same : Bool) (to w : ℕ) (f : Flat) (x : ℕ) (keys : List Key) → nat_eq to w ≡ same → means p env f ≡ x → wide p env f ≡ w → x < 2 ^ w → Solves p env (refit find same to f keys).keys
-      → Good (refit find same to f keys) (x % 2 ^ to) to
-  refit_good true to w f x keys e is at low solves =
+  refit_good : (same : Bool) (to w : ℕ) (body : Body) (f : Flat) (x : ℕ) (keys : List Key) → nat_eq to w ≡ same → means p env f ≡ x → wide p env f ≡ w → x < 2 ^ w
+      → assigned env to (body_tree p body) ≡ means p env f % 2 ^ to → Solves p env (refit find same to body f keys).keys → Good (refit find same to body f keys) (x % 2 ^ to) to
+  refit_good true to w body f x keys e is at low done solves =
       let kept : to ≡ w = eqb-true to w e in
       (is ∙ sym (mod-eq_of_lt (subst (λ (n : ℕ). x < 2 ^ n) (sym kept) low)), at ∙ sym kept)
-  refit_good false to w (Fixed v b) x keys e is at low solves = (ap (λ (n : ℕ). n % 2 ^ to) is, refl)
-  refit_good false to w (OfItem i) x keys e is at low solves = cut_good to (OfItem i) x keys is solves
-  refit_good false to w (OfPin i) x keys e is at low solves = cut_good to (OfPin i) x keys is solves
-  refit_good false to w (OfWire k) x keys e is at low solves = cut_good to (OfWire k) x keys is solves
+  refit_good false to w body (Fixed v b) x keys e is at low done solves = (ap (λ (n : ℕ). n % 2 ^ to) is, refl)
+  refit_good false to w body (OfItem i) x keys e is at low done solves = let r = shared_is to body keys solves in (r.0 ∙ done ∙ ap (λ (v : ℕ). v % 2 ^ to) is, r.1)
+  refit_good false to w body (OfPin i) x keys e is at low done solves = let r = shared_is to body keys solves in (r.0 ∙ done ∙ ap (λ (v : ℕ). v % 2 ^ to) is, r.1)
+  refit_good false to w body (OfWire k) x keys e is at low done solves = let r = shared_is to body keys solves in (r.0 ∙ done ∙ ap (λ (v : ℕ). v % 2 ^ to) is, r.1)
 
   changed_good : (one : OneOp) (w : ℕ) (f : Flat) (x : ℕ) (keys : List Key) → means p env f ≡ x → wide p env f ≡ w → x < 2 ^ w → Solves p env (changed find one w f keys).keys
       → Good (changed find one w f keys) (one_value one w x) (one_width one w)
   changed_good ones.Not w f x keys is at low solves = let r = shared_is w (Inverse f) keys solves in (r.0 ∙ inverted p env w f at ∙ ap (word_not w) is, r.1)
-  changed_good (ones.Cut narrow) w f x keys is at low solves = refit_good (nat_eq narrow w) narrow w f x keys refl is at low solves
-  changed_good (ones.Widen wide) w f x keys is at low solves = refit_good (nat_eq wide w) wide w f x keys refl is at low solves
+  changed_good (ones.Cut narrow) w f x keys is at low solves = refit_good (nat_eq narrow w) narrow w (Lowest (narrow - 1) f) f x keys refl is at low (lowest_done p env narrow f) solves
+  changed_good (ones.Widen wide) w f x keys is at low solves = refit_good (nat_eq wide w) wide w (Padded (wide - w) f) f x keys refl is at low (padded_done p env wide (wide - w) f) solves
 
   copied_good : (w : ℕ) (f : Flat) (x : ℕ) (keys : List Key) → means p env f ≡ x → x < 2 ^ w → Solves p env (share find w (Copied f) keys).keys → Good (share find w (Copied f) keys) x w
   copied_good w f x keys is low solves =
@@ -236,10 +231,17 @@ module _ (p : Program) (old : State) (pins : List ℕ) (items_fit : IsWithin (wi
       let low_g : means p env g < 2 ^ wide p env g = subst (λ (v : ℕ). v < 2 ^ wide p env g) (sym is_g) low_y in
       (r.0 ∙ two_done p env op w f g at_f match low_f low_g ∙ ap₂ (two_value op w) is_f is_g, r.1)
 
+  combined_unless_good : (op : TwoOp) (w : ℕ) (out : Bool) (f g : Flat) (x y : ℕ) (keys : List Key) → shifts_out op (two_width op w) g ≡ out
+      → means p env f ≡ x → means p env g ≡ y → wide p env f ≡ w → FitsTwo op w (wide p env g) → x < 2 ^ w → y < 2 ^ wide p env g → Solves p env (combined_unless find op (two_width op w) out f g keys).keys
+      → Good (combined_unless find op (two_width op w) out f g keys) (two_value op w x y) (two_width op w)
+  combined_unless_good op w true f g x y keys is_out is_f is_g at_f match low_x low_y solves = (sym (ap (two_value op w x) (sym is_g) ∙ out_value p env op w x g is_out low_x), refl)
+  combined_unless_good op w false f g x y keys is_out is_f is_g at_f match low_x low_y solves =
+      combined_by_good op w (keeps_right op && is_zero f) (keeps_left op && is_zero g) f g x y keys refl refl is_f is_g at_f match low_x low_y solves
+
   combined_good : (op : TwoOp) (w : ℕ) (f g : Flat) (x y : ℕ) (keys : List Key) → means p env f ≡ x → means p env g ≡ y → wide p env f ≡ w → FitsTwo op w (wide p env g) → x < 2 ^ w → y < 2 ^ wide p env g
       → Solves p env (combined find op (two_width op w) f g keys).keys → Good (combined find op (two_width op w) f g keys) (two_value op w x y) (two_width op w)
   combined_good op w f g x y keys is_f is_g at_f match low_x low_y solves =
-      combined_by_good op w (keeps_right op && is_zero f) (keeps_left op && is_zero g) f g x y keys refl refl is_f is_g at_f match low_x low_y solves
+      combined_unless_good op w (shifts_out op (two_width op w) g) f g x y keys refl is_f is_g at_f match low_x low_y solves
 
   lower_good : (s : Sym) (now : Moment) (e : Expr) (keys : List Key) → Stands s now → IsNow p now → IsFit p e → Solves p env (lower find p s e keys).keys
       → Good (lower find p s e keys) (value p old.items pins now e) (width p e)

@@ -1,9 +1,10 @@
 -- What a wire of one operator has, from what its operands mean.
-use Rattle.std.proofs.Common.{◌≡◌, ℕ, ◌%◌, ◌^◌, ◌<◌, Bool, true, false, List, refl, sym, ap, ap₂, ◌∙◌, arith, nat_eq, cond, not}
+use Rattle.std.proofs.Common.{◌≡◌, ℕ, zero, suc, ◌+◌, ◌-◌, ◌*◌, ◌/◌, ◌%◌, ◌^◌, ◌<◌, Bool, true, false, List, refl, sym, ap, ap₂, ◌∙◌, arith, nat_eq, cond, not}
 use Rattle.std.specs.Prelude.{max, length, slice_index, slice_set}
 use Rattle.std.proofs.lemmas.Bool.{cond_both, eqb-true, eqb-false}
 use Rattle.std.proofs.lemmas.List.{get_or-set_same, get_or-set_other}
-use Rattle.std.proofs.Math.Nat.{mod-eq_of_lt, max-eq_left}
+use Rattle.std.proofs.lemmas.Nat.{mod_below, pow_pos}
+use Rattle.std.proofs.Math.Nat.{mod-eq_of_lt, mod-one, max-eq_left}
 use Rattle.lisa_words.specs.Words.{word_not}
 use Rattle.lisa_words.specs.declared.binary.Operator.TheVariants as operators
 use Rattle.verilog_text.specs.Values.{Widths, Env, truth, is_true, operate, left_length, right_length, v_width, v_value, assigned, self_value}
@@ -17,7 +18,7 @@ use Rattle.step_program.specs.WellFormed.{FitsTwo}
 use Rattle.step_program.proofs.Fits.{one_below, two_below, chosen_both}
 use Rattle.netlist_wires.specs.declared.keys.Flat.{Flat}
 use Rattle.netlist_wires.specs.declared.keys.Flat.TheVariants.{Fixed, OfItem, OfPin, OfWire}
-use Rattle.netlist_wires.specs.declared.keys.Body.TheVariants.{Inverse, Load, Operate, Select}
+use Rattle.netlist_wires.specs.declared.keys.Body.TheVariants.{Lowest, Padded, Inverse, Load, Operate, Select}
 use Rattle.netlist_wires.specs.Wiring.{operator_of, named, body_tree, array_name}
 
 pub max_self : (w : ℕ) → max w w ≡ w
@@ -56,6 +57,22 @@ module _ (p : Program) (env : Env) where
   -- one operator each
   pub copied : (w : ℕ) (f : Flat) → assigned env w (named p f) ≡ means f % 2 ^ w
   copied w f = ap (λ (x : ℕ). x % 2 ^ w) (at_any f (max w (wide f)))
+
+  bits_done : (w n : ℕ) → n / 2 ^ 0 % 2 ^ suc (w - 1 - 0) % 2 ^ w ≡ n % 2 ^ w
+  bits_done zero n = mod-one (n / 2 ^ 0 % 2 ^ suc (0 - 1 - 0)) ∙ sym (mod-one n)
+  bits_done (suc w) n =
+      ap (λ (a : ℕ). a % 2 ^ suc (suc w - 1 - 0) % 2 ^ suc w) {x = n / 2 ^ 0} {y = n} (omega arith)
+      ∙ ap (λ (b : ℕ). n % 2 ^ suc b % 2 ^ suc w) {x = suc w - 1 - 0} {y = w} (omega arith)
+      ∙ mod-eq_of_lt (mod_below n (2 ^ suc w) (pow_pos (suc w)))
+
+  pub lowest_done : (w : ℕ) (f : Flat) → assigned env w (body_tree p (Lowest (w - 1) f)) ≡ means f % 2 ^ w
+  lowest_done w (Fixed v b) = refl
+  lowest_done w (OfItem i) = bits_done w (means (OfItem i))
+  lowest_done w (OfPin i) = bits_done w (means (OfPin i))
+  lowest_done w (OfWire k) = bits_done w (means (OfWire k))
+
+  pub padded_done : (w count : ℕ) (f : Flat) → assigned env w (body_tree p (Padded count f)) ≡ means f % 2 ^ w
+  padded_done w count f = ap (λ (x : ℕ). x % 2 ^ w) {x = 0 * 2 ^ (wide f + 0) + (v_value env (named p f) (wide f) * 2 ^ 0 + 0)} {y = means f} (omega (arith, at_any f (wide f)))
 
   pub inverted : (w : ℕ) (f : Flat) → wide f ≡ w → assigned env w (body_tree p (Inverse f)) ≡ word_not w (means f)
   inverted w f e =

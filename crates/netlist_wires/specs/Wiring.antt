@@ -1,6 +1,6 @@
 -- From a step program to a module: each step is taken on flat operands, and what is computed goes into wires of one operator each.
 -- Two equal keys are one wire, where the table finds the first.
-use Rattle.std.specs.Prelude.{ℕ, suc, ◌%◌, ◌^◌, List, [], ◌∷◌, ◌++◌, map, length, codes, nat_eq, slice_index_or, slice_set, Bool, true, false, ◌&&◌, Option, Some, None}
+use Rattle.std.specs.Prelude.{ℕ, suc, ◌-◌, ◌%◌, ◌^◌, List, [], ◌∷◌, ◌++◌, map, length, codes, nat_eq, nat_le, slice_index_or, slice_set, Bool, true, false, ◌&&◌, Option, Some, None}
 use Rattle.std.specs.Fmt.{decimal}
 use Rattle.lisa_engine.specs.declared.parts.Item.{Item}
 use Rattle.lisa_engine.specs.declared.parts.ArrayItem.{ArrayItem}
@@ -8,7 +8,7 @@ use Rattle.lisa_words.specs.declared.binary.Operator.{Operator}
 use Rattle.lisa_words.specs.declared.binary.Operator.TheVariants as operators
 use Rattle.verilog_text.specs.declared.expressions.VOne.TheVariants as ones
 use Rattle.verilog_text.specs.Trees as trees
-use Rattle.verilog_text.specs.Trees.{VTree, ActionTrees, SettingTree, MemberTree, ModuleTree}
+use Rattle.verilog_text.specs.Trees.{VTree, Then, End, ActionTrees, SettingTree, MemberTree, ModuleTree}
 use Rattle.step_program.specs.declared.expressions.OneOp.{OneOp}
 use Rattle.step_program.specs.declared.expressions.OneOp.TheVariants.{Not, Cut, Widen}
 use Rattle.step_program.specs.declared.expressions.TwoOp.{TwoOp}
@@ -18,7 +18,7 @@ use Rattle.step_program.specs.Effects.{array_width, width}
 use Rattle.netlist_wires.specs.declared.keys.Flat.{Flat}
 use Rattle.netlist_wires.specs.declared.keys.Flat.TheVariants.{Fixed, OfItem, OfPin, OfWire}
 use Rattle.netlist_wires.specs.declared.keys.Body.{Body}
-use Rattle.netlist_wires.specs.declared.keys.Body.TheVariants.{Copied, Inverse, Load, Operate, Select}
+use Rattle.netlist_wires.specs.declared.keys.Body.TheVariants.{Copied, Lowest, Padded, Inverse, Load, Operate, Select}
 use Rattle.netlist_wires.specs.declared.keys.Key.{Key}
 use Rattle.netlist_wires.specs.declared.keys.Write.{Write}
 
@@ -56,8 +56,21 @@ named p (OfItem item) = trees.Named (item_name p item)
 named p (OfPin pin) = trees.Named (pin_name p pin)
 named p (OfWire wire) = trees.Named (wire_name wire)
 
+-- the bits of an operand from one down; a number stands for itself
+abbrev pub lowest : Program → (high : ℕ) → Flat → VTree
+lowest p high (Fixed w v) = trees.Number w v
+lowest p high (OfItem item) = trees.Bits (item_name p item) high 0
+lowest p high (OfPin pin) = trees.Bits (pin_name p pin) high 0
+lowest p high (OfWire wire) = trees.Bits (wire_name wire) high 0
+
+-- an operand behind so many zeros
+abbrev pub padded : Program → (zeros : ℕ) → Flat → VTree
+padded p zeros f = trees.Join (Then (trees.Number zeros 0) (Then (named p f) End))
+
 abbrev pub body_tree : Program → Body → VTree
 body_tree p (Copied f) = named p f
+body_tree p (Lowest high f) = lowest p high f
+body_tree p (Padded zeros f) = padded p zeros f
 body_tree p (Inverse f) = trees.One ones.Complement (named p f)
 body_tree p (Load array f) = trees.Cell (array_name p array) (named p f)
 body_tree p (Operate op f g) = trees.Two (operator_of op) (named p f) (named p g)
@@ -105,19 +118,20 @@ pub record Sym : Type 0 where
 abbrev pub nothing : Flat
 nothing = Fixed 0 0
 
--- an operand at another width, or at the same: one that keeps its width is itself, and a number is cut or extended at once
-abbrev pub refit : Find → (same : Bool) → (to : ℕ) → Flat → List Key → Made
-refit find true to f keys = record { flat = f; keys = keys }
-refit find false to (Fixed w v) keys = record { flat = Fixed to (v % 2 ^ to); keys = keys }
-refit find false to (OfItem item) keys = share find to (Copied (OfItem item)) keys
-refit find false to (OfPin pin) keys = share find to (Copied (OfPin pin)) keys
-refit find false to (OfWire wire) keys = share find to (Copied (OfWire wire)) keys
+-- an operand at another width, or at the same: one that keeps its width is itself, a number is cut or extended at once, and of another
+-- one is made what is told
+abbrev pub refit : Find → (same : Bool) → (to : ℕ) → Body → Flat → List Key → Made
+refit find true to body f keys = record { flat = f; keys = keys }
+refit find false to body (Fixed w v) keys = record { flat = Fixed to (v % 2 ^ to); keys = keys }
+refit find false to body (OfItem item) keys = share find to body keys
+refit find false to body (OfPin pin) keys = share find to body keys
+refit find false to body (OfWire wire) keys = share find to body keys
 
 -- what an operator makes of an operand of a width
 abbrev pub changed : Find → OneOp → (w : ℕ) → Flat → List Key → Made
 changed find Not w f keys = share find w (Inverse f) keys
-changed find (Cut narrow) w f keys = refit find (nat_eq narrow w) narrow f keys
-changed find (Widen wide) w f keys = refit find (nat_eq wide w) wide f keys
+changed find (Cut narrow) w f keys = refit find (nat_eq narrow w) narrow (Lowest (narrow - 1) f) f keys
+changed find (Widen wide) w f keys = refit find (nat_eq wide w) wide (Padded (wide - w) f) f keys
 
 -- a number or a wire, and no name that stands for something else
 abbrev pub settled : Find → ℕ → Flat → List Key → Made
@@ -154,8 +168,26 @@ combined_by find op w true left f g keys = settled find w g keys
 combined_by find op w false true f g keys = settled find w f keys
 combined_by find op w false false f g keys = share find w (Operate op f g) keys
 
+-- whether an operand is a number that is no smaller than a width
+abbrev pub reaches : (w : ℕ) → Flat → Bool
+reaches w (Fixed v b) = nat_le w b
+reaches w (OfItem item) = false
+reaches w (OfPin pin) = false
+reaches w (OfWire wire) = false
+
+-- whether an operator of a width shifts each bit of its left operand out
+abbrev pub shifts_out : TwoOp → (w : ℕ) → Flat → Bool
+shifts_out ops.Shl w g = reaches w g
+shifts_out ops.Shr w g = reaches w g
+shifts_out _ w g = false
+
+-- the number 0, where it is told that each bit is shifted out
+abbrev pub combined_unless : Find → TwoOp → (w : ℕ) → (out : Bool) → (f g : Flat) → List Key → Made
+combined_unless find op w true f g keys = record { flat = Fixed w 0; keys = keys }
+combined_unless find op w false f g keys = combined_by find op w (keeps_right op && is_zero f) (keeps_left op && is_zero g) f g keys
+
 abbrev pub combined : Find → TwoOp → (w : ℕ) → (f g : Flat) → List Key → Made
-combined find op w f g keys = combined_by find op w (keeps_right op && is_zero f) (keeps_left op && is_zero g) f g keys
+combined find op w f g keys = combined_unless find op w (shifts_out op w g) f g keys
 
 -- the operand that an expression is
 abbrev pub lower : Find → Program → Sym → Expr → List Key → Made

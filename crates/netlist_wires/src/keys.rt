@@ -13,8 +13,12 @@ pub enum Flat {
 /// One operator with its operands.
 #[derive(Clone, Copy, Debug, PartialEq, Eq, Hash)]
 pub enum Body {
-    /// The operand, cut or extended to the wire's width.
+    /// The operand as it is.
     Copied(Flat),
+    /// The bits of the operand from this one down.
+    Lowest(u32, Flat),
+    /// So many zeros, and behind them the operand.
+    Padded(u32, Flat),
     Inverse(Flat),
     /// The cell of an array as the edge began.
     Load(u32, Flat),

@@ -1,10 +1,7 @@
 -- Cells in the lines of objects, line by line.
 use Rattle.std.specs.Prelude.{ℕ, List, Option, Some, unwrap_or}
-use Rattle.std.specs.Str.{bytes_eq}
-use Rattle.std.specs.HashMap.{HashMap}
-use Rattle.std.specs.declared.hash.FoldHasher.{FoldHasher}
-use Rattle.std.specs.declared.hash.BuildHasherDefault.{BuildHasherDefault}
-use Rattle.indexmap.specs.IndexMap.{get}
+use Rattle.std.specs.BTreeMap.{BTreeMap}
+use Rattle.name_tables.specs.TableViews.{value_of}
 use Rattle.lisa_object.specs.Objects.{PlainObjectLine, Section, Space, Label, Equ, Global, Cell, Fix}
 
 -- how many cells a line has
@@ -28,5 +25,5 @@ line_enters here (Cell v) = here
 line_enters here (Fix l w k s) = here
 
 -- what a table counts for a memory
-abbrev pub count_of : HashMap (List ℕ) ℕ (BuildHasherDefault FoldHasher) → List ℕ → ℕ
-count_of counts m = unwrap_or (get bytes_eq counts m) 0
+abbrev pub count_of : BTreeMap (List ℕ) ℕ → List ℕ → ℕ
+count_of counts m = unwrap_or (value_of counts m) 0

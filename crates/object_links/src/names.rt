@@ -4,15 +4,16 @@
 ghost use Rattle.std.specs.Prelude.{◌≡◌, ◌||◌, List, ℕ, map, IfOk, OnOk, flat_map, option_copied, option_to_list};
 ghost use Rattle.std.specs.List.{list_any};
 ghost use Rattle.std.specs.Str.{bytes_eq};
-ghost use Rattle.indexmap.specs.IndexSet.{contains};
+ghost use Rattle.name_tables.specs.TableViews.{has_name};
 ghost use Rattle.lisa_object.specs.Objects.{object_line_tree};
 ghost use Rattle.lisa_object.specs.ObjectRules.{defined};
 ghost use Rattle.object_links.specs.LineNames.{line_shares};
 
-use indexmap::IndexSet;
 use lisa_object::ObjectLine;
 use lisa_words::{Name, NoMemory};
+use name_tables::put_name;
 use std::alloc::{AllocError, Global};
+use std::collections::BTreeSet;
 
 /// The name that a line defines.
 pub fn defined_name(line: &ObjectLine) -> Option<&Name>
@@ -36,20 +37,20 @@ fn shared_name(line: &ObjectLine) -> Option<&Name>
 }
 
 // Enters a name, where there is one.
-fn enter_name(set: &mut IndexSet<Name>, name: Option<&Name>) -> Result<(), AllocError>
-    ensures { OnOk result ((n : List ℕ) → contains bytes_eq set.new n ≡ (list_any (bytes_eq n) (option_to_list (option_copied name.entry)) || contains bytes_eq set.old n)) }
+fn enter_name(set: &mut BTreeSet<Name>, name: Option<&Name>) -> Result<(), AllocError>
+    ensures { OnOk result ((n : List ℕ) → has_name set.new n ≡ (list_any (bytes_eq n) (option_to_list (option_copied name.entry)) || has_name set.old n)) }
 {
     if let Some(name) = name {
-        set.insert(name.clone()?)?;
+        put_name(set, name)?;
     }
     Ok(())
 }
 
 /// The names that an object defines itself.
-pub fn own_names(alloc: Global, lines: &[ObjectLine]) -> Result<IndexSet<Name>, NoMemory>
-    ensures { IfOk result (λ set. (n : List ℕ) → contains bytes_eq set n ≡ list_any (bytes_eq n) (flat_map defined (map object_line_tree lines.now))) }
+pub fn own_names(alloc: Global, lines: &[ObjectLine]) -> Result<BTreeSet<Name>, NoMemory>
+    ensures { IfOk result (λ set. (n : List ℕ) → has_name set n ≡ list_any (bytes_eq n) (flat_map defined (map object_line_tree lines.now))) }
 {
-    let mut set = IndexSet::new(alloc);
+    let mut set = BTreeSet::new(alloc);
     for line in lines {
         enter_name(&mut set, defined_name(line))?;
     }
@@ -57,10 +58,10 @@ pub fn own_names(alloc: Global, lines: &[ObjectLine]) -> Result<IndexSet<Name>, 
 }
 
 /// The names that an object shares, whether it defines them or not.
-pub fn shared_names(alloc: Global, lines: &[ObjectLine]) -> Result<IndexSet<Name>, NoMemory>
-    ensures { IfOk result (λ set. (n : List ℕ) → contains bytes_eq set n ≡ list_any (bytes_eq n) (flat_map line_shares (map object_line_tree lines.now))) }
+pub fn shared_names(alloc: Global, lines: &[ObjectLine]) -> Result<BTreeSet<Name>, NoMemory>
+    ensures { IfOk result (λ set. (n : List ℕ) → has_name set n ≡ list_any (bytes_eq n) (flat_map line_shares (map object_line_tree lines.now))) }
 {
-    let mut set = IndexSet::new(alloc);
+    let mut set = BTreeSet::new(alloc);
     for line in lines {
         enter_name(&mut set, shared_name(line))?;
     }

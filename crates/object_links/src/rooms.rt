@@ -12,11 +12,12 @@ ghost use Rattle.object_links.specs.LinkFaults.{capped, all_counts, if_overfull,
 ghost use Rattle.object_links.specs.LineNames.{parts_of};
 ghost use Rattle.object_links.specs.LineSizes.{line_size, line_enters, count_of};
 
-use indexmap::IndexMap;
 use lisa_engine::ArrayItem;
 use lisa_object::{Object, ObjectLine};
 use lisa_words::{Name, NoMemory};
+use name_tables::put_value;
 use std::alloc::{AllocError, Global};
+use std::collections::BTreeMap;
 
 /// How many cells a line has.
 pub fn line_size(line: &ObjectLine) -> u64
@@ -40,7 +41,7 @@ pub fn line_enters<'a>(here: Option<&'a Name>, line: &'a ObjectLine) -> Option<&
 }
 
 /// How many cells a memory has so far.
-pub fn count_of(counts: &IndexMap<Name, u64>, name: &Name) -> u64
+pub fn count_of(counts: &BTreeMap<Name, u64>, name: &Name) -> u64
     ensures { result ≡ count_of counts.now name.now }
 {
     match counts.get(name) {
@@ -50,17 +51,17 @@ pub fn count_of(counts: &IndexMap<Name, u64>, name: &Name) -> u64
 }
 
 // Counts cells of a memory.
-fn count_cells(counts: &mut IndexMap<Name, u64>, name: &Name, size: u64) -> Result<(), AllocError>
+fn count_cells(counts: &mut BTreeMap<Name, u64>, name: &Name, size: u64) -> Result<(), AllocError>
     ensures { OnOk result ((m : List ℕ) → count_of counts.new m ≡ (if bytes_eq m name.now then capped (count_of counts.old name.now + size) else count_of counts.old m)) }
 {
     let count = count_of(counts, name).saturating_add(size);
-    counts.insert(name.clone()?, count)?;
+    put_value(counts, name, count)?;
     Ok(())
 }
 
 // Counts the cells of a line.
 fn count_line(
-    counts: &mut IndexMap<Name, u64>,
+    counts: &mut BTreeMap<Name, u64>,
     here: Option<&Name>,
     line: &ObjectLine,
 ) -> Result<(), AllocError>
@@ -76,7 +77,7 @@ fn count_line(
 }
 
 // Counts the cells of lines.
-fn count_lines(counts: &mut IndexMap<Name, u64>, lines: &[ObjectLine]) -> Result<(), AllocError>
+fn count_lines(counts: &mut BTreeMap<Name, u64>, lines: &[ObjectLine]) -> Result<(), AllocError>
     ensures { OnOk result ((m : List ℕ) → capped (count_of counts.new m) ≡ capped (counts_after (count_of counts.old) None (entries_of (map object_line_tree lines.now)) m)) }
 {
     let mut here = None;
@@ -88,17 +89,17 @@ fn count_lines(counts: &mut IndexMap<Name, u64>, lines: &[ObjectLine]) -> Result
 }
 
 // Counts the cells of an object.
-fn count_object(counts: &mut IndexMap<Name, u64>, object: &Object) -> Result<(), AllocError>
+fn count_object(counts: &mut BTreeMap<Name, u64>, object: &Object) -> Result<(), AllocError>
     ensures { OnOk result ((m : List ℕ) → capped (count_of counts.new m) ≡ capped (counts_after (count_of counts.old) None (entries_of (object_tree object.now).lines) m)) }
 {
     count_lines(counts, &object.lines)
 }
 
 // Counts the cells of all objects.
-fn count_objects(alloc: Global, objects: &[Object]) -> Result<IndexMap<Name, u64>, AllocError>
+fn count_objects(alloc: Global, objects: &[Object]) -> Result<BTreeMap<Name, u64>, AllocError>
     ensures { IfOk result (λ counts. (m : List ℕ) → capped (count_of counts m) ≡ capped (all_counts no_cells (parts_of (map object_tree objects.now)) m)) }
 {
-    let mut counts = IndexMap::new(alloc);
+    let mut counts = BTreeMap::new(alloc);
     'each: for object in objects {
         count_object(&mut counts, object)?;
     }
@@ -106,7 +107,7 @@ fn count_objects(alloc: Global, objects: &[Object]) -> Result<IndexMap<Name, u64
 }
 
 // How many cells a memory is given, where it is not that deep.
-fn too_many(counts: &IndexMap<Name, u64>, memory: &ArrayItem) -> Option<u64>
+fn too_many(counts: &BTreeMap<Name, u64>, memory: &ArrayItem) -> Option<u64>
     ensures { (all : Counts) → ((m : List ℕ) → capped (count_of counts.now m) ≡ capped (all m)) → option_map (λ n. faults.DoesNotFit memory.now.name n memory.now.depth) result ≡ if_overfull all memory.now }
 {
     let count = count_of(counts, &memory.name);
@@ -118,7 +119,7 @@ fn too_many(counts: &IndexMap<Name, u64>, memory: &ArrayItem) -> Option<u64>
 }
 
 fn overfull_among<'a>(
-    counts: &IndexMap<Name, u64>,
+    counts: &BTreeMap<Name, u64>,
     memories: &'a [ArrayItem],
 ) -> Option<(&'a ArrayItem, u64)>
     ensures { (all : Counts) → ((m : List ℕ) → capped (count_of counts.now m) ≡ capped (all m)) → option_map (λ x. faults.DoesNotFit x.0.now.name x.1 x.0.now.depth) result ≡ first_of (if_overfull all) memories.now }

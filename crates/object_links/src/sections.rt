@@ -2,23 +2,22 @@
 #![tactic(auto, using(crate::proofs::Steps::one_line, crate::proofs::Steps::one_object))]
 
 ghost use Rattle.std.specs.Prelude.{◌≡◌, List, ℕ, map, IfOk, option_copied};
-ghost use Rattle.std.specs.Str.{bytes_eq};
-ghost use Rattle.indexmap.specs.IndexMap.{get};
+ghost use Rattle.name_tables.specs.TableViews.{value_of};
 ghost use Rattle.lisa_object.specs.Objects.{object_line_tree, object_tree};
 ghost use Rattle.object_links.specs.Firsts.{first_of};
 ghost use Rattle.object_links.specs.LinkFaults.{has_width, first_unknown};
 ghost use Rattle.object_links.specs.LineNames.{parts_of, line_unknown};
 
 use crate::widths::memory_widths;
-use indexmap::IndexMap;
 use lisa_engine::ArrayItem;
 use lisa_object::{Object, ObjectLine};
 use lisa_words::{Name, NoMemory};
 use std::alloc::Global;
+use std::collections::BTreeMap;
 
 // The memory of this name has this width.
-fn is_memory(widths: &IndexMap<Name, u32>, name: &Name, width: u32) -> bool
-    ensures { result ≡ has_width (get bytes_eq widths.now name.now) width }
+fn is_memory(widths: &BTreeMap<Name, u32>, name: &Name, width: u32) -> bool
+    ensures { result ≡ has_width (value_of widths.now name.now) width }
 {
     match widths.get(name) {
         Some(found) => *found == width,
@@ -27,8 +26,8 @@ fn is_memory(widths: &IndexMap<Name, u32>, name: &Name, width: u32) -> bool
 }
 
 // The name of a line's section, where it is no memory's.
-fn unknown_in_line<'a>(widths: &IndexMap<Name, u32>, line: &'a ObjectLine) -> Option<&'a Name>
-    ensures { option_copied result ≡ line_unknown (get bytes_eq widths.now) (object_line_tree line.now) }
+fn unknown_in_line<'a>(widths: &BTreeMap<Name, u32>, line: &'a ObjectLine) -> Option<&'a Name>
+    ensures { option_copied result ≡ line_unknown (value_of widths.now) (object_line_tree line.now) }
 {
     match line {
         ObjectLine::Section(name, width) => {
@@ -42,8 +41,8 @@ fn unknown_in_line<'a>(widths: &IndexMap<Name, u32>, line: &'a ObjectLine) -> Op
     }
 }
 
-fn unknown_in<'a>(widths: &IndexMap<Name, u32>, lines: &'a [ObjectLine]) -> Option<&'a Name>
-    ensures { option_copied result ≡ first_of (line_unknown (get bytes_eq widths.now)) (map object_line_tree lines.now) }
+fn unknown_in<'a>(widths: &BTreeMap<Name, u32>, lines: &'a [ObjectLine]) -> Option<&'a Name>
+    ensures { option_copied result ≡ first_of (line_unknown (value_of widths.now)) (map object_line_tree lines.now) }
 {
     for line in lines {
         if let Some(name) = unknown_in_line(widths, line) {
@@ -53,8 +52,8 @@ fn unknown_in<'a>(widths: &IndexMap<Name, u32>, lines: &'a [ObjectLine]) -> Opti
     None
 }
 
-fn unknown_among<'a>(widths: &IndexMap<Name, u32>, objects: &'a [Object]) -> Option<&'a Name>
-    ensures { option_copied result ≡ first_of (λ o. first_of (line_unknown (get bytes_eq widths.now)) (object_tree o).lines) objects.now }
+fn unknown_among<'a>(widths: &BTreeMap<Name, u32>, objects: &'a [Object]) -> Option<&'a Name>
+    ensures { option_copied result ≡ first_of (λ o. first_of (line_unknown (value_of widths.now)) (object_tree o).lines) objects.now }
 {
     for object in objects {
         if let Some(name) = unknown_in(widths, &object.lines) {

@@ -1,10 +1,10 @@
 // The first name that is defined nowhere, of all objects.
 #![tactic(auto, using(crate::proofs::Steps::one_name, crate::proofs::Steps::one_object, crate::proofs::Exports::names_entered))]
 
-ghost use Rattle.std.specs.Prelude.{◌≡◌, ◌<◌, ◌^◌, ◌||◌, All, List, ℕ, map, length, IfOk, OnOk, option_map};
+ghost use Rattle.std.specs.Prelude.{◌≡◌, ◌<◌, ◌^◌, All, List, ℕ, map, length, IfOk, option_map};
 ghost use Rattle.std.specs.List.{list_any};
 ghost use Rattle.std.specs.Str.{bytes_eq};
-ghost use Rattle.indexmap.specs.IndexSet.{contains};
+ghost use Rattle.name_tables.specs.TableViews.{has_name};
 ghost use Rattle.lisa_object.specs.declared.faults.LinkFault.TheVariants as faults;
 ghost use Rattle.lisa_object.specs.Objects.{object_tree};
 ghost use Rattle.lisa_object.specs.ObjectRules.{IsObject};
@@ -13,25 +13,19 @@ ghost use Rattle.object_links.specs.LineNames.{parts_of};
 
 use crate::globals::all_exported;
 use crate::undefined::undefined_in;
-use indexmap::IndexSet;
 use lisa_object::Object;
 use lisa_words::{Name, NoMemory};
-use std::alloc::{AllocError, Global};
-
-fn enter(set: &mut IndexSet<Name>, name: &Name) -> Result<(), AllocError>
-    ensures { OnOk result ((n : List ℕ) → contains bytes_eq set.new n ≡ (bytes_eq n name.now || contains bytes_eq set.old n)) }
-{
-    set.insert(name.clone()?)?;
-    Ok(())
-}
+use name_tables::put_name;
+use std::alloc::Global;
+use std::collections::BTreeSet;
 
 // These names, to be looked up.
-fn name_set(alloc: Global, names: &[&Name]) -> Result<IndexSet<Name>, NoMemory>
-    ensures { IfOk result (λ set. (n : List ℕ) → contains bytes_eq set n ≡ list_any (bytes_eq n) (map (λ m. m.now) names.now)) }
+fn name_set(alloc: Global, names: &[&Name]) -> Result<BTreeSet<Name>, NoMemory>
+    ensures { IfOk result (λ set. (n : List ℕ) → has_name set n ≡ list_any (bytes_eq n) (map (λ m. m.now) names.now)) }
 {
-    let mut set = IndexSet::new(alloc);
+    let mut set = BTreeSet::new(alloc);
     'each: for name in names {
-        enter(&mut set, name)?;
+        put_name(&mut set, name)?;
     }
     Ok(set)
 }

@@ -122,8 +122,8 @@ module _ {R M : Type 0} (core : Core R M) (sound : IsSound core) (first : R) (en
       ap (λ (s : Standing). hardware_ended core (shown core state).bits (shown core state).words (edge core s pins state.memory)) (sym (same_standing core sound state (good_past core sound first entries)))
       ∙ edge_agrees core sound first entries pins (shown core state) refl
 
--- what the parts of an edge do, one after another
-module _ {R M : Type 0} (lasting lasting' : R) (m1 m2 m3 : M) (q0 q1 q2 q3 q4 : Queues) (s1 s2 s3 : Option ℕ) (words0 words words' : List ℕ) (pins : List ℕ) where
+-- what the parts of an edge do, one after another, up to its end
+module _ {R M : Type 0} (lasting : R) (m1 m2 m3 : M) (q0 q1 q2 q3 : Queues) (s1 s2 s3 : Option ℕ) (words0 words : List ℕ) (pins : List ℕ) where
   abbrev Begins : Core R M → Type 0
   Begins core = (hard : Hardware R) → ShowsHardware lasting q0 words0 hard → Represents m1 q1 s1 hard.bits (start core pins hard.memory)
 
@@ -133,24 +133,26 @@ module _ {R M : Type 0} (lasting lasting' : R) (m1 m2 m3 : M) (q0 q1 q2 q3 q4 : 
   abbrev RunsTurns : ℕ → Core R M → Type 0
   RunsTurns level core = (first : R) (entries : List (List ℕ)) (pins : List ℕ) (now : Running M) → HasCome core first entries pins words m2 q2 s2 level now → HasCome core first entries pins words m3 q3 s3 0 (turns core (stands core (after core first entries).past) level now)
 
-  abbrev RunsEnd : Core R M → Type 0
-  RunsEnd core = (bits : ℕ → ℕ → Bool) (levels : ℕ → ℕ) (now : Running M) → Represents m3 q3 s3 bits now → AreWords words levels → NoneBelow bits levels now.made → ShowsHardware lasting' q4 words' (hardware_ended core bits levels now)
-
-  leads_on : (core : Core R M) → IsSound core → (level : ℕ) → level ≡ core.stages → words ≡ words0 → Begins core → RunsMain core → RunsTurns level core → RunsEnd core → (first : R) (entries : List (List ℕ)) → ShowsHardware lasting q0 words0 (shown core (after core first entries)) → ShowsHardware lasting' q4 words' (shown core (after core first (entries ++ pins ∷ [])))
-  leads_on core sound level is same begins main turned ends first entries shows =
+  comes_on : (core : Core R M) → (level : ℕ) → level ≡ core.stages → words ≡ words0 → Begins core → RunsMain core → RunsTurns level core → (first : R) (entries : List (List ℕ)) → ShowsHardware lasting q0 words0 (shown core (after core first entries)) → HasCome core first entries pins words m3 q3 s3 0 (edge_of core pins (after core first entries))
+  comes_on core level is same begins main turned first entries shows =
       let state = after core first entries in
       let ran = run_occurrence core 0 (main_node core) (start core pins state.memory) in
       let begun = main (shown core state).bits (start core pins state.memory) (begins (shown core state) shows) in
       let words_are = subst (λ (ws : List ℕ). AreWords ws (shown core state).words) (sym same) shows.words_are in
       let come = subst (λ l. HasCome core first entries pins words m2 q2 s2 l ran) (sym is) (record { comes = at_first; words_are = words_are; seen = begun }) in
-      let end = turned first entries pins ran come in
-      let seen = subst (λ l. Represents m3 q3 s3 (shown core state).bits (turns core (stands core state.past) l ran)) is end.seen in
-      subst (λ (h : Hardware R). ShowsHardware lasting' q4 words' h) (next_shown core sound first entries pins)
-      (ends (shown core state).bits (shown core state).words (edge_of core pins state) seen words_are (none_below_at_end core sound first entries pins))
+      subst (λ l. HasCome core first entries pins words m3 q3 s3 0 (turns core (stands core state.past) l ran)) is (turned first entries pins ran come)
 
-  pub leads : (core c1 c2 c3 : Core R M) → c1 ≡ core → c2 ≡ c1 → c3 ≡ c2 → IsSound core → (level : ℕ) → level ≡ core.stages → words ≡ words0 → Begins core → RunsMain c1 → RunsTurns level c2 → RunsEnd c3 → (first : R) (entries : List (List ℕ)) → ShowsHardware lasting q0 words0 (shown core (after core first entries)) → ShowsHardware lasting' q4 words' (shown core (after core first (entries ++ pins ∷ [])))
-  leads core c1 c2 c3 e1 e2 e3 sound level is same begins main turned ends =
-      leads_on core sound level is same begins
+  pub comes : (core c1 c2 : Core R M) → c1 ≡ core → c2 ≡ c1 → (level : ℕ) → level ≡ core.stages → words ≡ words0 → Begins core → RunsMain c1 → RunsTurns level c2 → (first : R) (entries : List (List ℕ)) → ShowsHardware lasting q0 words0 (shown core (after core first entries)) → HasCome core first entries pins words m3 q3 s3 0 (edge_of core pins (after core first entries))
+  comes core c1 c2 e1 e2 level is same begins main turned =
+      comes_on core level is same begins
       (subst (λ (c : Core R M). RunsMain c) e1 main)
       (subst (λ (c : Core R M). RunsTurns level c) (e2 ∙ e1) turned)
-      (subst (λ (c : Core R M). RunsEnd c) (e3 ∙ (e2 ∙ e1)) ends)
+
+-- and its end
+pub leads : {R M : Type 0} (core c3 : Core R M) (lasting' : R) (m3 : M) (q3 q4 : Queues) (s3 : Option ℕ) (words words' pins : List ℕ) (first : R) (entries : List (List ℕ)) → c3 ≡ core → IsSound core → HasCome core first entries pins words m3 q3 s3 0 (edge_of core pins (after core first entries)) → ((bits : ℕ → ℕ → Bool) (levels : ℕ → ℕ) (now : Running M) → Represents m3 q3 s3 bits now → AreWords words levels → NoneBelow bits levels now.made → ShowsHardware lasting' q4 words' (hardware_ended c3 bits levels now)) → ShowsHardware lasting' q4 words' (shown core (after core first (entries ++ pins ∷ [])))
+leads {R = R} {M = M} core c3 lasting' m3 q3 q4 s3 words words' pins first entries same sound come ends =
+    let state = after core first entries in
+    let end = edge_of core pins state in
+    let there = ends (shown core state).bits (shown core state).words end come.seen come.words_are (none_below_at_end core sound first entries pins) in
+    subst (λ (h : Hardware R). ShowsHardware lasting' q4 words' h) (next_shown core sound first entries pins)
+    (subst (λ (c : Core R M). ShowsHardware lasting' q4 words' (hardware_ended c (shown core state).bits (shown core state).words end)) same there)

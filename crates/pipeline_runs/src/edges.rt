@@ -7,7 +7,7 @@ ghost use Rattle.pipeline_time.specs.Cores.{level_of_slots, main_node};
 ghost use Rattle.pipeline_time.specs.Edges.{start, turns};
 ghost use Rattle.pipeline_time.specs.Journal.{stands};
 ghost use Rattle.pipeline_time.specs.Running.{Running, run_occurrence};
-ghost use Rattle.pipeline_time.specs.States.{after};
+ghost use Rattle.pipeline_time.specs.States.{after, edge_of};
 ghost use Rattle.pipeline_runs.specs.Runs.{Represents};
 ghost use Rattle.pipeline_runs.specs.Turns.{IsEquipped};
 ghost use Rattle.pipeline_runs.specs.Pipelines.{ShowsHardware, HasCome};
@@ -75,6 +75,20 @@ pub(crate) fn turns<B: Behaves>(level: u32, plan: &Plan, words: &[u64; 8], edge:
 }
 
 impl<B: Behaves> Pipeline<B> {
+    // An edge as far as its end: `main`, and the turns of the stages from the last one to the first.
+    pub(crate) fn run_turns(&mut self, plan: &Plan, pins: &[u64])
+        requires pins { B.takes self.old.edge.store pins.now }
+        requires equipped { IsEquipped (B.core self.old.edge.store) self.old.edge.queues plan.now }
+        ensures comes { (first : B.Lasting) (entries : List (List ℕ)) → ShowsHardware (B.lasting self.old.edge.store) self.old.edge.queues self.old.words (shown (B.core self.old.edge.store) (after (B.core self.old.edge.store) first entries)) → HasCome (B.core self.old.edge.store) first entries pins.now self.new.words (B.moment self.new.edge.store) self.new.edge.queues self.new.edge.slot 0 (edge_of (B.core self.old.edge.store) pins.now (after (B.core self.old.edge.store) first entries)) }
+        ensures equipped { IsEquipped (B.core self.new.edge.store) self.new.edge.queues plan.now }
+        ensures core { B.core self.new.edge.store ≡ B.core self.old.edge.store }
+        ensures kept { B.kept self.new.edge.store ≡ B.begun self.old.edge.store }
+    {
+        self.begin(pins);
+        run_main(plan, &mut self.edge);
+        turns(plan.stages, plan, &self.words, &mut self.edge);
+    }
+
     /// One edge, with these values of the pins: `main`, the turns of the stages from the last one to the first, and its end. No memory is
     /// taken.
     pub fn run_edge(&mut self, plan: &Plan, pins: &[u64])
@@ -85,9 +99,7 @@ impl<B: Behaves> Pipeline<B> {
         ensures core { B.core self.new.edge.store ≡ B.core self.old.edge.store }
         ensures kept { B.kept self.new.edge.store ≡ B.begun self.old.edge.store }
     {
-        self.begin(pins);
-        run_main(plan, &mut self.edge);
-        turns(plan.stages, plan, &self.words, &mut self.edge);
+        self.run_turns(plan, pins);
         self.end(plan);
     }
 }

@@ -9,6 +9,8 @@ mod pipeline;
 mod plan;
 mod restores;
 mod runs;
+mod seeing;
+mod seen;
 mod tree;
 mod turns;
 
@@ -16,5 +18,7 @@ pub use behaves::{Behaves, Edge};
 pub use pipeline::Pipeline;
 pub use plan::Plan;
 pub use runs::{run, run_occurrence};
+pub use seeing::{what_is_due_runs, with_stage};
+pub use seen::Seen;
 pub use tree::{Occurrence, Tree};
 pub use turns::{turn, turn_from};

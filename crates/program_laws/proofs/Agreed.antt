@@ -1,5 +1,5 @@
 -- The headline of runs.
-use Rattle.std.proofs.Common.{◌≡◌, ◌∙◌, ℕ, false, List, [], Some, refl, ap, subst, ◌⊎◌, inl, inr, ⊎_elim}
+use Rattle.std.proofs.Common.{◌≡◌, ◌∙◌, ℕ, false, List, [], Some, refl, ap, subst, inl, inr, ⊎_elim}
 use Rattle.lisa_outcomes.specs.declared.status.Status.{Status}
 use Rattle.lisa_outcomes.specs.declared.status.Status.TheVariants as statuses
 use Rattle.lisa_outcomes.specs.Outcomes.{Finished, FileMap}
@@ -7,10 +7,10 @@ use Rattle.engine_commands.specs.declared.tasks.Task.{Task}
 use Rattle.lisa_outcomes.specs.RunFiles.{RunNames}
 use Rattle.engine_commands.specs.Tasks.{takes_input}
 use Rattle.headline_laws.specs.Files.{over_file, FilesClock, FilesPrintAlike}
-use Rattle.command_words.specs.Requests.{Request, Verilog, Simulate, Clock, Asks}
-use Rattle.lisa_cli.specs.Worlds.{World, NoneFailed}
+use Rattle.command_words.specs.Requests.{Verilog, Simulate, Clock, Asks}
+use Rattle.lisa_cli.specs.Worlds.{World}
 use Rattle.lisa_cli.specs.Headline.{IsAnswer}
-use Rattle.program_laws.specs.Agreements.{IsPrinted, Prints, RunsPrintAlike}
+use Rattle.program_laws.specs.Agreements.{Prints, RunsPrintAlike}
 use Rattle.program_laws.proofs.Clocked.{AreApart, one_text}
 use Rattle.program_laws.proofs.Printed.{told, known, holds, AskForOne, done_gives, printed_gives}
 

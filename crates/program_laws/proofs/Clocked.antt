@@ -6,9 +6,8 @@ use Rattle.lisa_object.specs.Texts.{image_text}
 use Rattle.lisa_engine.specs.Memory.{Memory}
 use Rattle.lisa_engine.specs.ScheduleLine.{Line}
 use Rattle.lisa_engine.specs.declared.schedule.ScheduleFault.{ScheduleFault}
-use Rattle.verilog_text.specs.Trees.{ModuleTree}
 use Rattle.verilog_reader.proofs.TextLaws.{one_spelled}
-use Rattle.lisa_outcomes.specs.Outcomes.{Outcome, Finished, FileMap, passed}
+use Rattle.lisa_outcomes.specs.Outcomes.{Finished, FileMap, passed}
 use Rattle.lisa_outcomes.specs.NamedFiles.{NamedFile, AreFiles}
 use Rattle.lisa_outcomes.specs.RunFiles.{RunNames, RunBytes, run_files, run_bytes}
 use Rattle.engine_commands.specs.declared.tasks.Task.{Task}

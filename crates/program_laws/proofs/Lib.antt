@@ -1,3 +1,4 @@
 mod Clocked
 mod Printed
 mod Agreed
+mod Refusing

@@ -1,23 +1,22 @@
 //! A description with its look-ups.
 
 use crate::before::Before;
-use description_tables::Tables;
-use indexmap::IndexMap;
 use lisa_forms::{Coding, Forms};
 use lisa_tree::{Expr, Shape};
 use lisa_words::Name;
+use noted_names::{Noted, PlaceTable};
 use std::marker::Model;
 
 /// An accepted description with its forms and its coding, and with tables of its names. No look-up takes memory, and each takes the same
 /// time however long the description is. Contracts see it as the description.
 #[derive(Drop)]
 pub struct Described<'a> {
-    pub(crate) tables: Tables<'a>,
+    pub(crate) tables: Noted<'a>,
     pub(crate) forms: &'a Forms,
     pub(crate) coding: &'a Coding,
     pub(crate) places: Vec<Before>,
     pub(crate) boundary: &'a [(Shape, Name)],
-    pub(crate) fields: IndexMap<Name, usize>,
+    pub(crate) fields: PlaceTable,
     pub(crate) conditions: Vec<Vec<&'a Expr>>,
     pub(crate) root: Option<usize>,
     pub(crate) levels: usize,
@@ -39,7 +38,7 @@ impl<'a> Model for Described<'a> {
 
     ghost coded = { Prim.hlevel (codes, act.the_row.coded, expression.the_row.coded, statement.the_row.coded) };
 
-    ghost view = { λ x. x.tables.globals.description.now };
+    ghost view = { λ x. x.tables.tables.globals.description.now };
 
-    ghost invariant = { λ x. IsKept (description_tree x.tables.globals.description.now) x.forms.now x.coding.now x.places.items x.boundary.now (λ n. get same_name x.fields n) (rows_of x.conditions.items) x.root x.levels };
+    ghost invariant = { λ x. IsKept (description_tree x.tables.tables.globals.description.now) x.forms.now x.coding.now x.places.items x.boundary.now (λ n. get same_name x.fields.table n) (rows_of x.conditions.items) x.root x.levels };
 }

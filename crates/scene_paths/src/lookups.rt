@@ -8,6 +8,7 @@ ghost use Rattle.lisa_tree.specs.Descriptions.{coding_tree, description_tree, re
 ghost use Rattle.lisa_tree.specs.Same.{same_name};
 ghost use Rattle.lisa_tree.specs.Resources.{fields, stage_at};
 ghost use Rattle.lisa_tree.specs.Operations.{sections_at, activation_in, behavior_in, coding_in, expression_in, is_root, own_stage};
+ghost use Rattle.lisa_tree.specs.Declarations.{what_at};
 ghost use Rattle.lisa_tree.specs.Meanings.{meaning};
 ghost use Rattle.lisa_tree.specs.Paths.{node_count};
 ghost use Rattle.description_sizes.specs.Texts.{levels};
@@ -15,6 +16,7 @@ ghost use Rattle.coding_tables.specs.Instructions.{first_root};
 ghost use Rattle.lisa_machine.specs.Verdicts.{IsAccepted};
 ghost use Rattle.lisa_forms.specs.Parts.{AreFormsOf};
 ghost use Rattle.lisa_forms.specs.Codings.{IsCodingOf};
+ghost use Rattle.stage_checks.specs.Running.{started, choice_of};
 ghost use Rattle.activation_trees.specs.Starting.{plain_named};
 ghost use Rattle.lisa_meaning.specs.Scenes.{declared};
 ghost use Rattle.lisa_meaning.specs.Values.{register_place, array_place, pin_place, field_place, shape_at};
@@ -27,9 +29,7 @@ use crate::before::{Before, places};
 use crate::conditions::{condition_at, conditions};
 use crate::described::Described;
 use crate::fields::{boundary_fields, field_places, shape_at};
-use description_tables::Tables;
 use description_types::{is_root, operation_count, resource, sections};
-use indexmap::IndexMap;
 use lisa_forms::{Coding, Forms};
 use lisa_machine::Machine;
 use lisa_tree::{
@@ -37,6 +37,7 @@ use lisa_tree::{
     expression,
 };
 use lisa_words::{Name, NoMemory};
+use noted_names::{Noted, PlaceTable};
 use std::alloc::Global;
 
 // How many operations, groups, instances and declared names there are, and one more. As many as no table holds are answered as want of memory.
@@ -85,6 +86,16 @@ fn conditions_of(alloc: Global, description: &Description) -> Result<Vec<Vec<&Ex
     Ok(rows)
 }
 
+// The group or the instance that something declared is.
+fn choice_of(what: Option<What>) -> Option<usize>
+    ensures { result ≡ choice_of what }
+{
+    match what {
+        Some(What::Group(choice)) | Some(What::Instance(choice)) => Some(choice),
+        _ => None,
+    }
+}
+
 impl<'a> Described<'a> {
     /// Goes over the description once. It takes memory and time in proportion to it.
     pub fn make(
@@ -99,10 +110,11 @@ impl<'a> Described<'a> {
     {
         machine.accepted();
         let description = machine.description();
-        let tables = Tables::make(alloc, description)?;
+        let tables = Noted::make(alloc, description)?;
         let places = places_of(alloc, description)?;
         let boundary = boundary_of(description);
-        let fields = field_places(alloc, boundary)?;
+        let table = field_places(alloc, boundary)?;
+        let fields = PlaceTable::make(alloc, table)?;
         let conditions = conditions_of(alloc, description)?;
         let root = first_root(&tables);
         let levels = level_count(&tables)?;
@@ -177,7 +189,7 @@ impl<'a> Described<'a> {
     pub fn field_place(&self, name: &Name) -> Option<usize>
         ensures { result ≡ field_place (tree_of self.now) name.now }
     {
-        self.fields.get(name).copied()
+        self.fields.place(name)
     }
 
     /// The type of a field by its place.
@@ -218,15 +230,30 @@ impl<'a> Described<'a> {
         }
     }
 
+    /// What a declared name is, by its number among all declared names.
+    pub fn what(&self, entry: usize) -> Option<What>
+        ensures { result ≡ what_at (tree_of self.now) entry }
+    {
+        self.tables.what_at(entry)
+    }
+
+    // The number of the group or instance that an operation declares by a name.
+    fn started(&self, operation: usize, name: &Name) -> Option<usize>
+        ensures { result ≡ started (tree_of self.now) operation name.now }
+    {
+        match self.tables.declared_at(operation, name) {
+            None => None,
+            Some(entry) => choice_of(self.tables.what_at(entry)),
+        }
+    }
+
     /// The operations, no aliases, among which a group or an instance of an operation chooses.
     pub fn plain_named(&self, operation: usize, name: &Name) -> &[usize]
         ensures { result.now ≡ plain_named (tree_of self.now) operation name.now }
     {
-        match self.declared(operation, name) {
-            Some(What::Group(choice)) | Some(What::Instance(choice)) => self
-                .tables
-                .plain_at(choice),
-            _ => &[],
+        match self.started(operation, name) {
+            None => &[],
+            Some(choice) => self.tables.plain_at(choice),
         }
     }
 

@@ -5,3 +5,4 @@ pub mod Sources
 pub mod Order
 pub mod Visits
 pub mod Entries
+pub mod Along

@@ -1,10 +1,15 @@
 -- Rows of a list of lists.
-use Rattle.std.proofs.Common.{◌≡◌, ◌<◌, ◌≤◌, ◌≢◌, ◌+◌, ◌&&◌, ◌||◌, ⊎_elim, ℕ, zero, suc, List, [], ◌∷◌, ◌++◌, Bool, true, false, cond, nat_eq, nat_lt, length, get_or, drop, drop-cons, set, refl, ap, sym, ◌∙◌, arith, add-one, append_assoc, inl, inr}
+use Rattle.std.proofs.Common.{◌≡◌, ◌<◌, ◌≤◌, ◌≢◌, ◌+◌, ◌-◌, ◌&&◌, ◌||◌, ⊎_elim, ℕ, zero, suc, List, [], ◌∷◌, ◌++◌, Bool, true, false, cond, nat_eq, nat_lt, length, map, get_or, drop, drop-cons, set, refl, ap, sym, ◌∙◌, arith, add-one, append_assoc, Some, inl, inr}
 use Rattle.std.specs.Global.{Vec}
 use Rattle.std.proofs.Math.Dec.{eqb-suc-suc, eqb-suc-zero}
 use Rattle.std.proofs.lemmas.Bool.{cases_eq, cases_Bool, eq-eqb, ne_eqb, lt-ltb, ltb-true, ltb-false, le-ltb}
 use Rattle.std.proofs.lemmas.Bool.Decides.{nat_tests}
+use Rattle.std.proofs.lemmas.List.{append-nil}
 use Rattle.lisa_tree.specs.Descriptions.{DescriptionTree}
+use Rattle.lisa_tree.specs.declared.declared.What.TheVariants as whats
+use Rattle.lisa_tree.specs.Declarations.{what_at}
+use Rattle.description_graph.specs.Graph.{first_entry}
+use Rattle.text_counts.specs.References.{chosen_by}
 use Rattle.graph_paths.specs.Paths.{targets, is_in, saw}
 use Rattle.graph_paths.proofs.Seen.{saw_past}
 use Rattle.text_counts.specs.Gathering.{late_row, gathered, gathered_at}
@@ -13,6 +18,20 @@ pub row_past : (rows : List (Vec ℕ)) (a : ℕ) → length rows ≤ a → targe
 row_past [] a h = refl
 row_past (v ∷ rows) zero h = absurd (omega arith)
 row_past (v ∷ rows) (suc a) h = row_past rows a (omega arith)
+
+-- lists of which several may be one in memory
+pub shown_past : {A : Type 0} (view : A → Vec ℕ) (lists : List A) (a : ℕ) → length lists ≤ a → targets (map view lists) a ≡ []
+shown_past view [] a h = refl
+shown_past view (x ∷ lists) zero h = absurd (omega arith)
+shown_past view (x ∷ lists) (suc a) h = shown_past view lists a (omega arith)
+
+shown_inside : {A : Type 0} (view : A → Vec ℕ) (lists : List A) (a : ℕ) (x : A) → a < length lists → x ≡ get_or lists a x → targets (map view lists) a ≡ (view x).items
+shown_inside view [] a x h e = absurd (omega arith)
+shown_inside view (z ∷ lists) zero x h e = ap (λ (r : _). (view r).items) (sym e)
+shown_inside view (z ∷ lists) (suc a) x h e = shown_inside view lists a x (omega arith) e
+
+pub shown_at : {A : Type 0} (view : A → Vec ℕ) (lists : List A) (n a : ℕ) (x : A) → n ≡ length lists → a < n → x ≡ get_or lists a x → targets (map view lists) a ≡ (view x).items
+shown_at view lists n a x l h e = shown_inside view lists a x (omega (arith, l, h)) e
 
 pub targets_push : (next : List (Vec ℕ)) (v : Vec ℕ) (a : ℕ) → targets (next ++ v ∷ []) a ≡ cond (nat_eq a (length next)) v.items (targets next a)
 targets_push [] v zero = refl
@@ -79,6 +98,18 @@ pub one_node : (d : DescriptionTree) (means : ℕ → List ℕ) (all : List ℕ)
 one_node d means all i h =
     ap (gathered d means) (drop-cons all i 0 h)
     ∙ ap (λ (m : ℕ). gathered_at d means (get_or all i 0) ++ gathered d means (drop m all)) (sym (add-one i))
+
+-- what is gathered from one reference alone
+pub one_reference : (d : DescriptionTree) (base : ℕ) (nodes : List ℕ) (node x : ℕ) → base ≡ first_entry d → length nodes ≡ 1 → node ≡ get_or nodes 0 x → base ≤ node → what_at d (node - base) ≡ Some whats.Reference
+    → (means : ℕ → List ℕ) → gathered d means nodes ≡ means (node - base)
+one_reference d base [] node x first one is le ref means = absurd (omega arith)
+one_reference d base (n ∷ m ∷ nodes) node x first one is le ref means = absurd (omega arith)
+one_reference d base (n ∷ []) node x first one is le ref means =
+    append-nil (gathered_at d means n)
+    ∙ ap (gathered_at d means) (sym is)
+    ∙ ap (λ (b : Bool). cond b [] (chosen_by d means (node - first_entry d) (what_at d (node - first_entry d)))) (le-ltb node (first_entry d) (omega arith))
+    ∙ ap (λ (k : ℕ). chosen_by d means (node - k) (what_at d (node - k))) (sym first)
+    ∙ ap (chosen_by d means (node - base)) ref
 
 -- what was added, and what is left
 pub regroup : {A : Type 0} (row more row' rest front all : List A) → row' ≡ row ++ more → row ++ all ≡ front → all ≡ more ++ rest → row' ++ rest ≡ front

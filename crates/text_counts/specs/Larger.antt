@@ -1,5 +1,6 @@
 -- What follows from a table follows from a larger one.
-use Rattle.std.proofs.Common.{◌≡◌, ℕ, List, [], ◌∷◌, Option, None, Some, refl, ap, ap₂, sym, ◌∙◌}
+use Rattle.std.proofs.Common.{◌≡◌, ℕ, List, [], ◌∷◌, Option, None, Some, Bool, true, false, cond, nat_eq, refl, ap, ap₂, sym, ◌∙◌}
+use Rattle.std.specs.List.{slice_get}
 use Rattle.lisa_tree.specs.Expressions as exprs
 use Rattle.lisa_tree.specs.Expressions.{ExprTree}
 use Rattle.lisa_tree.specs.Statements as stmts
@@ -9,12 +10,13 @@ use Rattle.lisa_tree.specs.declared.declared.What.{What}
 use Rattle.lisa_tree.specs.declared.declared.What.TheVariants as whats
 use Rattle.lisa_tree.specs.Operations.{sections_at, behavior_in, expression_in}
 use Rattle.lisa_tree.specs.Declarations.{what_at, plain_at}
-use Rattle.lisa_tree.specs.Paths.{Node, Operation, Choosing, Declaring, node_at}
+use Rattle.lisa_tree.specs.Paths.{Node, Operation, Choosing, Declaring, node_at, entry_node}
 use Rattle.least_fixed_points.specs.Settles.{IsWithin, IsMonotone}
 use Rattle.text_counts.specs.Sums.{Counts, plus, one_more, times, sum_of}
 use Rattle.text_counts.specs.Expressions.{counted_of, known_or, read_nodes, name_nodes, expression_nodes, own_nodes}
 use Rattle.text_counts.specs.Behaviors.{weight, called, turns_of, statement_count, statements_count, behavior_count}
-use Rattle.text_counts.specs.Steps.{Counting, entry_count, node_count_of, follows, alternative, behavior_counting, expressions_counting, IsSteady}
+use Rattle.text_counts.specs.Steps.{Counting, alternative, behavior_counting, expressions_counting, IsSteady}
+use Rattle.text_counts.specs.Alike.{reference_along, entry_along, node_along, follows_along}
 
 -- one has all that another has
 pub record Less (x y : Option ℕ) : Type 0 where
@@ -112,22 +114,30 @@ behaviors_steady d nodes = record {
   choices = λ known table within all n e. (sum_less known table within (alternative nodes) all).keeps n e;
 }
 
-module _ (d : DescriptionTree) (means : ℕ → List ℕ) (counting : Counting) (steady : IsSteady counting) where
+module _ (d : DescriptionTree) (means : ℕ → List ℕ) (alike : List ℕ) (counting : Counting) (steady : IsSteady counting) where
   module _ (known table : Counts) (within : IsWithin known table) where
     chosen_less : (all : List ℕ) → Less (counting.of_chosen known all) (counting.of_chosen table all)
     chosen_less all = record { keeps = steady.choices known table within all }
 
-    entry_less : (i : ℕ) (what : Option What) → Less (entry_count means counting known i what) (entry_count means counting table i what)
+    reference_less : (i : ℕ) (other : Option ℕ) → Less (reference_along d means counting known i other) (reference_along d means counting table i other)
+    reference_less i None = chosen_less (means i)
+    reference_less i (Some j) = by (nat_eq j i)
+      where
+        by : (b : Bool) → Less (cond b (counting.of_chosen known (means i)) (known (entry_node d j))) (cond b (counting.of_chosen table (means i)) (table (entry_node d j)))
+        by true = chosen_less (means i)
+        by false = at_less known table within (entry_node d j)
+
+    entry_less : (i : ℕ) (what : Option What) → Less (entry_along d means alike counting known i what) (entry_along d means alike counting table i what)
     entry_less i None = same_less _
     entry_less i (Some (whats.Group c)) = same_less _
     entry_less i (Some (whats.Instance c)) = same_less _
     entry_less i (Some whats.Label) = same_less _
-    entry_less i (Some whats.Reference) = chosen_less (means i)
+    entry_less i (Some whats.Reference) = reference_less i (slice_get alike i)
 
-    node_less : (node : Node) → Less (node_count_of d means counting known node) (node_count_of d means counting table node)
+    node_less : (node : Node) → Less (node_along d means alike counting known node) (node_along d means alike counting table node)
     node_less (Operation o) = record { keeps = steady.operations known table within o }
     node_less (Choosing c) = chosen_less (plain_at d c)
     node_less (Declaring i) = entry_less i (what_at d i)
 
-  pub follows_monotone : IsMonotone (follows d means counting)
-  follows_monotone known table within a n e = (node_less known table within (node_at d a)).keeps n e
+  pub along_monotone : IsMonotone (follows_along d means alike counting)
+  along_monotone known table within a n e = (node_less known table within (node_at d a)).keeps n e

@@ -5,6 +5,7 @@ pub mod Expressions
 pub mod Behaviors
 pub mod Activations
 pub mod Steps
+pub mod Alike
 pub mod Larger
 pub mod Ends
 pub mod Tables

@@ -8,6 +8,7 @@ ghost use Rattle.lisa_tree.specs.Paths.{node_count};
 ghost use Rattle.least_fixed_points.specs.Settles.{entry};
 ghost use Rattle.text_counts.specs.Behaviors.{weight, called, turns_of, initial, statement_count, statements_count};
 ghost use Rattle.text_counts.specs.Steps.{known_nodes, alternative, behavior_counting};
+ghost use Rattle.text_counts.specs.Alike.{AreAlike};
 ghost use Rattle.text_counts.specs.Tables.{AreCounts};
 ghost use Rattle.text_counts.specs.Larger.{behaviors_steady};
 
@@ -135,17 +136,19 @@ pub(crate) fn behavior_counts<N: Names>(
     alloc: Global,
     names: &N,
     meanings: &Meanings,
+    alike: &[usize],
     expressions: Option<&[Option<u64>]>,
     nodes: usize,
     order: &[usize],
 ) -> Result<Vec<Option<u64>>, NoMemory>
-    requires { nodes ≡ node_count (N.tree names.now) }
+    requires alike { AreAlike (N.tree names.now) (targets meanings.now) alike.now }
+    requires nodes { nodes ≡ node_count (N.tree names.now) }
     ensures { IfOk result (λ table. AreCounts (N.tree names.now) (targets meanings.now) (behavior_counting (N.tree names.now) (known_nodes expressions.entry)) (entry table.items)) }
 {
     let count = BehaviorCount {
         names,
         nodes: expressions,
     };
-    let table = counts(alloc, names, meanings, &count, nodes, order)?;
+    let table = counts(alloc, names, meanings, alike, &count, nodes, order)?;
     Ok(table)
 }

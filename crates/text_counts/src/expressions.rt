@@ -7,6 +7,7 @@ ghost use Rattle.graph_paths.specs.Paths.{targets};
 ghost use Rattle.lisa_tree.specs.Paths.{node_count};
 ghost use Rattle.text_counts.specs.Expressions.{counted_at, counted_of, known_or, read_nodes, name_nodes, expression_nodes, own_nodes};
 ghost use Rattle.text_counts.specs.Steps.{expressions_counting};
+ghost use Rattle.text_counts.specs.Alike.{AreAlike};
 ghost use Rattle.text_counts.specs.Tables.{AreCounts};
 ghost use Rattle.text_counts.specs.Larger.{expressions_steady};
 
@@ -103,13 +104,15 @@ pub(crate) fn expression_counts<N: Names>(
     alloc: Global,
     names: &N,
     meanings: &Meanings,
+    alike: &[usize],
     nodes: usize,
     order: &[usize],
 ) -> Result<Vec<Option<u64>>, NoMemory>
-    requires { nodes ≡ node_count (N.tree names.now) }
+    requires alike { AreAlike (N.tree names.now) (targets meanings.now) alike.now }
+    requires nodes { nodes ≡ node_count (N.tree names.now) }
     ensures { IfOk result (λ table. AreCounts (N.tree names.now) (targets meanings.now) (expressions_counting (N.tree names.now)) (entry table.items)) }
 {
     let count = ExpressionCount { names };
-    let table = counts(alloc, names, meanings, &count, nodes, order)?;
+    let table = counts(alloc, names, meanings, alike, &count, nodes, order)?;
     Ok(table)
 }

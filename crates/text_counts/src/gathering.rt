@@ -1,6 +1,7 @@
 //! What references may choose, gathered one reference after another.
 
-ghost use Rattle.std.specs.Prelude.{◌≡◌, ◌↔◌, ◌<◌, ℕ, Some, [], length, IfOk, OnOk, true, ◌++◌};
+ghost use Rattle.std.specs.Prelude.{◌≡◌, ◌↔◌, ◌<◌, ℕ, List, Some, [], length, map, IfOk, IfSome, OnOk, true, ◌++◌};
+ghost use Rattle.std.specs.Rc.{rc_value};
 ghost use Rattle.std.specs.List.{list_all};
 ghost use Rattle.std.specs.List.Sorted.{IsStrictlyIncreasing};
 ghost use Rattle.lisa_tree.specs.Descriptions.{DescriptionTree};
@@ -14,6 +15,10 @@ ghost use Rattle.text_counts.specs.Gathering.{IsGathered, is_node_ready, gathere
 use graph_paths::{reached_from, row};
 use lisa_tree::{Names, What};
 use std::alloc::{AllocError, Global};
+use std::rc::Rc;
+
+/// A list that may stand for several references.
+pub(crate) type Numbers = Rc<Vec<usize>>;
 
 /// A description's graph, and where its declared names begin among the nodes.
 #[derive(Drop)]
@@ -143,9 +148,21 @@ fn sources<N: Names>(
     Ok(searched)
 }
 
+/// A list by its number, the empty one where there is none.
+#[tactic(auto, using(crate::proofs::Rows::shown_at, crate::proofs::Rows::shown_past))]
+pub(crate) fn list_at(lists: &[Numbers], number: usize) -> &[usize]
+    ensures { result.now ≡ targets (map rc_value lists.now) number }
+{
+    if number < lists.len() {
+        lists[number].as_slice()
+    } else {
+        &[]
+    }
+}
+
 // What a declared name chooses among, as far as it is known.
-fn chosen_by<'a, N: Names>(names: &'a N, lists: &'a [Vec<usize>], number: usize) -> &'a [usize]
-    ensures { result.now ≡ chosen_by (N.tree names.now) (targets lists.now) number (what_at (N.tree names.now) number) }
+fn chosen_by<'a, N: Names>(names: &'a N, lists: &'a [Numbers], number: usize) -> &'a [usize]
+    ensures { result.now ≡ chosen_by (N.tree names.now) (targets (map rc_value lists.now)) number (what_at (N.tree names.now) number) }
 {
     match names.what_at(number) {
         Some(What::Group(choice)) | Some(What::Instance(choice)) => names.plain_at(choice),
@@ -154,15 +171,19 @@ fn chosen_by<'a, N: Names>(names: &'a N, lists: &'a [Vec<usize>], number: usize)
     }
 }
 
-/// A list by its number, the empty one where there is none.
-#[tactic(auto, using(crate::proofs::Rows::row_past))]
-pub(crate) fn list_at(lists: &[Vec<usize>], number: usize) -> &[usize]
-    ensures { result.now ≡ targets lists.now number }
+// What a node chooses among, as far as it is known, if it is a declared name. These stand behind so many other nodes.
+fn chosen_at<'a, N: Names>(
+    names: &'a N,
+    base: usize,
+    lists: &'a [Numbers],
+    node: usize,
+) -> &'a [usize]
+    requires { base ≡ first_entry (N.tree names.now) }
+    ensures { result.now ≡ gathered_at (N.tree names.now) (targets (map rc_value lists.now)) node }
 {
-    if number < lists.len() {
-        row(lists, number)
-    } else {
-        &[]
+    match node.checked_sub(base) {
+        Some(number) => chosen_by(names, lists, number),
+        None => &[],
     }
 }
 
@@ -170,16 +191,14 @@ pub(crate) fn list_at(lists: &[Vec<usize>], number: usize) -> &[usize]
 fn gathered<N: Names>(
     alloc: Global,
     graph: &Graph<'_, N>,
-    lists: &[Vec<usize>],
+    lists: &[Numbers],
     nodes: &[usize],
 ) -> Result<Vec<usize>, AllocError>
-    ensures { IfOk result (λ all. all.items ≡ gathered (N.tree graph.now.names.now) (targets lists.now) nodes.now) }
+    ensures { IfOk result (λ all. all.items ≡ gathered (N.tree graph.now.names.now) (targets (map rc_value lists.now)) nodes.now) }
 {
     let mut all = Vec::new(alloc);
     for &node in nodes {
-        if let Some(number) = node.checked_sub(graph.base) {
-            all.extend_from_slice(chosen_by(graph.names, lists, number))?;
-        }
+        all.extend_from_slice(chosen_at(graph.names, graph.base, lists, node))?;
     }
     Ok(all)
 }
@@ -195,16 +214,62 @@ fn in_order(numbers: Vec<usize>) -> Vec<usize>
     all
 }
 
+/// The reference from which alone something is gathered, where it is gathered from one.
+#[tactic(auto, using(crate::proofs::Rows::one_reference))]
+pub(crate) fn only_reference<N: Names>(graph: &Graph<'_, N>, nodes: &[usize]) -> Option<usize>
+    ensures reference { IfSome result (λ number. what_at (N.tree graph.now.names.now) number ≡ Some whats.Reference) }
+    ensures gathered { IfSome result (λ number. (means : ℕ → List ℕ) → gathered (N.tree graph.now.names.now) means nodes.now ≡ means number) }
+{
+    if nodes.len() != 1 {
+        return None;
+    }
+    let number = nodes[0].checked_sub(graph.base)?;
+    match graph.names.what_at(number) {
+        Some(What::Reference) => Some(number),
+        _ => None,
+    }
+}
+
+// The list of one reference, with no memory of its own.
+#[tactic(auto, using(crate::proofs::Rows::shown_at))]
+fn same_list(lists: &[Numbers], number: usize) -> Result<Numbers, AllocError>
+    requires { number < length lists.now }
+    ensures { IfOk result (λ list. (rc_value list).items ≡ targets (map rc_value lists.now) number) }
+{
+    lists[number].clone()
+}
+
+// What some nodes may choose together, each once and in order. What is gathered from one reference alone is that reference's own list.
+fn list_of<N: Names>(
+    alloc: Global,
+    graph: &Graph<'_, N>,
+    lists: &[Numbers],
+    nodes: &[usize],
+) -> Result<Numbers, AllocError>
+    requires { (i : ℕ) → IsStrictlyIncreasing (targets (map rc_value lists.now) i) }
+    ensures rising { IfOk result (λ list. IsStrictlyIncreasing (rc_value list).items) }
+    ensures same { IfOk result (λ list. (a : ℕ) → is_in a (rc_value list).items ≡ is_in a (gathered (N.tree graph.now.names.now) (targets (map rc_value lists.now)) nodes.now)) }
+{
+    if let Some(number) = only_reference(graph, nodes) {
+        if number < lists.len() {
+            return same_list(lists, number);
+        }
+    }
+    let list = in_order(gathered(alloc, graph, lists, nodes)?);
+    let shared = Rc::new(alloc, list)?;
+    Ok(shared)
+}
+
 /// Gathers what a reference may choose, if that wasn't done.
 pub(crate) fn visit<N: Names>(
     alloc: Global,
     graph: &Graph<'_, N>,
-    lists: &mut Vec<Vec<usize>>,
+    lists: &mut Vec<Numbers>,
     done: &mut Vec<bool>,
     number: usize,
 ) -> Result<(), AllocError>
-    requires { IsGathered (N.tree graph.now.names.now) lists.old.items done.old.items }
-    ensures gathered { OnOk result (IsGathered (N.tree graph.now.names.now) lists.new.items done.new.items) }
+    requires { IsGathered (N.tree graph.now.names.now) (map rc_value lists.old.items) done.old.items }
+    ensures gathered { OnOk result (IsGathered (N.tree graph.now.names.now) (map rc_value lists.new.items) done.new.items) }
     ensures kept { OnOk result ((i : ℕ) → saw done.old.items i ≡ true → saw done.new.items i ≡ true) }
     ensures done { OnOk result (what_at (N.tree graph.now.names.now) number ≡ Some whats.Reference → saw done.new.items number ≡ true) }
 {
@@ -212,7 +277,7 @@ pub(crate) fn visit<N: Names>(
         return Ok(());
     }
     let nodes = sources(alloc, graph, done, number)?;
-    let list = in_order(gathered(alloc, graph, lists, &nodes)?);
+    let list = list_of(alloc, graph, lists, &nodes)?;
     lists[number] = list;
     done[number] = true;
     Ok(())

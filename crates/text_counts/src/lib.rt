@@ -3,6 +3,7 @@
 #![tactic(auto)]
 
 mod activations;
+mod alike;
 mod behaviors;
 mod expressions;
 mod gathering;

@@ -1,7 +1,8 @@
 //! The operations that references may choose.
 
-ghost use Rattle.std.specs.Prelude.{◌≡◌, ◌<◌, ◌-◌, ℕ, List, [], IfOk, OnOk, Some, length, true, false};
+ghost use Rattle.std.specs.Prelude.{◌≡◌, ◌<◌, ◌-◌, ℕ, List, [], IfOk, OnOk, Some, length, map, true, false};
 ghost use Rattle.std.specs.Global.{Vec};
+ghost use Rattle.std.specs.Rc.{rc_value};
 ghost use Rattle.graph_paths.specs.Paths.{targets, saw};
 ghost use Rattle.graph_paths.specs.Below.{AreBelow};
 ghost use Rattle.lisa_tree.specs.declared.declared.What.TheVariants as whats;
@@ -10,32 +11,35 @@ ghost use Rattle.description_graph.specs.Graph.{IsGraph};
 ghost use Rattle.text_counts.specs.References.{AreMeanings};
 ghost use Rattle.text_counts.specs.Gathering.{IsGathered};
 
-use crate::gathering::{Graph, list_at, visit};
+use crate::gathering::{Graph, Numbers, list_at, visit};
 use lisa_tree::Names;
 use lisa_words::NoMemory;
 use std::alloc::{AllocError, Global};
 use std::marker::Model;
+use std::rc::Rc;
 
 /// What each reference of a description may choose: operations that are no aliases, each once, in the order of their numbers.
 #[derive(Drop)]
 pub struct Meanings {
-    lists: Vec<Vec<usize>>,
+    lists: Vec<Numbers>,
 }
 
 impl Model for Meanings {
     ghost Value = { List (Vec ℕ) };
 
-    ghost view = { λ m. m.lists.items };
+    ghost view = { λ m. map rc_value m.lists.items };
 }
 
 // An empty list for each of so many.
-fn no_lists(alloc: Global, count: usize) -> Result<Vec<Vec<usize>>, AllocError>
+fn no_lists(alloc: Global, count: usize) -> Result<Vec<Numbers>, AllocError>
     ensures length { IfOk result (λ lists. length lists.items ≡ count) }
-    ensures none { IfOk result (λ lists. (i : ℕ) → targets lists.items i ≡ []) }
+    ensures none { IfOk result (λ lists. (i : ℕ) → targets (map rc_value lists.items) i ≡ []) }
 {
+    let empty = Rc::new(alloc, Vec::new(alloc))?;
     let mut lists = Vec::new(alloc);
     for _number in 0..count {
-        lists.push(Vec::new(alloc))?;
+        let list = empty.clone()?;
+        lists.push(list)?;
     }
     Ok(lists)
 }

@@ -7,6 +7,7 @@ ghost use Rattle.text_counts.specs.Activations.{activation_nodes};
 ghost use Rattle.text_counts.specs.Tables.{TextLists, told_by, AreTextCounts, nodes_of};
 
 use crate::activations::activation_nodes;
+use crate::alike::alike_references;
 use crate::behaviors::behavior_counts;
 use crate::expressions::expression_counts;
 use crate::references::Meanings;
@@ -55,20 +56,22 @@ fn activation_counts<N: Names>(
 
 impl TextCounts {
     /// Counts them. The time is in proportion to the description, beside the time to gather what references may choose; what a name
-    /// chooses among is summed up once, however often the name is used.
+    /// chooses among is summed up once, however often the name is used, and once for a reference and all that hand it on alone.
     pub fn make<N: Names>(alloc: Global, names: &N) -> Result<TextCounts, NoMemory>
         ensures { IfOk result (λ counts. AreTextCounts (N.tree names.now) (told_by counts)) }
     {
         let next = edges(alloc, names)?;
         let order = order(alloc, &next)?;
         let meanings = Meanings::make(alloc, names, &next, &order)?;
+        let alike = alike_references(alloc, names, &next, &meanings)?;
         let nodes = next.len();
-        let expressions = expression_counts(alloc, names, &meanings, nodes, &order)?;
-        let statements = behavior_counts(alloc, names, &meanings, None, nodes, &order)?;
+        let expressions = expression_counts(alloc, names, &meanings, &alike, nodes, &order)?;
+        let statements = behavior_counts(alloc, names, &meanings, &alike, None, nodes, &order)?;
         let behaviors = behavior_counts(
             alloc,
             names,
             &meanings,
+            &alike,
             Some(&expressions),
             nodes,
             &order,

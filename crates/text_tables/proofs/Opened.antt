@@ -7,13 +7,14 @@ use Rattle.std.proofs.lemmas.List.{take_all}
 use Rattle.std.proofs.lemmas.Bool.Decides.{Decides-eqb}
 use Rattle.std.proofs.lemmas.Slice.Eq.{bytes_eq-Decides, starts_is}
 use Rattle.instruction_texts.specs.declared.shapes.Shape.{Shape}
-use Rattle.instruction_texts.specs.declared.shapes.Shape.TheVariants.{Signed}
+use Rattle.instruction_texts.specs.declared.shapes.Shape.TheVariants.{Other, Literal, Unsigned, Signed}
 use Rattle.instruction_texts.specs.declared.shapes.Token.{Token}
 use Rattle.instruction_texts.specs.declared.shapes.Token.TheVariants as tokens
 use Rattle.instruction_texts.specs.Shapes as shapes
 use Rattle.instruction_texts.specs.Shapes.{zero_x, lead, before_sign, Spells, IsText}
-use Rattle.instruction_texts.specs.Starts.{Beginning, Mark, Word, Prefix, first_start, negative_start}
-use Rattle.text_tables.specs.Openings.{meet, meet_if_any, begins_so, begin_alike}
+use Rattle.instruction_texts.specs.Starts.{Beginning, Mark, Word, Prefix, first_start, minus_start, negative_start}
+use Rattle.instruction_texts.proofs.OneText.{same_word, same_minus, not_both}
+use Rattle.text_tables.specs.Openings.{meet, meet_if_any, begins_so, begin_alike, are_level, stay_level}
 
 -- ---- one token that begins in two ways
 
@@ -162,6 +163,44 @@ share_behind (s ∷ ss) (u ∷ us) p q a b h =
     let same : g.1 ≡ f.1 = tails g.0 f.0 g.1 f.1 (sym g.2 ∙ f.2) in
     (f.1, f.4 (no_sign (negative_start (s ∷ ss)) a), subst (λ (ts : List Token). IsText us ts) same (g.4 (no_sign (negative_start (u ∷ us)) b)))
 
+-- pieces with a sign behind the same run
+behind_signs : (p : List ℕ) (n m : ℕ) {ss us : List Shape} {vs ws : List ℕ} {ts xs : List Token} → Spells (Signed p n ∷ ss) vs ts → Spells (Signed p m ∷ us) ws xs → ts ≡ xs → Share ss us
+behind_signs p n m {us = us} (shapes.positive cs {vs = vs} {ts = ts} {us = xs} h v s a) (shapes.positive ds {vs = ws} {ts = ys} k w t b) e =
+    let same = same_word p cs ds ts ys xs a (e ∙ b) in (ts, (vs, s), (ws, subst (λ (l : List Token). Spells us ws l) (sym same.1) t))
+behind_signs p n m {us = us} (shapes.negative cs {vs = vs} {ts = ts} {us = xs} h v s a) (shapes.negative ds {vs = ws} {ts = ys} k w t b) e =
+    let same = same_minus p cs ds ts ys xs a (e ∙ b) in (ts, (vs, s), (ws, subst (λ (l : List Token). Spells us ws l) (sym same.1) t))
+behind_signs p n m (shapes.positive cs {ts = ts} {us = xs} h v s a) (shapes.negative ds {ts = ys} k w t b) e = absurd (not_both p cs ds n ts ys xs h a (e ∙ b))
+behind_signs p n m (shapes.negative cs {ts = ts} h v s a) (shapes.positive ds {ts = ys} {us = zs} k w t b) e = absurd (not_both p ds cs m ys ts zs k b (sym e ∙ a))
+
+one_minus : (p q : List ℕ) → meet (minus_start p) (minus_start q) ≡ true → p ≡ q
+one_minus [] [] e = refl
+one_minus [] (c ∷ q) e = absurd cc
+one_minus (c ∷ p) [] e = absurd cc
+one_minus (c ∷ p) (d ∷ q) e = (bytes_eq-Decides (c ∷ p) (d ∷ q)).0 e
+
+both_signs : (s u : Shape) (ss us : List Shape) (a b : Beginning) → negative_start (s ∷ ss) ≡ Some a → negative_start (u ∷ us) ≡ Some b → meet a b ≡ true → Share (s ∷ ss) (u ∷ us) → Share ss us
+both_signs (Other c) u ss us a b x y e h = absurd cc
+both_signs (Literal p) u ss us a b x y e h = absurd cc
+both_signs (Unsigned hex p n) u ss us a b x y e h = absurd cc
+both_signs (Signed p n) (Other c) ss us a b x y e h = absurd cc
+both_signs (Signed p n) (Literal q) ss us a b x y e h = absurd cc
+both_signs (Signed p n) (Unsigned hex q m) ss us a b x y e h = absurd cc
+both_signs (Signed p n) (Signed q m) ss us a b x y e h =
+    let f : minus_start p ≡ a = cc in
+    let g : minus_start q ≡ b = cc in
+    let same : p ≡ q = one_minus p q (subst (λ (z : Beginning). meet z (minus_start q) ≡ true) (sym f) (subst (λ (z : Beginning). meet a z ≡ true) (sym g) e)) in
+    behind_signs p n m h.1.1 (subst (λ (r : List ℕ). Spells (Signed r m ∷ us) h.2.0 h.0) (sym same) h.2.1) refl
+
+share_level : (ss us : List Shape) → 0 < length ss → 0 < length us → stay_level ss us ≡ true → Share ss us → Share (drop 1 ss) (drop 1 us)
+share_level [] us p q e h = absurd (omega arith)
+share_level (s ∷ ss) [] p q e h = absurd (omega arith)
+share_level (s ∷ ss) (u ∷ us) p q e h = by (negative_start (s ∷ ss)) (negative_start (u ∷ us)) refl refl e where
+  by : (a b : Option Beginning) → negative_start (s ∷ ss) ≡ a → negative_start (u ∷ us) ≡ b → are_level a b ≡ true → Share ss us
+  by None None x y e = share_behind (s ∷ ss) (u ∷ us) p q (ap (λ (o : Option Beginning). is_some o) x) (ap (λ (o : Option Beginning). is_some o) y) h
+  by None (Some b) x y e = absurd cc
+  by (Some a) None x y e = absurd cc
+  by (Some a) (Some b) x y e = both_signs s u ss us a b x y e h
+
 share_whole : (ss us : List Shape) → Share ss us → (length ss ≡ 0 → length us ≡ 0) × (length us ≡ 0 → length ss ≡ 0)
 share_whole [] [] h = (λ e. refl, λ e. refl)
 share_whole [] (u ∷ us) h = absurd (let f = opened h.1.1 in let g = opened h.2.1 in let e = sym f ∙ g.2 in cc)
@@ -184,12 +223,11 @@ module _ (ss us : List Shape) (i : ℕ) (on : Share ss us → Share (drop i ss) 
       let n : begin_alike (drop i ss) (drop i us) ≡ false = rw (rest_is i ss, rest_is i us) at e in
       absurd (true≢false (sym t ∙ n))
 
-  pub alike_so_far : i < length ss → i < length us → is_some (negative_start (rest i ss)) ≡ false → is_some (negative_start (rest i us)) ≡ false
-      → Share ss us → Share (drop (i + 1) ss) (drop (i + 1) us)
-  alike_so_far p q a b h =
+  pub alike_so_far : i < length ss → i < length us → stay_level (rest i ss) (rest i us) ≡ true → Share ss us → Share (drop (i + 1) ss) (drop (i + 1) us)
+  alike_so_far p q e h =
       subst (λ (vs : List Shape). Share vs (drop (i + 1) us)) (drop-drop 1 i ss)
       (subst (λ (vs : List Shape). Share (drop 1 (drop i ss)) vs) (drop-drop 1 i us)
-      (share_behind (drop i ss) (drop i us) (omega (arith, length-drop i ss)) (omega (arith, length-drop i us)) (rw (rest_is i ss) at a) (rw (rest_is i us) at b) (on h)))
+      (share_level (drop i ss) (drop i us) (omega (arith, length-drop i ss)) (omega (arith, length-drop i us)) (rw (rest_is i ss, rest_is i us) at e) (on h)))
 
   pub one_ends : i ≡ min (length ss) (length us) → Share ss us → length ss ≡ length us
   one_ends is h =

@@ -1,5 +1,5 @@
 -- Beginnings that a text may have at once.
-use Rattle.std.specs.Prelude.{Bool, false, ◌||◌, List, Option, Some, nat_eq}
+use Rattle.std.specs.Prelude.{Bool, true, false, ◌||◌, List, Option, Some, None, nat_eq}
 use Rattle.std.specs.List.{starts_with}
 use Rattle.std.specs.Cmp.Lexicographic.{pointwise}
 use Rattle.instruction_texts.specs.declared.shapes.Shape.{Shape}
@@ -26,3 +26,13 @@ begins_so a ss = meet_if_any a (first_start ss) || meet_if_any a (negative_start
 -- whether texts of both forms may begin with one token
 abbrev pub begin_alike : List Shape → List Shape → Bool
 begin_alike ss us = begins_so (first_start ss) us || begins_so (negative_start ss) us
+
+-- whether texts of both forms that begin with the same tokens go on behind the same one, once each has what its first piece says: neither
+-- piece has a sign, or both begin alike with a negative number
+abbrev pub are_level : Option Beginning → Option Beginning → Bool
+are_level None None = true
+are_level (Some a) (Some b) = meet a b
+are_level _ _ = false
+
+abbrev pub stay_level : List Shape → List Shape → Bool
+stay_level ss us = are_level (negative_start ss) (negative_start us)

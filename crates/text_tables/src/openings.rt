@@ -1,10 +1,10 @@
 //! Forms that can't share a text, since their texts begin in different ways.
 
-ghost use Rattle.std.specs.Prelude.{◌≡◌, List, IsTrue, option_map, is_some};
+ghost use Rattle.std.specs.Prelude.{◌≡◌, List, IsTrue, option_map};
 ghost use Rattle.instruction_texts.specs.declared.shapes.Token.{Token};
 ghost use Rattle.instruction_texts.specs.Shapes.{IsText};
-ghost use Rattle.instruction_texts.specs.Starts.{start_of, negative_start};
-ghost use Rattle.text_tables.specs.Openings.{meet, meet_if_any, begins_so, begin_alike};
+ghost use Rattle.instruction_texts.specs.Starts.{start_of};
+ghost use Rattle.text_tables.specs.Openings.{meet, meet_if_any, begins_so, begin_alike, stay_level};
 
 use instruction_texts::{Shape, Start, first_start, negative_start};
 
@@ -46,14 +46,20 @@ fn begin_alike(first: &[Shape], second: &[Shape]) -> bool
     begins_so(first_start(first), second) || begins_so(negative_start(first), second)
 }
 
-// Whether a piece with a sign stands first.
-fn has_sign(shapes: &[Shape]) -> bool
-    ensures { result ≡ is_some (negative_start shapes.now) }
+// Whether a text of both goes on behind the same token of it, once it has what the first piece of each says: neither piece has a sign, or
+// both have it behind the same run.
+fn stay_level(first: &[Shape], second: &[Shape]) -> bool
+    ensures { result ≡ stay_level first.now second.now }
 {
-    negative_start(shapes).is_some()
+    match (negative_start(first), negative_start(second)) {
+        (None, None) => true,
+        (Some(one), Some(other)) => meet(one, other),
+        _ => false,
+    }
 }
 
-/// Whether the two forms may have a text in common. It compares them piece by piece, up to one with a sign, and takes no memory.
+/// Whether the two forms may have a text in common. It compares them piece by piece, as long as a text of both must go on behind the same
+/// token, and takes no memory.
 pub(crate) fn may_share(first: &[Shape], second: &[Shape]) -> bool
     ensures { (ts : List Token) → IsText first.now ts → IsText second.now ts → IsTrue result }
 {
@@ -61,7 +67,7 @@ pub(crate) fn may_share(first: &[Shape], second: &[Shape]) -> bool
         if !begin_alike(&first[i..], &second[i..]) {
             return false;
         }
-        if has_sign(&first[i..]) || has_sign(&second[i..]) {
+        if !stay_level(&first[i..], &second[i..]) {
             return true;
         }
     }

@@ -1,6 +1,6 @@
 //! Words with their types, what operators make of them, and the values of expressions, where it is known what names, elements and fields
 //! are. And what statements do, where it is known what assignments, calls, stalls and flushes do; with it, what the operation
-//! `reset` leaves in registers and pins.
+//! `reset` leaves in registers.
 #![tactic(auto)]
 
 mod counts;

@@ -39,7 +39,7 @@ module _ {T : Type 0} (step : (ℕ → Option T) → ℕ → Option T) (monotone
       by None is = ap (λ (x : Option T). either x (other b)) is ∙ e
       by (Some t) is = ap (λ (x : Option T). either x (other b)) is ∙ ap (λ (z : T). Some z) (same b t u is e)
 
-  one_value : (a : ℕ) (t u : T) → Settles step a t → Settles step a u → t ≡ u
+  pub one_value : (a : ℕ) (t u : T) → Settles step a t → Settles step a u → t ≡ u
   one_value a t u (settled known from is) (settled other more is') =
       same_Some t u (sym (monotone known (λ b. either (known b) (other b)) (left known other) a t is)
       ∙ monotone other (λ b. either (known b) (other b)) (right known other (λ b x y e f. one_value b x y (from b x e) (more b y f))) a u is')

@@ -1,5 +1,12 @@
-mod Same
+pub mod Same
 mod FormFirsts
 mod CodedFirsts
-mod Firsts
+pub mod Firsts
 pub mod Stages
+mod Undenied
+mod SettledTables
+mod ConditionTotals
+mod FormTotals
+mod Totals
+mod Numbered
+mod Numbers

@@ -4,4 +4,6 @@
 
 mod laws;
 
-pub use laws::{first_faults_are_one, stages_are_of_bytes};
+pub use laws::{
+    first_faults_are_one, first_faults_have_numbers, no_bytes_are_undecided, stages_are_of_bytes,
+};

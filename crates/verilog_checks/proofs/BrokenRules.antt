@@ -9,8 +9,7 @@ use Rattle.verilog_text.specs.Trees.{ModuleTree, MemberTree, SettingTree}
 use Rattle.verilog_text.specs.Clocked.{regs, settings}
 use Rattle.verilog_text.specs.Conditions as conditions
 use Rattle.verilog_text.specs.Conditions.{IsFirst, Declared, Use, used_name, is_wrong, declares, head_declares, member_declares, member_uses, names_of, sort_of, with_earlier, uses, uses_in, FirstEvent, event_name, events_in, given, IsNoFirst, IsDuplicate, IsUndeclared, IsWrongUse, IsUnset}
-use Rattle.std.specs.Str.{bytes_eq}
-use Rattle.indexmap.specs.IndexSet.{insert_all}
+use Rattle.name_tables.specs.Keys.{insert_all}
 use Rattle.verilog_checks.specs.Views.{Told, Gives, told_by, behind, counted_uses}
 use Rattle.verilog_checks.specs.Readings.{has, is_again, again_in, is_early, is_against, first_use, reg_name, given_name, reg_names, given_names, with_given, is_unset, unset_in}
 use Rattle.verilog_checks.proofs.Firsts.{Decides, Tells, tells_by, find_map, find_same}
@@ -177,16 +176,16 @@ unset_tells m =
     subst (Tells (IsUnset m)) same (tells_by (IsNoFirst m) (is_unset rs gs) decides event_name (events_in [] m.members))
 
 -- sets of these names tell the same
-set_same : (names : List (List ℕ)) (name : List ℕ) → has (insert_all bytes_eq [] names) name ≡ has names name
+set_same : (names : List (List ℕ)) (name : List ℕ) → has (insert_all [] names) name ≡ has names name
 set_same names name = has-insert_all [] names name
 
-unset_same : (rs gs : List (List ℕ)) (e : FirstEvent) → is_unset (insert_all bytes_eq [] rs) (insert_all bytes_eq [] gs) e ≡ is_unset rs gs e
+unset_same : (rs gs : List (List ℕ)) (e : FirstEvent) → is_unset (insert_all [] rs) (insert_all [] gs) e ≡ is_unset rs gs e
 unset_same rs gs (conditions.Declares name) = ap not (set_same gs name)
 unset_same rs gs (conditions.Gives earlier name) = ap (λ (b : Bool). not b || has earlier name) (set_same rs name)
 
-pub unset_by_sets : (rs gs earlier regs_set given_set : List (List ℕ)) (all : List Told) → regs_set ≡ insert_all bytes_eq [] rs → given_set ≡ insert_all bytes_eq [] gs → earlier ≡ []
+pub unset_by_sets : (rs gs earlier regs_set given_set : List (List ℕ)) (all : List Told) → regs_set ≡ insert_all [] rs → given_set ≡ insert_all [] gs → earlier ≡ []
     → unset_in regs_set given_set earlier all ≡ unset_in rs gs [] all
 unset_by_sets rs gs earlier regs_set given_set all of_regs of_given empty =
     ap₂ (λ (r g : List (List ℕ)). unset_in r g earlier all) of_regs of_given
-    ∙ ap (λ (e : List (List ℕ)). unset_in (insert_all bytes_eq [] rs) (insert_all bytes_eq [] gs) e all) empty
-    ∙ ap (option_map event_name) (find_same (is_unset (insert_all bytes_eq [] rs) (insert_all bytes_eq [] gs)) (is_unset rs gs) (unset_same rs gs) (with_given [] all))
+    ∙ ap (λ (e : List (List ℕ)). unset_in (insert_all [] rs) (insert_all [] gs) e all) empty
+    ∙ ap (option_map event_name) (find_same (is_unset (insert_all [] rs) (insert_all [] gs)) (is_unset rs gs) (unset_same rs gs) (with_given [] all))

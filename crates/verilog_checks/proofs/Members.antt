@@ -1,15 +1,15 @@
 -- Names among others.
 use Rattle.std.proofs.Common.{◌≡◌, ℕ, zero, suc, ◌+◌, ◌<◌, ◌≤◌, Bool, true, false, cond, not, ◌||◌, List, [], ◌∷◌, ◌++◌, length, take, get_or, Option, Some, None, refl, sym, ap, ◌∙◌, arith}
-use Rattle.std.specs.Prelude.{Contains, slice_index_or, slice_get, nat_lt, min, if◌then◌else◌, position, unwrap_or, option_map, find, map}
+use Rattle.std.specs.Prelude.{Contains, slice_index_or, slice_get, nat_lt, min, if◌then◌else◌, option_map, find, map}
 use Rattle.std.specs.List.{position_or_len}
-use Rattle.std.proofs.lemmas.Bool.{cond_both, true≢false, false≢true}
+use Rattle.std.proofs.lemmas.Bool.{true≢false, false≢true}
 use Rattle.std.proofs.lemmas.Bool.Decides.{nat_tests}
 use Rattle.verilog_text.specs.Conditions.{Declared, names_of}
 use Rattle.verilog_checks.specs.declared.parts.Declaration.{Declaration}
 use Rattle.verilog_checks.specs.Views.{declared_by, sort_by}
 use Rattle.std.specs.Str.{bytes_eq}
 use Rattle.std.proofs.lemmas.Slice.Eq.{bytes_eq-Decides}
-use Rattle.indexmap.specs.IndexSet.{insert_key, insert_all}
+use Rattle.name_tables.specs.Keys.{insert_key, insert_all}
 use Rattle.verilog_checks.specs.Readings.{has, sort_in}
 
 pub same_bytes : (a b : List ℕ) → bytes_eq a b ≡ true → a ≡ b
@@ -83,7 +83,7 @@ or_assoc_here true b c = refl
 or_assoc_here false b c = refl
 
 -- a key that is put in is found, and so is what was there
-has-insert_key : (keys : List (List ℕ)) (key name : List ℕ) → has (insert_key bytes_eq keys key) name ≡ (has keys name || bytes_eq name key)
+has-insert_key : (keys : List (List ℕ)) (key name : List ℕ) → has (insert_key keys key) name ≡ (has keys name || bytes_eq name key)
 has-insert_key keys key name = go (has keys key) refl
   where
     among : (b : Bool) → has keys key ≡ true → bytes_eq name key ≡ b → has keys name ≡ (has keys name || b)
@@ -94,31 +94,14 @@ has-insert_key keys key name = go (has keys key) refl
     go true there = among (bytes_eq name key) there refl
     go false new = has-append keys (key ∷ []) name ∙ ap (λ (b : Bool). has keys name || b) (or_false (bytes_eq name key))
 
-pub has-insert_all : (keys names : List (List ℕ)) (name : List ℕ) → has (insert_all bytes_eq keys names) name ≡ (has keys name || has names name)
+pub has-insert_all : (keys names : List (List ℕ)) (name : List ℕ) → has (insert_all keys names) name ≡ (has keys name || has names name)
 has-insert_all keys [] name = sym (or_false (has keys name))
 has-insert_all keys (key ∷ rest) name =
-    has-insert_all (insert_key bytes_eq keys key) rest name
+    has-insert_all (insert_key keys key) rest name
     ∙ ap (λ (b : Bool). b || has rest name) (has-insert_key keys key name)
     ∙ or_assoc_here (has keys name) (bytes_eq name key) (has rest name)
 
 -- ---- places
-
-place_most : {X : Type 0} (p : X → Bool) (xs : List X) → position_or_len p xs ≤ length xs
-place_most p [] = omega arith
-place_most p (x ∷ xs) = go (p x) (place_most p xs)
-  where
-    go : (b : Bool) → position_or_len p xs ≤ length xs → cond (not b) (1 + position_or_len p xs) 0 ≤ length (x ∷ xs)
-    go true le = omega arith
-    go false le = omega (arith, le)
-
-not_less : (n m : ℕ) → nat_lt n m ≡ false → m ≤ n
-not_less n m is = grind (arith, nat_tests)
-
-pub place_found : {X : Type 0} (p : X → Bool) (xs : List X) → unwrap_or (position p xs) (length xs) ≡ position_or_len p xs
-place_found p xs =
-    cond_both (nat_lt (position_or_len p xs) (length xs)) (Some (position_or_len p xs)) None (λ (o : Option ℕ). unwrap_or o (length xs) ≡ position_or_len p xs)
-    (λ is. refl)
-    (λ is. let past : length xs ≤ position_or_len p xs = not_less _ _ is in omega (arith, place_most p xs))
 
 less : (n m : ℕ) → n < m → nat_lt n m ≡ true
 less n m is = grind (arith, nat_tests)

@@ -2,7 +2,7 @@
 use Rattle.std.specs.Prelude.{ℕ, Bool, List, [], ◌∷◌, ◌++◌, take, find, filter_map, option_map, Option, Some, None, not, ◌||◌}
 use Rattle.std.specs.List.{list_any}
 use Rattle.std.specs.Str.{bytes_eq}
-use Rattle.indexmap.specs.IndexSet.{insert_key}
+use Rattle.name_tables.specs.Keys.{insert_key}
 use Rattle.verilog_text.specs.Conditions.{Sort, Declared, Use, used_name, is_wrong, with_earlier, FirstEvent, event_name}
 use Rattle.verilog_text.specs.Conditions as conditions
 use Rattle.verilog_checks.specs.Views.{Told, Declares, Gives}
@@ -62,7 +62,7 @@ event_after earlier (Gives name) = conditions.Gives earlier name
 -- the names that are given first values, after one more event
 abbrev pub noted : List (List ℕ) → Told → List (List ℕ)
 noted earlier (Declares name) = earlier
-noted earlier (Gives name) = insert_key bytes_eq earlier name
+noted earlier (Gives name) = insert_key earlier name
 
 -- each with the names that are given first values before it
 abbrev pub with_given : (earlier : List (List ℕ)) → List Told → List FirstEvent

@@ -6,7 +6,7 @@ ghost use Rattle.verilog_checks.specs.Answers.{IsFirstBrokenName};
 
 use crate::rules::{first_duplicate, first_undeclared, first_unset, first_wrong_use};
 use crate::survey::{events, survey_module};
-use indexmap::IndexSet;
+use name_tables::NameSet;
 use std::alloc::Global;
 use verilog_places::PlacedModule;
 use verilog_text::VerilogFault;
@@ -22,7 +22,7 @@ pub fn check_names(alloc: Global, module: &PlacedModule) -> Result<(), VerilogFa
     ensures broken { IfErr result (IsFirstBrokenName (bare_module (placed_module «module».now))) }
 {
     let survey = survey_module(alloc, module)?;
-    let mut names = IndexSet::new(alloc);
+    let mut names = NameSet::new(alloc);
     if let Some(name) = first_duplicate(&mut names, &survey.declared)? {
         return Err(VerilogFault::DuplicateName { name });
     }

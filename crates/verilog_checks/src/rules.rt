@@ -1,38 +1,37 @@
 // The first names that break a rule.
-ghost use Rattle.std.specs.Prelude.{◌≡◌, List, ℕ, [], IfOk, OnOk, None, map, nat_eq};
-ghost use Rattle.std.specs.Cmp.Lexicographic.{pointwise};
-ghost use Rattle.indexmap.specs.IndexSet.{insert_all};
+ghost use Rattle.std.specs.Prelude.{◌≡◌, List, ℕ, [], IfOk, OnOk, None, map};
+ghost use Rattle.name_tables.specs.Keys.{insert_all};
 ghost use Rattle.verilog_text.specs.Conditions.{names_of, event_name};
 ghost use Rattle.verilog_checks.specs.Views.{declared_by, counted_use, told};
 ghost use Rattle.verilog_checks.specs.Readings.{again_in, first_use, is_early as is_early_use, is_against as is_against_use, event_after, noted, is_unset as is_unset_event, unset_in, reg_names, given_names};
 
 use crate::parts::{Declaration, Event, NameUse};
 use crate::tables::{is_against, is_early};
-use indexmap::IndexSet;
 use lisa_words::{Name, NoMemory};
+use name_tables::NameSet;
 use std::alloc::{AllocError, Global};
 
 /// The first name that is declared again; where there is none, all names are put into the set.
 pub fn first_duplicate(
-    names: &mut IndexSet<Name>,
+    names: &mut NameSet,
     declared: &[Declaration],
 ) -> Result<Option<Name>, NoMemory>
-    requires { names.old.keys ≡ [] }
+    requires { names.old.keys.items ≡ [] }
     ensures name { IfOk result (λ o. o ≡ again_in [] (names_of (map declared_by declared.now))) }
-    ensures all { IfOk result (λ o. o ≡ None → names.new.keys ≡ names_of (map declared_by declared.now)) }
+    ensures all { IfOk result (λ o. o ≡ None → names.new.keys.items ≡ names_of (map declared_by declared.now)) }
 {
     'each: for declaration in declared {
         if names.contains(declaration.name) {
             return Ok(Some(declaration.name.clone()?));
         }
-        names.insert(declaration.name.clone()?)?;
+        names.insert(declaration.name)?;
     }
     Ok(None)
 }
 
 /// The first name that is used before it is declared.
-pub fn first_undeclared(names: &IndexSet<Name>, uses: &[NameUse]) -> Result<Option<Name>, NoMemory>
-    ensures { IfOk result (λ o. o ≡ first_use (is_early_use names.now.keys) (map counted_use uses.now)) }
+pub fn first_undeclared(names: &NameSet, uses: &[NameUse]) -> Result<Option<Name>, NoMemory>
+    ensures { IfOk result (λ o. o ≡ first_use (is_early_use names.now.keys.items) (map counted_use uses.now)) }
 {
     'each: for found in uses {
         if is_early(names, found) {
@@ -44,11 +43,11 @@ pub fn first_undeclared(names: &IndexSet<Name>, uses: &[NameUse]) -> Result<Opti
 
 /// The first name that is used against its declaration.
 pub fn first_wrong_use(
-    names: &IndexSet<Name>,
+    names: &NameSet,
     declared: &[Declaration],
     uses: &[NameUse],
 ) -> Result<Option<Name>, NoMemory>
-    requires { names.now.keys ≡ names_of (map declared_by declared.now) }
+    requires { names.now.keys.items ≡ names_of (map declared_by declared.now) }
     ensures { IfOk result (λ o. o ≡ first_use (is_against_use (map declared_by declared.now)) (map counted_use uses.now)) }
 {
     'each: for found in uses {
@@ -60,14 +59,14 @@ pub fn first_wrong_use(
 }
 
 // The regs of one word.
-fn regs_of(alloc: Global, events: &[Event]) -> Result<IndexSet<Name>, AllocError>
-    ensures { IfOk result (λ names. names.keys ≡ insert_all (pointwise nat_eq) [] (reg_names (map told events.now))) }
+fn regs_of(alloc: Global, events: &[Event]) -> Result<NameSet, AllocError>
+    ensures { IfOk result (λ names. names.keys.items ≡ insert_all [] (reg_names (map told events.now))) }
 {
-    let mut names = IndexSet::new(alloc);
+    let mut names = NameSet::new(alloc);
     'each: for event in events {
         match *event {
             Event::Declares(name) => {
-                names.insert(name.clone()?)?;
+                names.insert(name)?;
             }
             Event::Gives(_) => {}
         }
@@ -76,15 +75,15 @@ fn regs_of(alloc: Global, events: &[Event]) -> Result<IndexSet<Name>, AllocError
 }
 
 // The names that are given first values.
-fn given_of(alloc: Global, events: &[Event]) -> Result<IndexSet<Name>, AllocError>
-    ensures { IfOk result (λ names. names.keys ≡ insert_all (pointwise nat_eq) [] (given_names (map told events.now))) }
+fn given_of(alloc: Global, events: &[Event]) -> Result<NameSet, AllocError>
+    ensures { IfOk result (λ names. names.keys.items ≡ insert_all [] (given_names (map told events.now))) }
 {
-    let mut names = IndexSet::new(alloc);
+    let mut names = NameSet::new(alloc);
     'each: for event in events {
         match *event {
             Event::Declares(_) => {}
             Event::Gives(name) => {
-                names.insert(name.clone()?)?;
+                names.insert(name)?;
             }
         }
     }
@@ -92,13 +91,8 @@ fn given_of(alloc: Global, events: &[Event]) -> Result<IndexSet<Name>, AllocErro
 }
 
 // A `reg` that is given no first value, and a first value of what is no such `reg`, or of one that was given one earlier.
-fn is_unset(
-    regs: &IndexSet<Name>,
-    given: &IndexSet<Name>,
-    earlier: &IndexSet<Name>,
-    event: &Event,
-) -> bool
-    ensures { result ≡ is_unset_event regs.now.keys given.now.keys (event_after earlier.now.keys (told event.now)) }
+fn is_unset(regs: &NameSet, given: &NameSet, earlier: &NameSet, event: &Event) -> bool
+    ensures { result ≡ is_unset_event regs.now.keys.items given.now.keys.items (event_after earlier.now.keys.items (told event.now)) }
 {
     match *event {
         Event::Declares(name) => !given.contains(name),
@@ -116,25 +110,25 @@ fn name_of<'a>(event: &Event<'a>) -> &'a Name
 }
 
 // Keeps the name that is given a first value.
-fn note(earlier: &mut IndexSet<Name>, event: &Event) -> Result<(), AllocError>
-    ensures { OnOk result (earlier.new.keys ≡ noted earlier.old.keys (told event.now)) }
+fn note(earlier: &mut NameSet, event: &Event) -> Result<(), AllocError>
+    ensures { OnOk result (earlier.new.keys.items ≡ noted earlier.old.keys.items (told event.now)) }
 {
     match *event {
         Event::Declares(_) => {}
         Event::Gives(name) => {
-            earlier.insert(name.clone()?)?;
+            earlier.insert(name)?;
         }
     }
     Ok(())
 }
 
 fn first_unset_among(
-    regs: &IndexSet<Name>,
-    given: &IndexSet<Name>,
-    earlier: &mut IndexSet<Name>,
+    regs: &NameSet,
+    given: &NameSet,
+    earlier: &mut NameSet,
     events: &[Event],
 ) -> Result<Option<Name>, NoMemory>
-    ensures { IfOk result (λ o. o ≡ unset_in regs.now.keys given.now.keys earlier.old.keys (map told events.now)) }
+    ensures { IfOk result (λ o. o ≡ unset_in regs.now.keys.items given.now.keys.items earlier.old.keys.items (map told events.now)) }
 {
     'each: for event in events {
         if is_unset(regs, given, earlier, event) {
@@ -151,6 +145,6 @@ pub fn first_unset(alloc: Global, events: &[Event]) -> Result<Option<Name>, NoMe
 {
     let regs = regs_of(alloc, events)?;
     let given = given_of(alloc, events)?;
-    let mut earlier = IndexSet::new(alloc);
+    let mut earlier = NameSet::new(alloc);
     first_unset_among(&regs, &given, &mut earlier, events)
 }

@@ -1,42 +1,33 @@
 // Names and what they are declared as.
-ghost use Rattle.std.specs.Prelude.{◌≡◌, List, ℕ, Some, map, nat_eq, option_map, take};
-ghost use Rattle.std.specs.List.{position_or_len};
-ghost use Rattle.std.specs.Cmp.Lexicographic.{pointwise};
+ghost use Rattle.std.specs.Prelude.{◌≡◌, List, ℕ, Some, map, option_map, take};
 ghost use Rattle.verilog_text.specs.Conditions.{Clock, Input, Register, Store, Net, names_of, is_select, is_wrong as is_wrong_use};
 ghost use Rattle.verilog_checks.specs.Views.{sort_by, declared_by, used_by, counted_use};
 ghost use Rattle.verilog_checks.specs.Readings.{has, is_early as is_early_use, sort_in, is_against as is_against_use};
 
 use crate::parts::{Declaration, Kind, NameUse, Way};
-use indexmap::IndexSet;
 use lisa_words::Name;
-
-// The place of a name, or the number of names.
-fn place(names: &IndexSet<Name>, name: &Name) -> usize
-    ensures { result ≡ position_or_len (pointwise nat_eq name.now) names.now.keys }
-{
-    names.get_index_of(name).unwrap_or(names.len())
-}
+use name_tables::NameSet;
 
 // Whether the name is one of the first ones.
-fn is_declared(names: &IndexSet<Name>, name: &Name, before: usize) -> bool
-    ensures { result ≡ has (take before names.now.keys) name.now }
+fn is_declared(names: &NameSet, name: &Name, before: usize) -> bool
+    ensures { result ≡ has (take before names.now.keys.items) name.now }
 {
-    place(names, name) < before.min(names.len())
+    names.place(name) < before.min(names.len())
 }
 
 /// Whether no declaration before a use has its name.
-pub fn is_early(names: &IndexSet<Name>, found: &NameUse) -> bool
-    ensures { result ≡ is_early_use names.now.keys (counted_use found.now) }
+pub fn is_early(names: &NameSet, found: &NameUse) -> bool
+    ensures { result ≡ is_early_use names.now.keys.items (counted_use found.now) }
 {
     !is_declared(names, found.name, found.before)
 }
 
 // What a name is declared as.
-fn kind_of(names: &IndexSet<Name>, declared: &[Declaration], name: &Name) -> Option<Kind>
-    requires { names.now.keys ≡ names_of (map declared_by declared.now) }
+fn kind_of(names: &NameSet, declared: &[Declaration], name: &Name) -> Option<Kind>
+    requires { names.now.keys.items ≡ names_of (map declared_by declared.now) }
     ensures { option_map sort_by result ≡ sort_in (map declared_by declared.now) name.now }
 {
-    match declared.get(place(names, name)) {
+    match declared.get(names.place(name)) {
         Some(declaration) => Some(declaration.kind),
         None => None,
     }
@@ -116,8 +107,8 @@ fn is_wrong(kind: Kind, way: Way) -> bool
 }
 
 /// Whether a name is used against its declaration.
-pub fn is_against(names: &IndexSet<Name>, declared: &[Declaration], found: &NameUse) -> bool
-    requires { names.now.keys ≡ names_of (map declared_by declared.now) }
+pub fn is_against(names: &NameSet, declared: &[Declaration], found: &NameUse) -> bool
+    requires { names.now.keys.items ≡ names_of (map declared_by declared.now) }
     ensures { result ≡ is_against_use (map declared_by declared.now) (counted_use found.now) }
 {
     match kind_of(names, declared, found.name) {

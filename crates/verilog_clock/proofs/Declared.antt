@@ -1,10 +1,9 @@
 -- All names of a module, declared one after another.
 use Rattle.std.proofs.Common.{◌≡◌, ◌≢◌, ℕ, zero, suc, ◌<◌, ◌≤◌, List, [], ◌∷◌, ◌++◌, length, map, refl, sym, ap, ◌∙◌, arith, append_assoc}
-use Rattle.std.specs.Prelude.{nat_eq, AllPairs, All, slice_index}
-use Rattle.std.specs.Cmp.Lexicographic.{pointwise}
+use Rattle.std.specs.Prelude.{AllPairs, All, slice_index}
 use Rattle.std.proofs.lemmas.List.{get_or-map, length-map, map-append}
 use Rattle.std.proofs.lemmas.List.Sums.{fold-append}
-use Rattle.indexmap.specs.IndexSet.{insert_all, insert_key}
+use Rattle.name_tables.specs.Keys.{insert_all, insert_key}
 use Rattle.lisa_engine.specs.declared.parts.Item.{Item}
 use Rattle.lisa_engine.specs.declared.parts.ArrayItem.{ArrayItem}
 use Rattle.verilog_text.specs.Clocked.{Net}
@@ -38,21 +37,21 @@ in_three f a b c =
     map-append f a (b ++ map (λ (net : Net). net.item) c)
     ∙ ap (λ zs. map f a ++ zs) (map-append f b (map (λ (net : Net). net.item) c) ∙ ap (λ zs. map f b ++ zs) (map_twice f (λ (net : Net). net.item) c))
 
-module _ (a b : List Item) (c : List Net) (w0 w1 w2 w3 : Names) (none : w0.set.keys ≡ []) (empty : w0.widths.items ≡ [])
+module _ (a b : List Item) (c : List Net) (w0 w1 w2 w3 : Names) (none : w0.set.keys.items ≡ []) (empty : w0.widths.items ≡ [])
     (first : Declares w0 w1 (map (λ (item : Item). item.name) a) (map (λ (item : Item). item.width) a))
     (second : Declares w1 w2 (map (λ (item : Item). item.name) b) (map (λ (item : Item). item.width) b))
     (third : Declares w2 w3 (map (λ (net : Net). net.item.name) c) (map (λ (net : Net). net.item.width) c)) where
   pub words_keys : AllPairs (λ (x y : Item). x.name ≢ y.name) (a ++ (b ++ map (λ (net : Net). net.item) c))
-      → w3.set.keys ≡ map (λ (item : Item). item.name) (a ++ (b ++ map (λ (net : Net). net.item) c))
+      → w3.set.keys.items ≡ map (λ (item : Item). item.name) (a ++ (b ++ map (λ (net : Net). net.item) c))
   words_keys distinct =
       let xs = map (λ (item : Item). item.name) a in
       let ys = map (λ (item : Item). item.name) b in
       let zs = map (λ (net : Net). net.item.name) c in
-      let go = insert_all (pointwise nat_eq) in
+      let go = insert_all in
       let all : List (List ℕ) = map (λ (item : Item). item.name) (a ++ (b ++ map (λ (net : Net). net.item) c)) in
       third.keys ∙ ap (λ (ks : List (List ℕ)). go ks zs) (second.keys ∙ ap (λ (ks : List (List ℕ)). go ks ys) (first.keys ∙ ap (λ (ks : List (List ℕ)). go ks xs) none))
-      ∙ ap (λ (ks : List (List ℕ)). go ks zs) (sym (fold-append (insert_key (pointwise nat_eq)) [] xs ys))
-      ∙ sym (fold-append (insert_key (pointwise nat_eq)) [] (xs ++ ys) zs)
+      ∙ ap (λ (ks : List (List ℕ)). go ks zs) (sym (fold-append insert_key [] xs ys))
+      ∙ sym (fold-append insert_key [] (xs ++ ys) zs)
       ∙ ap (go []) (append_assoc xs ys zs ∙ sym (in_three (λ (item : Item). item.name) a b c))
       ∙ insert_all_new [] all (distinct_by (λ (item : Item). item.name) any_item (a ++ (b ++ map (λ (net : Net). net.item) c)) distinct)
 
@@ -64,8 +63,8 @@ module _ (a b : List Item) (c : List Net) (w0 w1 w2 w3 : Names) (none : w0.set.k
       third.wide ∙ ap (λ (ks : List ℕ). ks ++ zs) (second.wide ∙ ap (λ (ks : List ℕ). ks ++ ys) (first.wide ∙ ap (λ (ks : List ℕ). ks ++ xs) empty))
       ∙ append_assoc xs ys zs ∙ sym (in_three (λ (item : Item). item.width) a b c)
 
-pub memory_keys : (all : List ArrayItem) (w0 w1 : Names) → w0.set.keys ≡ [] → Declares w0 w1 (map (λ (array : ArrayItem). array.name) all) (map (λ (array : ArrayItem). array.width) all)
-    → AllPairs (λ (x y : ArrayItem). x.name ≢ y.name) all → w1.set.keys ≡ map (λ (array : ArrayItem). array.name) all
+pub memory_keys : (all : List ArrayItem) (w0 w1 : Names) → w0.set.keys.items ≡ [] → Declares w0 w1 (map (λ (array : ArrayItem). array.name) all) (map (λ (array : ArrayItem). array.width) all)
+    → AllPairs (λ (x y : ArrayItem). x.name ≢ y.name) all → w1.set.keys.items ≡ map (λ (array : ArrayItem). array.name) all
 memory_keys all w0 w1 none declares distinct =
-    declares.keys ∙ ap (λ (ks : List (List ℕ)). insert_all (pointwise nat_eq) ks (map (λ (array : ArrayItem). array.name) all)) none
+    declares.keys ∙ ap (λ (ks : List (List ℕ)). insert_all ks (map (λ (array : ArrayItem). array.name) all)) none
     ∙ insert_all_new [] _ (distinct_by (λ (array : ArrayItem). array.name) any_array all distinct)

@@ -1,18 +1,17 @@
 -- The places of names.
 use Rattle.std.proofs.Common.{◌≡◌, ◌≢◌, ℕ, suc, ◌+◌, ◌<◌, ◌≤◌, Bool, true, false, cond, not, List, [], ◌∷◌, ◌++◌, length, map, get_or, refl, sym, ap, ap₂, ◌∙◌, subst, arith, ⊎_elim}
-use Rattle.std.specs.Prelude.{position, nat_eq, nat_lt, unwrap_or, min, Option, Some, None, AllPairs}
+use Rattle.std.specs.Prelude.{nat_eq, min, AllPairs}
 use Rattle.std.specs.List.{list_any, position_or_len}
 use Rattle.std.specs.Str.{bytes_eq}
 use Rattle.std.specs.Cmp.Lexicographic.{pointwise}
-use Rattle.std.proofs.lemmas.Bool.{cases_Bool, cond_both}
-use Rattle.std.proofs.lemmas.Bool.Decides.{nat_tests}
+use Rattle.std.proofs.lemmas.Bool.{cases_Bool}
 use Rattle.std.proofs.lemmas.Slice.Eq.{bytes_eq-Decides}
 use Rattle.std.proofs.lemmas.List.{get_or_append_left}
 use Rattle.std.proofs.lemmas.List.Folds.{list_any_none}
 use Rattle.std.proofs.Common.{append_assoc, length-append}
 use Rattle.std.proofs.lemmas.List.{append-nil}
 use Rattle.std.proofs.Math.Seq.{get_or-append_seam}
-use Rattle.indexmap.specs.IndexSet.{insert_key, insert_all}
+use Rattle.name_tables.specs.Keys.{insert_key, insert_all}
 use Rattle.lisa_engine.specs.declared.parts.Item.{Item}
 use Rattle.lisa_engine.specs.declared.parts.ArrayItem.{ArrayItem}
 use Rattle.verilog_text.specs.Clocked.{item_place, array_place}
@@ -31,23 +30,6 @@ bytes_eq-turned a b = go (bytes_eq a b) (bytes_eq b a) refl refl
     go false false is other = refl
     go true false is other = sym (bytes_eq_from b a (sym (same_bytes a b is))) ∙ other ∙ refl
     go false true is other = sym is ∙ bytes_eq_from a b (sym (same_bytes b a other))
-
-place_most : {X : Type 0} (p : X → Bool) (xs : List X) → position_or_len p xs ≤ length xs
-place_most p [] = omega arith
-place_most p (x ∷ xs) = go (p x) (place_most p xs)
-  where
-    go : (b : Bool) → position_or_len p xs ≤ length xs → cond (not b) (1 + position_or_len p xs) 0 ≤ length (x ∷ xs)
-    go true le = omega arith
-    go false le = omega (arith, le)
-
-not_less : (n m : ℕ) → nat_lt n m ≡ false → m ≤ n
-not_less n m is = grind (arith, nat_tests)
-
-pub place_found : {X : Type 0} (p : X → Bool) (xs : List X) → unwrap_or (position p xs) (length xs) ≡ position_or_len p xs
-place_found p xs =
-    cond_both (nat_lt (position_or_len p xs) (length xs)) (Some (position_or_len p xs)) None (λ (o : Option ℕ). unwrap_or o (length xs) ≡ position_or_len p xs)
-    (λ is. refl)
-    (λ is. let past : length xs ≤ position_or_len p xs = not_less _ _ is in omega (arith, place_most p xs))
 
 pub items_place : (items : List Item) (name : List ℕ) → position_or_len (pointwise nat_eq name) (map (λ (item : Item). item.name) items) ≡ item_place items name
 items_place [] name = refl
@@ -75,11 +57,11 @@ none_equal keys name rest distinct = list_any_none (pointwise nat_eq name) keys 
     (get_or_append_left keys (name ∷ rest) d k within ∙ sym (same_bytes name (get_or keys k d) t) ∙ sym (get_or-append_seam keys name rest d))))
     (λ f. f) (cases_Bool (bytes_eq name (get_or keys k d))))
 
-pub insert_all_new : (keys names : List (List ℕ)) → AllPairs (λ (a b : List ℕ). a ≢ b) (keys ++ names) → insert_all (pointwise nat_eq) keys names ≡ keys ++ names
+pub insert_all_new : (keys names : List (List ℕ)) → AllPairs (λ (a b : List ℕ). a ≢ b) (keys ++ names) → insert_all keys names ≡ keys ++ names
 insert_all_new keys [] distinct = sym (append-nil keys)
 insert_all_new keys (name ∷ rest) distinct =
-    let new : insert_key (pointwise nat_eq) keys name ≡ keys ++ (name ∷ []) = ap (λ (b : Bool). cond b keys (keys ++ (name ∷ []))) (none_equal keys name rest distinct) in
+    let new : insert_key keys name ≡ keys ++ (name ∷ []) = ap (λ (b : Bool). cond b keys (keys ++ (name ∷ []))) (none_equal keys name rest distinct) in
     let along : (keys ++ (name ∷ [])) ++ rest ≡ keys ++ (name ∷ rest) = append_assoc keys (name ∷ []) rest in
-    ap (λ (ks : List (List ℕ)). insert_all (pointwise nat_eq) ks rest) new
+    ap (λ (ks : List (List ℕ)). insert_all ks rest) new
     ∙ insert_all_new (keys ++ (name ∷ [])) rest (subst (λ (ks : List (List ℕ)). AllPairs (λ (a b : List ℕ). a ≢ b) ks) (sym along) distinct)
     ∙ along

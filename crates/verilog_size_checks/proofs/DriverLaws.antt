@@ -8,15 +8,15 @@ use Rattle.std.proofs.lemmas.List.Sums.{fold-append}
 use Rattle.std.proofs.lemmas.List.Folds.{list_any-append}
 use Rattle.std.proofs.lemmas.Map.Views.{list_any-from_Contains, Contains-from_any}
 use Rattle.std.proofs.lemmas.Slice.Eq.{bytes_eq-Decides}
-use Rattle.indexmap.specs.IndexSet.{insert_key, insert_all}
+use Rattle.name_tables.specs.Keys.{insert_key, insert_all}
 use Rattle.verilog_text.specs.Trees.{ActionTrees, ModuleTree}
 use Rattle.verilog_text.specs.Clocked.{blocks}
 use Rattle.verilog_text.specs.Conditions.{targets, driven, IsFirst, IsDrivenTwice}
 use Rattle.verilog_size_checks.specs.Sought.{first_of, again, driven_again}
 use Rattle.verilog_size_checks.proofs.FirstLaws.{first_append, first_map, first_same, none_is_first, found_is_first}
 
-pub insert_append : (keys xs ys : List (List ℕ)) → insert_all (pointwise nat_eq) keys (xs ++ ys) ≡ insert_all (pointwise nat_eq) (insert_all (pointwise nat_eq) keys xs) ys
-insert_append keys xs ys = fold-append (insert_key (pointwise nat_eq)) keys xs ys
+pub insert_append : (keys xs ys : List (List ℕ)) → insert_all keys (xs ++ ys) ≡ insert_all (insert_all keys xs) ys
+insert_append keys xs ys = fold-append insert_key keys xs ys
 
 -- ---- a set has the names that were put into it
 
@@ -35,7 +35,7 @@ or_shift true b c = refl
 or_shift false true c = refl
 or_shift false false c = refl
 
-among_inserted : (keys : List (List ℕ)) (x n : List ℕ) → among (insert_key (pointwise nat_eq) keys x) n ≡ (among keys n || (pointwise nat_eq n x || false))
+among_inserted : (keys : List (List ℕ)) (x n : List ℕ) → among (insert_key keys x) n ≡ (among keys n || (pointwise nat_eq n x || false))
 among_inserted keys x n = go (among keys x) refl
   where
     there : (b : Bool) → pointwise nat_eq n x ≡ b → among keys x ≡ true → among keys n ≡ (among keys n || (b || false))
@@ -48,10 +48,10 @@ among_inserted keys x n = go (among keys x) refl
     go true has = there (pointwise nat_eq n x) refl has
     go false never = list_any-append (pointwise nat_eq n) keys (x ∷ [])
 
-among_all : (keys xs : List (List ℕ)) (n : List ℕ) → among (insert_all (pointwise nat_eq) keys xs) n ≡ (among keys n || among xs n)
+among_all : (keys xs : List (List ℕ)) (n : List ℕ) → among (insert_all keys xs) n ≡ (among keys n || among xs n)
 among_all keys [] n = or_false (among keys n)
 among_all keys (x ∷ xs) n =
-    among_all (insert_key (pointwise nat_eq) keys x) xs n
+    among_all (insert_key keys x) xs n
     ∙ ap (λ (b : Bool). b || among xs n) (among_inserted keys x n)
     ∙ or_shift (among keys n) (pointwise nat_eq n x) (among xs n)
 
@@ -70,7 +70,7 @@ driven_first earlier names same (block ∷ rest) =
     first_append twice (map (λ (name : List ℕ). (earlier, name)) (targets block)) (driven (earlier ++ targets block) rest)
     ∙ ap₂ option_or
     (first_map twice (λ (name : List ℕ). (earlier, name)) (targets block) ∙ first_same (again earlier) (again names) (again_same earlier names same) (targets block))
-    (driven_first (earlier ++ targets block) (insert_all (pointwise nat_eq) names (targets block))
+    (driven_first (earlier ++ targets block) (insert_all names (targets block))
     (λ n. list_any-append (pointwise nat_eq n) earlier (targets block) ∙ ap (λ (b : Bool). b || among (targets block) n) (same n) ∙ sym (among_all names (targets block) n)) rest)
 
 abbrev IsAgain : List (List ℕ) × List ℕ → Type 0

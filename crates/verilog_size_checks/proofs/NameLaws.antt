@@ -1,12 +1,14 @@
 -- The numbers that names have.
 use Rattle.std.proofs.Common.{◌≡◌, ℕ, suc, ◌+◌, List, [], ◌∷◌, ◌++◌, map, Bool, true, false, cond, not, Option, Some, None, refl, sym, ap, ap₂, ◌∙◌, arith}
-use Rattle.std.specs.Prelude.{nat_eq, flat_map, find, option_map, slice_index, if◌then◌else◌}
+use Rattle.std.specs.Prelude.{flat_map, find, option_map, slice_index, if◌then◌else◌}
 use Rattle.std.specs.List.{position_or_len}
 use Rattle.std.specs.Option.{option_or, unwrap_or}
 use Rattle.std.specs.Str.{bytes_eq}
-use Rattle.std.specs.Cmp.Lexicographic.{pointwise}
+use Rattle.std.specs.Cmp.Lexicographic.{slice_cmp}
+use Rattle.std.specs.Ordering.{nat_cmp}
 use Rattle.std.specs.Map.{lookup}
-use Rattle.indexmap.specs.IndexMap.{IndexMap, get}
+use Rattle.std.specs.BTreeMap.{BTreeMap, is_at}
+use Rattle.name_tables.specs.TableViews.{value_of}
 use Rattle.lisa_engine.specs.declared.parts.Item.{Item}
 use Rattle.lisa_engine.specs.declared.parts.ArrayItem.{ArrayItem}
 use Rattle.verilog_text.specs.Clocked.{regs, arrays, nets, scalars, widths_of}
@@ -142,33 +144,33 @@ needs_is p n =
 
 -- ---- tables
 
-empty_at : {S : Type 0} (table : IndexMap (List ℕ) ℕ S) (n : List ℕ) → table.entries ≡ [] → get (pointwise nat_eq) table n ≡ None
-empty_at table n none = ap (λ (es : List (List ℕ × ℕ)). lookup (pointwise nat_eq n) es) none
+empty_at : (table : BTreeMap (List ℕ) ℕ) (n : List ℕ) → table.entries ≡ [] → value_of table n ≡ None
+empty_at table n none = ap (λ (es : List (List ℕ × ℕ)). lookup (is_at (slice_cmp nat_cmp n)) es) none
 
-module _ {S : Type 0} (m : PlacedModule) (t0 t1 t2 t3 : IndexMap (List ℕ) ℕ S) (empty : t0.entries ≡ []) where
+module _ (m : PlacedModule) (t0 t1 t2 t3 : BTreeMap (List ℕ) ℕ) (empty : t0.entries ≡ []) where
   pub words_table : (xs zs : List PlacedMember) (ys : List PlacedInput) → xs ≡ m.members.items → ys ≡ m.inputs.items → zs ≡ m.members.items
       → Adds t0 t1 (λ n. first_of (member_value kinds.Regs n) (map placed_member xs)) → Adds t1 t2 (λ n. first_of (input_value kinds.Regs n) ys)
-      → Adds t2 t3 (λ n. first_of (member_value kinds.Nets n) (map placed_member zs)) → (n : List ℕ) → unwrap_or (get (pointwise nat_eq) t3 n) 0 ≡ (widths_of (bare_module (placed_module m))).wide n
+      → Adds t2 t3 (λ n. first_of (member_value kinds.Nets n) (map placed_member zs)) → (n : List ℕ) → unwrap_or (value_of t3 n) 0 ≡ (widths_of (bare_module (placed_module m))).wide n
   words_table xs zs ys one two three first second third n =
-      let a : get (pointwise nat_eq) t1 n ≡ first_of (member_value kinds.Regs n) (map placed_member m.members.items) =
+      let a : value_of t1 n ≡ first_of (member_value kinds.Regs n) (map placed_member m.members.items) =
       first n ∙ ap₂ (λ (o : Option ℕ) (all : List PlacedMember). option_or o (first_of (member_value kinds.Regs n) (map placed_member all))) (empty_at t0 n empty) one in
-      let b : get (pointwise nat_eq) t2 n ≡ option_or (first_of (member_value kinds.Regs n) (map placed_member m.members.items)) (first_of (input_value kinds.Regs n) m.inputs.items) =
+      let b : value_of t2 n ≡ option_or (first_of (member_value kinds.Regs n) (map placed_member m.members.items)) (first_of (input_value kinds.Regs n) m.inputs.items) =
       second n ∙ ap₂ (λ (o : Option ℕ) (all : List PlacedInput). option_or o (first_of (input_value kinds.Regs n) all)) a two in
       ap (λ (o : Option ℕ). unwrap_or o 0) (third n ∙ ap₂ (λ (o : Option ℕ) (all : List PlacedMember). option_or o (first_of (member_value kinds.Nets n) (map placed_member all))) b three)
       ∙ sym (wide_is (placed_module m) n)
 
   pub cells_table : (xs : List PlacedMember) → xs ≡ m.members.items → Adds t0 t1 (λ n. first_of (member_value kinds.Cells n) (map placed_member xs))
-      → (n : List ℕ) → unwrap_or (get (pointwise nat_eq) t1 n) 0 ≡ (widths_of (bare_module (placed_module m))).cell n
+      → (n : List ℕ) → unwrap_or (value_of t1 n) 0 ≡ (widths_of (bare_module (placed_module m))).cell n
   cells_table xs one first n =
       ap (λ (o : Option ℕ). unwrap_or o 0) (first n ∙ ap₂ (λ (o : Option ℕ) (all : List PlacedMember). option_or o (first_of (member_value kinds.Cells n) (map placed_member all))) (empty_at t0 n empty) one)
       ∙ sym (cell_is (placed_module m) n)
 
   pub depths_table : (xs : List PlacedMember) (ys : List PlacedInput) → ys ≡ m.inputs.items → xs ≡ m.members.items
       → Adds t0 t1 (named_value m.clock 0) → Adds t1 t2 (λ n. first_of (input_value kinds.Depths n) ys) → Adds t2 t3 (λ n. first_of (member_value kinds.Depths n) (map placed_member xs))
-      → (n : List ℕ) → exponent (unwrap_or (get (pointwise nat_eq) t3 n) 0) ≡ needs (bare_module (placed_module m)) n
+      → (n : List ℕ) → exponent (unwrap_or (value_of t3 n) 0) ≡ needs (bare_module (placed_module m)) n
   depths_table xs ys one two first second third n =
-      let a : get (pointwise nat_eq) t1 n ≡ named_value m.clock 0 n = first n ∙ ap (λ (o : Option ℕ). option_or o (named_value m.clock 0 n)) (empty_at t0 n empty) in
-      let b : get (pointwise nat_eq) t2 n ≡ option_or (named_value m.clock 0 n) (first_of (input_value kinds.Depths n) m.inputs.items) =
+      let a : value_of t1 n ≡ named_value m.clock 0 n = first n ∙ ap (λ (o : Option ℕ). option_or o (named_value m.clock 0 n)) (empty_at t0 n empty) in
+      let b : value_of t2 n ≡ option_or (named_value m.clock 0 n) (first_of (input_value kinds.Depths n) m.inputs.items) =
       second n ∙ ap₂ (λ (o : Option ℕ) (all : List PlacedInput). option_or o (first_of (input_value kinds.Depths n) all)) a one in
       ap (λ (o : Option ℕ). exponent (unwrap_or o 0)) (third n ∙ ap₂ (λ (o : Option ℕ) (all : List PlacedMember). option_or o (first_of (member_value kinds.Depths n) (map placed_member all))) b two)
       ∙ sym (needs_is (placed_module m) n)

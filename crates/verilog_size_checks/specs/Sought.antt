@@ -4,8 +4,9 @@ use Rattle.std.specs.Option.{option_or}
 use Rattle.std.specs.List.{list_any}
 use Rattle.std.specs.Str.{bytes_eq}
 use Rattle.std.specs.Cmp.Lexicographic.{pointwise}
-use Rattle.indexmap.specs.IndexMap.{IndexMap, get}
-use Rattle.indexmap.specs.IndexSet.{insert_all}
+use Rattle.std.specs.BTreeMap.{BTreeMap}
+use Rattle.name_tables.specs.TableViews.{value_of}
+use Rattle.name_tables.specs.Keys.{insert_all}
 use Rattle.verilog_text.specs.declared.faults.VerilogFault.{VerilogFault}
 use Rattle.verilog_text.specs.declared.faults.VerilogFault.TheVariants as faults
 use Rattle.verilog_text.specs.Trees.{VTree, ActionTrees, ModuleTree}
@@ -43,8 +44,8 @@ input_value kinds.Depths n input = named_value input.item.name 0 n
 input_value kind n input = named_value input.item.name input.item.width n
 
 -- names that have no number yet get those of the function
-abbrev pub Adds : {S : Type 0} → (old new : IndexMap (List ℕ) ℕ S) → (List ℕ → Option ℕ) → Type 0
-Adds old new numbers = (n : List ℕ) → get (pointwise nat_eq) new n ≡ option_or (get (pointwise nat_eq) old n) (numbers n)
+abbrev pub Adds : (old new : BTreeMap (List ℕ) ℕ) → (List ℕ → Option ℕ) → Type 0
+Adds old new numbers = (n : List ℕ) → value_of new n ≡ option_or (value_of old n) (numbers n)
 
 -- ---- lengths and indexes
 
@@ -98,7 +99,7 @@ again names name = if list_any (pointwise nat_eq name) names then Some name else
 -- the first name that a block assigns and an earlier one has assigned, or these names have
 abbrev pub driven_again : List (List ℕ) → List ActionTrees → Option (List ℕ)
 driven_again names [] = None
-driven_again names (block ∷ rest) = option_or (first_of (again names) (targets block)) (driven_again (insert_all (pointwise nat_eq) names (targets block)) rest)
+driven_again names (block ∷ rest) = option_or (first_of (again names) (targets block)) (driven_again (insert_all names (targets block)) rest)
 
 abbrev pub TellsDriver : Option (List ℕ) → VerilogFault → Type 0
 TellsDriver found (faults.TwoDrivers name) = found ≡ Some name

@@ -1,22 +1,21 @@
 // Assignments to one `reg` in two blocks.
-ghost use Rattle.std.specs.Prelude.{◌≡◌, IfOk, IfErr, OnOk, None, [], map, nat_eq};
-ghost use Rattle.std.specs.Cmp.Lexicographic.{pointwise};
-ghost use Rattle.indexmap.specs.IndexSet.{insert_key, insert_all};
+ghost use Rattle.std.specs.Prelude.{◌≡◌, IfOk, IfErr, OnOk, None, [], map};
+ghost use Rattle.name_tables.specs.Keys.{insert_key, insert_all};
 ghost use Rattle.verilog_text.specs.Clocked.{blocks};
 ghost use Rattle.verilog_text.specs.Conditions.{targets};
 ghost use Rattle.verilog_places.specs.Trees.{action_then, Done, placed_actions, bare_actions, placed_member, bare_members};
 ghost use Rattle.verilog_size_checks.specs.Sought.{first_of, again, driven_again, TellsDriver};
 
-use indexmap::IndexSet;
 use lisa_words::Name;
+use name_tables::NameSet;
 use std::alloc::{AllocError, Global};
 use verilog_places::{PlacedAction, PlacedMember};
 use verilog_text::VerilogFault;
 
 // Checks that earlier blocks don't assign a name.
-fn check_name(earlier: &IndexSet<Name>, name: &Name) -> Result<(), VerilogFault>
-    ensures right { IfOk result (λ _. again earlier.now.keys name.now ≡ None) }
-    ensures wrong { IfErr result (TellsDriver (again earlier.now.keys name.now)) }
+fn check_name(earlier: &NameSet, name: &Name) -> Result<(), VerilogFault>
+    ensures right { IfOk result (λ _. again earlier.now.keys.items name.now ≡ None) }
+    ensures wrong { IfErr result (TellsDriver (again earlier.now.keys.items name.now)) }
 {
     if earlier.contains(name) {
         return Err(VerilogFault::TwoDrivers {
@@ -29,9 +28,9 @@ fn check_name(earlier: &IndexSet<Name>, name: &Name) -> Result<(), VerilogFault>
 // Checks what an action assigns.
 #[cycle(checks)]
 #[tactic(auto, using(crate::proofs::FirstLaws::first_append))]
-fn check_action(earlier: &IndexSet<Name>, action: &PlacedAction) -> Result<(), VerilogFault>
-    ensures right { IfOk result (λ _. first_of (again earlier.now.keys) (targets (bare_actions (action_then action.now Done))) ≡ None) }
-    ensures wrong { IfErr result (TellsDriver (first_of (again earlier.now.keys) (targets (bare_actions (action_then action.now Done))))) }
+fn check_action(earlier: &NameSet, action: &PlacedAction) -> Result<(), VerilogFault>
+    ensures right { IfOk result (λ _. first_of (again earlier.now.keys.items) (targets (bare_actions (action_then action.now Done))) ≡ None) }
+    ensures wrong { IfErr result (TellsDriver (first_of (again earlier.now.keys.items) (targets (bare_actions (action_then action.now Done))))) }
 {
     match action {
         PlacedAction::Set(name, None, _) => {
@@ -53,9 +52,9 @@ fn check_action(earlier: &IndexSet<Name>, action: &PlacedAction) -> Result<(), V
 // Checks what actions assign.
 #[cycle(checks)]
 #[tactic(auto, using(crate::proofs::FirstLaws::first_append))]
-fn check_actions(earlier: &IndexSet<Name>, actions: &[PlacedAction]) -> Result<(), VerilogFault>
-    ensures right { IfOk result (λ _. first_of (again earlier.now.keys) (targets (bare_actions (placed_actions actions.now))) ≡ None) }
-    ensures wrong { IfErr result (TellsDriver (first_of (again earlier.now.keys) (targets (bare_actions (placed_actions actions.now))))) }
+fn check_actions(earlier: &NameSet, actions: &[PlacedAction]) -> Result<(), VerilogFault>
+    ensures right { IfOk result (λ _. first_of (again earlier.now.keys.items) (targets (bare_actions (placed_actions actions.now))) ≡ None) }
+    ensures wrong { IfErr result (TellsDriver (first_of (again earlier.now.keys.items) (targets (bare_actions (placed_actions actions.now))))) }
 {
     'each: for action in actions {
         check_action(earlier, action)?;
@@ -64,18 +63,18 @@ fn check_actions(earlier: &IndexSet<Name>, actions: &[PlacedAction]) -> Result<(
 }
 
 // Notes a name.
-fn note_name(names: &mut IndexSet<Name>, name: &Name) -> Result<(), AllocError>
-    ensures { OnOk result (names.new.keys ≡ insert_key (pointwise nat_eq) names.old.keys name.now) }
+fn note_name(names: &mut NameSet, name: &Name) -> Result<(), AllocError>
+    ensures { OnOk result (names.new.keys.items ≡ insert_key names.old.keys.items name.now) }
 {
-    names.insert(name.clone()?)?;
+    names.insert(name)?;
     Ok(())
 }
 
 // Notes what an action assigns.
 #[cycle(notes)]
 #[tactic(auto, using(crate::proofs::DriverLaws::insert_append))]
-fn note_action(names: &mut IndexSet<Name>, action: &PlacedAction) -> Result<(), AllocError>
-    ensures { OnOk result (names.new.keys ≡ insert_all (pointwise nat_eq) names.old.keys (targets (bare_actions (action_then action.now Done)))) }
+fn note_action(names: &mut NameSet, action: &PlacedAction) -> Result<(), AllocError>
+    ensures { OnOk result (names.new.keys.items ≡ insert_all names.old.keys.items (targets (bare_actions (action_then action.now Done)))) }
 {
     match action {
         PlacedAction::Set(name, None, _) => {
@@ -97,8 +96,8 @@ fn note_action(names: &mut IndexSet<Name>, action: &PlacedAction) -> Result<(), 
 // Notes what actions assign.
 #[cycle(notes)]
 #[tactic(auto, using(crate::proofs::DriverLaws::insert_append))]
-fn note_actions(names: &mut IndexSet<Name>, actions: &[PlacedAction]) -> Result<(), AllocError>
-    ensures { OnOk result (names.new.keys ≡ insert_all (pointwise nat_eq) names.old.keys (targets (bare_actions (placed_actions actions.now)))) }
+fn note_actions(names: &mut NameSet, actions: &[PlacedAction]) -> Result<(), AllocError>
+    ensures { OnOk result (names.new.keys.items ≡ insert_all names.old.keys.items (targets (bare_actions (placed_actions actions.now)))) }
 {
     'each: for action in actions {
         note_action(names, action)?;
@@ -107,10 +106,10 @@ fn note_actions(names: &mut IndexSet<Name>, actions: &[PlacedAction]) -> Result<
 }
 
 // Checks a block, and notes what it assigns.
-fn check_block(names: &mut IndexSet<Name>, block: &[PlacedAction]) -> Result<(), VerilogFault>
-    ensures right { IfOk result (λ _. first_of (again names.old.keys) (targets (bare_actions (placed_actions block.now))) ≡ None) }
-    ensures noted { OnOk result (names.new.keys ≡ insert_all (pointwise nat_eq) names.old.keys (targets (bare_actions (placed_actions block.now)))) }
-    ensures wrong { IfErr result (TellsDriver (first_of (again names.old.keys) (targets (bare_actions (placed_actions block.now))))) }
+fn check_block(names: &mut NameSet, block: &[PlacedAction]) -> Result<(), VerilogFault>
+    ensures right { IfOk result (λ _. first_of (again names.old.keys.items) (targets (bare_actions (placed_actions block.now))) ≡ None) }
+    ensures noted { OnOk result (names.new.keys.items ≡ insert_all names.old.keys.items (targets (bare_actions (placed_actions block.now)))) }
+    ensures wrong { IfErr result (TellsDriver (first_of (again names.old.keys.items) (targets (bare_actions (placed_actions block.now))))) }
 {
     check_actions(names, block)?;
     note_actions(names, block)?;
@@ -122,7 +121,7 @@ pub fn check_drivers(alloc: Global, members: &[PlacedMember]) -> Result<(), Veri
     ensures right { IfOk result (λ _. driven_again [] (blocks (bare_members (map placed_member members.now))) ≡ None) }
     ensures wrong { IfErr result (TellsDriver (driven_again [] (blocks (bare_members (map placed_member members.now))))) }
 {
-    let mut names = IndexSet::new(alloc);
+    let mut names = NameSet::new(alloc);
     'each: for member in members {
         match member {
             PlacedMember::Always(_, block) => check_block(&mut names, block)?,

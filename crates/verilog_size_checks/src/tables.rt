@@ -1,14 +1,14 @@
 // Tables of the numbers of names.
-ghost use Rattle.std.specs.Prelude.{ℕ, List, ◌≡◌, OnOk, nat_eq, map};
+ghost use Rattle.std.specs.Prelude.{ℕ, List, ◌≡◌, OnOk, map};
 ghost use Rattle.std.specs.Option.{unwrap_or};
-ghost use Rattle.std.specs.Cmp.Lexicographic.{pointwise};
-ghost use Rattle.indexmap.specs.IndexMap.{get};
+ghost use Rattle.name_tables.specs.TableViews.{value_of};
 ghost use Rattle.verilog_places.specs.Trees.{placed_member};
 ghost use Rattle.verilog_size_checks.specs.Sought.{first_of, named_value, member_value, input_value, Adds};
 
-use indexmap::IndexMap;
 use lisa_words::Name;
+use name_tables::put_value;
 use std::alloc::AllocError;
+use std::collections::BTreeMap;
 use verilog_places::{PlacedInput, PlacedMember};
 
 /// Which numbers a table has.
@@ -25,26 +25,26 @@ pub enum Kind {
 }
 
 /// Notes the number of a name that has none.
-pub fn enter(table: &mut IndexMap<Name, u32>, name: &Name, value: u32) -> Result<(), AllocError>
+pub fn enter(table: &mut BTreeMap<Name, u32>, name: &Name, value: u32) -> Result<(), AllocError>
     ensures { OnOk result (Adds table.old table.new (named_value name.now value)) }
 {
     if table.get(name).is_some() {
         return Ok(());
     }
-    table.insert(name.clone()?, value)?;
+    put_value(table, name, value)?;
     Ok(())
 }
 
 /// The number of a name, or 0.
-pub fn number(table: &IndexMap<Name, u32>, name: &Name) -> u32
-    ensures { result ≡ unwrap_or (get (pointwise nat_eq) table.now name.now) 0 }
+pub fn number(table: &BTreeMap<Name, u32>, name: &Name) -> u32
+    ensures { result ≡ unwrap_or (value_of table.now name.now) 0 }
 {
     table.get(name).copied().unwrap_or(0)
 }
 
 // Notes what a member gives.
 fn enter_member(
-    table: &mut IndexMap<Name, u32>,
+    table: &mut BTreeMap<Name, u32>,
     kind: Kind,
     member: &PlacedMember,
 ) -> Result<(), AllocError>
@@ -73,7 +73,7 @@ fn enter_member(
 
 /// Notes what the members give.
 pub fn enter_members(
-    table: &mut IndexMap<Name, u32>,
+    table: &mut BTreeMap<Name, u32>,
     kind: Kind,
     members: &[PlacedMember],
 ) -> Result<(), AllocError>
@@ -87,7 +87,7 @@ pub fn enter_members(
 
 /// Notes what the inputs give.
 pub fn enter_inputs(
-    table: &mut IndexMap<Name, u32>,
+    table: &mut BTreeMap<Name, u32>,
     kind: Kind,
     inputs: &[PlacedInput],
 ) -> Result<(), AllocError>

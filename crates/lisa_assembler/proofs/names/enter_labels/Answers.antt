@@ -1,7 +1,7 @@
 use Rattle.std.proofs.Common.{◌≡◌, ◌∷◌, ◌+◌, ℕ, List, [], drop, sym, ap, subst, ◌∙◌, arith}
 use Rattle.std.proofs.lemmas.List.{drop_all}
 use Rattle.std.proofs.lemmas.Result.{err_from_is_err_and}
-use Rattle.lisa_object.specs.Seen.{Holds}
+use Rattle.lisa_object.specs.Seen.{HoldsSorted}
 use Rattle.lisa_assembler.specs.Faults.{first_double}
 use Rattle.lisa_assembler.specs.Seen.{seen_behind}
 use Rattle.lisa_assembler.proofs.Doubles.{double_fault, double_behind}
@@ -35,7 +35,7 @@ pub returns-clause-new : goal.returns-clause-new
 returns-clause-new c = λ names h.
     let i = c.loop-label.invariant names h in
     let end : drop c.loop-label.label-index c.args.labels.now ≡ [] = drop_all c.loop-label.label-index c.args.labels.now (omega arith) in
-    let P : List (List ℕ) → Type 0 = λ ns. Holds c.loop-label.seen ns in (
+    let P : List (List ℕ) → Type 0 = λ ns. HoldsSorted c.loop-label.seen ns in (
       sym i.2 ∙ ap (λ (ns : List (List ℕ)). first_double i.0 ns) end,
       subst P (sym (ap (λ (ns : List (List ℕ)). seen_behind i.0 ns) end) ∙ i.3) i.1,
     )

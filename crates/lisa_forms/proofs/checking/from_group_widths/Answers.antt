@@ -1,9 +1,14 @@
-use Rattle.std.proofs.Common.{subst, Option}
+use Rattle.std.proofs.Common.{subst, None, Option}
 use Rattle.lisa_tree.specs.declared.faults.DescFault.{DescFault}
 use Rattle.coding_checks.specs.Uneven.{IsFirstGroupWidth}
 use Rattle.lisa_forms.specs.Verdicts.{from_writings}
-use Rattle.lisa_forms.proofs.Walking.{err_past, ok_past}
+use Rattle.lisa_forms.proofs.Walking.{past, err_past, ok_past}
 use Rattle.lisa_forms.proofs.checking.from_group_widths.Goals as goal
+
+pub from_writings-requires-clause-before : goal.from_writings-requires-clause-before
+from_writings-requires-clause-before g c =
+    let d = g.N.Names.tree c.args.names.now in
+    λ later. past (IsFirstGroupWidth d) (from_writings d) None (subst (λ (found : Option DescFault). IsFirstGroupWidth d found) c.in-None.is c.in_ok-first_group_width.ensures) later
 
 pub returns-in-None-clause-accepted : goal.returns-in-None-clause-accepted
 returns-in-None-clause-accepted g c =

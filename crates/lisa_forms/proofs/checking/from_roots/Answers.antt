@@ -2,11 +2,16 @@ use Rattle.std.proofs.Common.{◌≡◌, None, option_map, sym, ap, ◌∙◌}
 use Rattle.lisa_tree.specs.Descriptions.{DescriptionTree}
 use Rattle.activation_trees.specs.Twice.{first_root_twice}
 use Rattle.lisa_forms.specs.Verdicts.{root_twice, IsRootVerdict, from_sizes}
-use Rattle.lisa_forms.proofs.Walking.{err_past, ok_past}
+use Rattle.lisa_forms.proofs.Walking.{past, err_past, ok_past}
 use Rattle.lisa_forms.proofs.checking.from_roots.Goals as goal
 
 no_root_twice : (d : DescriptionTree) → None ≡ first_root_twice d → IsRootVerdict d None
 no_root_twice d e = ap (option_map (root_twice d)) e
+
+pub from_sizes-requires-clause-before : goal.from_sizes-requires-clause-before
+from_sizes-requires-clause-before g c =
+    let d = g.N.Names.tree c.args.names.now in
+    λ later. c.requires.before (past (IsRootVerdict d) (from_sizes d) None (no_root_twice d (sym c.in-None.is ∙ c.in_ok-first_root_twice.ensures)) later)
 
 pub returns-in-None-clause-accepted : goal.returns-in-None-clause-accepted
 returns-in-None-clause-accepted g c =

@@ -1,7 +1,6 @@
 use Rattle.std.proofs.Common.{◌+◌, List, drop, map, subst, ap, ◌∙◌, arith}
 use Rattle.std.specs.Option.{option_copied, option_or}
-use Rattle.std.specs.Str.{bytes_eq}
-use Rattle.indexmap.specs.IndexMap.{get}
+use Rattle.name_tables.specs.TableViews.{value_of}
 use Rattle.lisa_object.specs.declared.parts.ObjectLine.{ObjectLine}
 use Rattle.lisa_object.specs.Objects.{object_line_tree}
 use Rattle.object_links.specs.LineSizes.{count_of}
@@ -19,5 +18,5 @@ each-preserved c =
     (subst P (one_line c.args.lines.now c.each.line-index c.line-item.result (omega arith) c.line-item.is) c.each.invariant)
     c.defined_value-defined.ensures.short
     c.in_ok-add_line.ensures
-    (λ n. c.in_ok-note_wanted.ensures.noted n ∙ ap (λ (ds : Defined). option_or (get bytes_eq c.each.values n) (wanted_value (option_copied c.args.wanted) n ds)) c.defined_value-defined.ensures.value)
+    (λ n. c.in_ok-note_wanted.ensures.noted n ∙ ap (λ (ds : Defined). option_or (value_of c.each.values n) (wanted_value (option_copied c.args.wanted) n ds)) c.defined_value-defined.ensures.value)
     c.line_enters-here.ensures

@@ -1,7 +1,13 @@
-use Rattle.std.proofs.Common.{◌∙◌, length, ap, arith}
+use Rattle.std.proofs.Common.{◌∙◌, List, length, ap, sym, arith}
+use Rattle.std.specs.Prelude.{slice_get}
+use Rattle.activation_trees.specs.declared.parts.Occurrence.{Occurrence}
 use Rattle.scene_paths.specs.Lookups.{tree_of}
 use Rattle.lowered_words.proofs.Choosing.{one_chosen, all_chosen}
 use Rattle.lowered_words.proofs.occurrences.choices.Goals as goal
+
+pub places-requires : goal.places-requires
+places-requires g c k p x e h =
+    c.forms.result.now.before k p x (ap (λ (l : List Occurrence). slice_get l k) (sym c.occurrences-all.ensures) ∙ e) h
 
 pub loop-number-preserved : goal.loop-number-preserved
 loop-number-preserved g c =

@@ -6,9 +6,7 @@ pub returns-then-not-begin_alike : goal.returns-then-not-begin_alike
 returns-then-not-begin_alike c = λ ts t u. absurd (unlike c.args.first.now c.args.second.now c.pieces.i c.pieces.invariant (omega arith) (omega arith) (sym c.begin_alike.ensures ∙ c.if-not-begin_alike.true) (ts, t, u))
 
 pub pieces-preserved : goal.pieces-preserved
-pieces-preserved c =
-    alike_so_far c.args.first.now c.args.second.now c.pieces.i c.pieces.invariant (omega arith) (omega arith)
-    (sym c.has_sign.ensures ∙ c.if-has_sign.false) (sym c.has_sign-else-has_sign.ensures ∙ c.if-has_sign-2.false)
+pieces-preserved c = alike_so_far c.args.first.now c.args.second.now c.pieces.i c.pieces.invariant (omega arith) (omega arith) (sym c.stay_level.ensures ∙ c.if-not-stay_level.false)
 
 pub returns : goal.returns
 returns c = λ ts t u. eq-eqb _ _ (one_ends c.args.first.now c.args.second.now c.pieces.i c.pieces.invariant (omega arith) (ts, t, u))

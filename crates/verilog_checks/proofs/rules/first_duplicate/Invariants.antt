@@ -5,5 +5,5 @@ use Rattle.verilog_checks.specs.Readings.{again_in}
 use Rattle.verilog_checks.proofs.rules.first_duplicate.Given as goal
 
 abbrev pub invariant-each : goal.invariant-each
-invariant-each l = (again_in l.names.keys (names_of (map declared_by (drop l.declaration-index l.declared))) ≡ again_in [] (names_of (map declared_by l.declared)))
-    × (l.names.keys ++ names_of (map declared_by (drop l.declaration-index l.declared)) ≡ names_of (map declared_by l.declared))
+invariant-each l = (again_in l.names.keys.items (names_of (map declared_by (drop l.declaration-index l.declared))) ≡ again_in [] (names_of (map declared_by l.declared)))
+    × (l.names.keys.items ++ names_of (map declared_by (drop l.declaration-index l.declared)) ≡ names_of (map declared_by l.declared))

@@ -9,5 +9,5 @@ pub returns : goal.returns
 returns c =
     let all = map told c.args.events.now in
     subst (λ (a : Option (List ℕ)). IfOk c.first_unset_among.result (λ o. o ≡ a))
-    (unset_by_sets (reg_names all) (given_names all) c.new-earlier.result.keys c.in_ok-regs.regs.keys c.in_ok-given.given.keys all c.in_ok-regs.ensures c.in_ok-given.ensures c.new-earlier.ensures.empty)
+    (unset_by_sets (reg_names all) (given_names all) c.new-earlier.result.keys.items c.in_ok-regs.regs.keys.items c.in_ok-given.given.keys.items all c.in_ok-regs.ensures c.in_ok-given.ensures c.new-earlier.ensures)
     c.first_unset_among.ensures

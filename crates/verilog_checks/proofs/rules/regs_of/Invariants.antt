@@ -1,9 +1,8 @@
 use Rattle.std.proofs.Common.{◌≡◌, [], map, drop}
-use Rattle.std.specs.Str.{bytes_eq}
-use Rattle.indexmap.specs.IndexSet.{insert_all}
+use Rattle.name_tables.specs.Keys.{insert_all}
 use Rattle.verilog_checks.specs.Views.{told}
 use Rattle.verilog_checks.specs.Readings.{reg_names}
 use Rattle.verilog_checks.proofs.rules.regs_of.Given as goal
 
 abbrev pub invariant-each : goal.invariant-each
-invariant-each l = insert_all bytes_eq l.names.keys (reg_names (map told (drop l.event-index l.events))) ≡ insert_all bytes_eq [] (reg_names (map told l.events))
+invariant-each l = insert_all l.names.keys.items (reg_names (map told (drop l.event-index l.events))) ≡ insert_all [] (reg_names (map told l.events))

@@ -1,15 +1,13 @@
 use Rattle.std.proofs.Common.{◌≡◌, ◌++◌, map, drop}
-use Rattle.std.specs.Prelude.{nat_eq}
-use Rattle.std.specs.Cmp.Lexicographic.{pointwise}
-use Rattle.indexmap.specs.IndexSet.{insert_all}
+use Rattle.name_tables.specs.Keys.{insert_all}
 use Rattle.verilog_text.specs.Trees.{member_tree}
 use Rattle.verilog_text.specs.Clocked.{regs}
 use Rattle.verilog_clock.proofs.declare.declare_regs.Given as goal
 
 abbrev pub invariant-each : goal.invariant-each
 invariant-each l = record {
-  keys : insert_all (pointwise nat_eq) l.names.set.keys (map (λ x. x.name) (regs (map (member_tree l.module.clock) (drop l.member-index l.module.members.items))))
-      ≡ insert_all (pointwise nat_eq) l.initial.names.set.keys (map (λ x. x.name) (regs (map (member_tree l.module.clock) l.module.members.items)));
+  keys : insert_all l.names.set.keys.items (map (λ x. x.name) (regs (map (member_tree l.module.clock) (drop l.member-index l.module.members.items))))
+      ≡ insert_all l.initial.names.set.keys.items (map (λ x. x.name) (regs (map (member_tree l.module.clock) l.module.members.items)));
   wide : l.names.widths.items ++ map (λ x. x.width) (regs (map (member_tree l.module.clock) (drop l.member-index l.module.members.items)))
       ≡ l.initial.names.widths.items ++ map (λ x. x.width) (regs (map (member_tree l.module.clock) l.module.members.items));
 }

@@ -10,7 +10,7 @@ use Rattle.verilog_size_checks.proofs.drivers.+checks.Goals as goal
 
 pub check_action-returns-in_err-check_actions-in-If-clause-wrong : goal.check_action-returns-in_err-check_actions-in-If-clause-wrong
 check_action-returns-in_err-check_actions-in-If-clause-wrong t c =
-    let find = again c.args.earlier.now.keys in
+    let find = again c.args.earlier.now.keys.items in
     let this = targets (bare_actions (placed_actions c.deref.result.now)) in
     let other = targets (bare_actions (placed_actions c.in-If.other.items)) in
     let e : first_of find (targets (bare_actions (action_then c.args.action.now Done))) ≡ option_or (first_of find this) (first_of find other) =
@@ -20,7 +20,7 @@ check_action-returns-in_err-check_actions-in-If-clause-wrong t c =
 
 pub check_action-returns-in_err-check_actions-in-If-2-clause-wrong : goal.check_action-returns-in_err-check_actions-in-If-2-clause-wrong
 check_action-returns-in_err-check_actions-in-If-2-clause-wrong t c =
-    let find = again c.args.earlier.now.keys in
+    let find = again c.args.earlier.now.keys.items in
     let this = targets (bare_actions (placed_actions c.deref.result.now)) in
     let other = targets (bare_actions (placed_actions c.deref-in-If.result.now)) in
     let e : first_of find (targets (bare_actions (action_then c.args.action.now Done))) ≡ option_or (first_of find this) (first_of find other) =
@@ -31,7 +31,7 @@ check_action-returns-in_err-check_actions-in-If-2-clause-wrong t c =
 
 pub check_action-returns-in_ok-check_actions-in-If-2-clause-right : goal.check_action-returns-in_ok-check_actions-in-If-2-clause-right
 check_action-returns-in_ok-check_actions-in-If-2-clause-right t c =
-    let find = again c.args.earlier.now.keys in
+    let find = again c.args.earlier.now.keys.items in
     let this = targets (bare_actions (placed_actions c.deref.result.now)) in
     let other = targets (bare_actions (placed_actions c.deref-in-If.result.now)) in
     ap (first_of find) (targets_if _ _ _ _ _ _ c.in-If.is c.deref.ensures.value c.deref-in-If.ensures.value) ∙ first_append find this other
@@ -40,7 +40,7 @@ check_action-returns-in_ok-check_actions-in-If-2-clause-right t c =
 
 pub check_actions-returns-in_err-check_action-clause-wrong : goal.check_actions-returns-in_err-check_action-clause-wrong
 check_actions-returns-in_err-check_action-clause-wrong t c =
-    let find = again c.args.earlier.now.keys in
+    let find = again c.args.earlier.now.keys.items in
     let here = targets (bare_actions (action_then c.action-item.result Done)) in
     let rest = targets (bare_actions (placed_actions (drop (c.each.action-index + 1) c.args.actions.now))) in
     let e = ap (first_of find) (targets_at c.args.actions.now c.each.action-index c.action-item.result c.each-test.true c.action-item.is) ∙ first_append find here rest in
@@ -49,7 +49,7 @@ check_actions-returns-in_err-check_action-clause-wrong t c =
 
 pub check_actions-each-preserved : goal.check_actions-each-preserved
 check_actions-each-preserved t c =
-    let find = again c.args.earlier.now.keys in
+    let find = again c.args.earlier.now.keys.items in
     let here = targets (bare_actions (action_then c.action-item.result Done)) in
     let rest = targets (bare_actions (placed_actions (drop (c.each.action-index + 1) c.args.actions.now))) in
     let e = ap (first_of find) (targets_at c.args.actions.now c.each.action-index c.action-item.result c.each-test.true c.action-item.is) ∙ first_append find here rest in

@@ -5,4 +5,4 @@ use Rattle.verilog_size_checks.specs.Sought.{first_of, again}
 use Rattle.verilog_size_checks.proofs.drivers.+checks.Given as goal
 
 abbrev pub invariant-check_actions-each : goal.invariant-check_actions-each
-invariant-check_actions-each l = first_of (again l.earlier.keys) (targets (bare_actions (placed_actions (drop l.action-index l.actions)))) ≡ first_of (again l.earlier.keys) (targets (bare_actions (placed_actions l.actions)))
+invariant-check_actions-each l = first_of (again l.earlier.keys.items) (targets (bare_actions (placed_actions (drop l.action-index l.actions)))) ≡ first_of (again l.earlier.keys.items) (targets (bare_actions (placed_actions l.actions)))

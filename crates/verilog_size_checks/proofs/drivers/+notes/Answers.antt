@@ -1,7 +1,5 @@
 use Rattle.std.proofs.Common.{List, ℕ, ◌+◌, drop, sym, ap, ◌∙◌}
-use Rattle.std.specs.Prelude.{nat_eq}
-use Rattle.std.specs.Cmp.Lexicographic.{pointwise}
-use Rattle.indexmap.specs.IndexSet.{insert_all}
+use Rattle.name_tables.specs.Keys.{insert_all}
 use Rattle.verilog_text.specs.Conditions.{targets}
 use Rattle.verilog_places.specs.Trees.{action_then, Done, placed_actions, bare_actions}
 use Rattle.verilog_size_checks.proofs.ActionLaws.{targets_if, targets_at}
@@ -13,15 +11,15 @@ note_action-returns-in_ok-note_actions-in-If-2 t c =
     let this = targets (bare_actions (placed_actions c.deref.result.now)) in
     let other = targets (bare_actions (placed_actions c.deref-in-If.result.now)) in
     c.in_ok-note_actions-in-If-2.ensures
-    ∙ ap (λ (keys : List (List ℕ)). insert_all (pointwise nat_eq) keys other) c.in_ok-note_actions-in-If.ensures
-    ∙ sym (insert_append c.args.names.now.keys this other)
-    ∙ ap (insert_all (pointwise nat_eq) c.args.names.now.keys) (sym (targets_if _ _ _ _ _ _ c.in-If.is c.deref.ensures.value c.deref-in-If.ensures.value))
+    ∙ ap (λ (keys : List (List ℕ)). insert_all keys other) c.in_ok-note_actions-in-If.ensures
+    ∙ sym (insert_append c.args.names.now.keys.items this other)
+    ∙ ap (insert_all c.args.names.now.keys.items) (sym (targets_if _ _ _ _ _ _ c.in-If.is c.deref.ensures.value c.deref-in-If.ensures.value))
 
 pub note_actions-each-preserved : goal.note_actions-each-preserved
 note_actions-each-preserved t c =
     let here = targets (bare_actions (action_then c.action-item.result Done)) in
     let rest = targets (bare_actions (placed_actions (drop (c.each.action-index + 1) c.args.actions.now))) in
-    ap (λ (keys : List (List ℕ)). insert_all (pointwise nat_eq) keys rest) c.in_ok-note_action.ensures
-    ∙ sym (insert_append c.each.names.keys here rest)
-    ∙ ap (insert_all (pointwise nat_eq) c.each.names.keys) (sym (targets_at c.args.actions.now c.each.action-index c.action-item.result c.each-test.true c.action-item.is))
+    ap (λ (keys : List (List ℕ)). insert_all keys rest) c.in_ok-note_action.ensures
+    ∙ sym (insert_append c.each.names.keys.items here rest)
+    ∙ ap (insert_all c.each.names.keys.items) (sym (targets_at c.args.actions.now c.each.action-index c.action-item.result c.each-test.true c.action-item.is))
     ∙ c.each.invariant

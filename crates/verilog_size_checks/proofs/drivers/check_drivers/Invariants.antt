@@ -5,4 +5,4 @@ use Rattle.verilog_size_checks.specs.Sought.{driven_again}
 use Rattle.verilog_size_checks.proofs.drivers.check_drivers.Given as goal
 
 abbrev pub invariant-each : goal.invariant-each
-invariant-each l = driven_again l.names.keys (blocks (bare_members (map placed_member (drop l.member-index l.members)))) ≡ driven_again [] (blocks (bare_members (map placed_member l.members)))
+invariant-each l = driven_again l.names.keys.items (blocks (bare_members (map placed_member (drop l.member-index l.members)))) ≡ driven_again [] (blocks (bare_members (map placed_member l.members)))

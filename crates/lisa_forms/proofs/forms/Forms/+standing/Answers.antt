@@ -8,7 +8,7 @@ use Rattle.activation_trees.specs.Places.{IsBelow}
 use Rattle.lisa_forms.specs.declared.way.Way.{Way}
 use Rattle.lisa_forms.specs.Ways.{way}
 use Rattle.lisa_forms.specs.Standings.{told, stood}
-use Rattle.lisa_forms.proofs.Chosen.{stands_by, stood_by}
+use Rattle.lisa_forms.proofs.Chosen.{chosen_has_parent, stands_by, stood_by}
 use Rattle.lisa_forms.proofs.forms.Forms.+standing.Goals as goal
 
 pub returns-in-Some : goal.returns-in-Some
@@ -32,3 +32,12 @@ returns-in-Some t c d forms part =
     let is : told c.stood.result ≡ stood (way d k x) f x.operation (told c.standing-above.result) = c.stood.ensures ∙ ap (λ (v : Way). stood v f x.operation (told c.standing-above.result)) kept in
     let exact = c.standing-above.ensures d forms in
     (λ e. stands_by d f k p x a below (told c.standing-above.result) exact part (sym is ∙ e), λ s. is ∙ stood_by d f k p x a below (told c.standing-above.result) exact part s)
+
+pub returns-in-None : goal.returns-in-None
+returns-in-None t c d forms part =
+    let all = c.args.self.now.occurrences.items in
+    let k = c.args.occurrence in
+    let x = c.index-own.result.now in
+    let own : slice_get all k ≡ Some x = slice_get_read all (length all) k x refl c.requires.within c.index-own.ensures in
+    let at : slice_get (occurrences d) k ≡ Some x = ap (λ (l : List Occurrence). slice_get l k) (sym forms.all_occurrences) ∙ own in
+    (λ e. absurd (cc e), λ s. let found = chosen_has_parent d (form_tree c.args.form.now) k part s x at in absurd (cc (sym c.in-None.is ∙ found.1)))

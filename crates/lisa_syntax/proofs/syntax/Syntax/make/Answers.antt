@@ -19,7 +19,7 @@ pub kept-requires-clause-level : goal.kept-requires-clause-level
 kept-requires-clause-level c = parts_level c.args.machine.now c.description.result.now c.description.ensures c.in_ok-parts.parts c.in_ok-parts.ensures c.accepted.ensures.accepted c.requires.accepted
 
 pub kept-requires-clause-few : goal.kept-requires-clause-few
-kept-requires-clause-few c = parts_few c.args.machine.now c.description.result.now c.description.ensures c.in_ok-parts.parts c.in_ok-parts.ensures c.accepted.ensures.accepted c.requires.accepted c.requires.forms.few
+kept-requires-clause-few c = parts_few c.args.machine.now c.description.result.now c.description.ensures c.in_ok-parts.parts c.in_ok-parts.ensures c.accepted.ensures.accepted c.requires.accepted c.requires.forms.limits.few_forms
 
 pub returns-in_ok-ambiguity-in-Some-clause-fault :
     goal.returns-in_ok-ambiguity-in-Some-clause-fault

@@ -11,7 +11,7 @@ use Rattle.scene_paths.proofs.described.Described.condition.Goals as goal
 
 pub returns : goal.returns
 returns c =
-    let kept = kept_at c.self.inside.tables.globals.description.now c.args.self.now c.self.view_is c.self.invariant in
+    let kept = kept_at c.self.inside.tables.tables.globals.description.now c.args.self.now c.self.view_is c.self.invariant in
     c.condition_at.ensures
     ∙ ap (λ (rows : List (Vec (Bor Expr))). slice_get (slice_index_or (rows_of rows) c.args.operation []) c.args.test) c.deref.ensures.value
     ∙ condition_is (description_tree c.args.self.now) c.self.inside.conditions.items c.args.operation c.args.test kept.of_conditions

@@ -1,0 +1,40 @@
+//! What commands look for, one after another.
+
+ghost use Rattle.std.specs.Prelude.{ℕ, List, Option};
+ghost use Rattle.lisa_tree.specs.Descriptions.{DescriptionTree};
+ghost use Rattle.description_digest.specs.Digests.{digest_of};
+ghost use Rattle.lisa_engine.specs.Memory.{Memory};
+ghost use Rattle.lisa_engine.specs.declared.parts.Item.{Item};
+ghost use Rattle.asm_source.specs.Plain.{PlainLine};
+ghost use Rattle.lisa_object.specs.Objects.{PlainObject};
+ghost use Rattle.lisa_assembler.specs.Objects.{IsObjectOf};
+ghost use Rattle.verilog_text.specs.Faults.{VAccepts};
+ghost use Rattle.engine_commands.specs.Images.{IsMissing};
+ghost use Rattle.engine_commands.specs.Machines.{Machine, IsSchedule, IsNoSchedule};
+ghost use Rattle.engine_commands.specs.Making.{IsMade};
+ghost use Rattle.checked_descriptions.specs.Checked.{Checked, IsChecked};
+ghost use Rattle.checked_descriptions.specs.DescriptionImages.{IsImageFor, IsNoImageFor};
+ghost use Rattle.module_commands.specs.Designs.{IsUnreadModule};
+ghost use Rattle.assembler_commands.specs.Assembled.{IsSource, IsNoSource, IsUnassembled};
+ghost use Rattle.assembler_commands.specs.DescriptionObjects.{AreObjectsFor, AreNoObjectsFor};
+ghost use Rattle.assembler_commands.specs.Links.{IsLinked, IsUnlinked};
+ghost use Rattle.verdict_promises.specs.Firsts.{IsAcceptedAs, IsRefusedFirst};
+ghost use Rattle.command_promises.specs.Decided.{IsSingle, IsDecided};
+
+use source_promises::sources_have_one_answer;
+
+/// What a command looks for is one thing at most, refused for one reason at most, and never both. Of modules, images, objects, sources and
+/// schedules, of links, and of the memories that a machine has, there always is one or the other.
+pub fn steps_are_decided()
+    ensures descriptions { (bytes : List ℕ) → IsSingle (IsAcceptedAs bytes) (IsRefusedFirst bytes) }
+    ensures modules { (bytes : List ℕ) → IsDecided (VAccepts bytes) (IsUnreadModule bytes) }
+    ensures images { (d : DescriptionTree) (bytes : Option (List ℕ)) → IsDecided (IsImageFor d bytes) (IsNoImageFor d bytes) }
+    ensures objects { (d : DescriptionTree) (files : List (List ℕ)) → IsDecided (AreObjectsFor (digest_of d) files) (AreNoObjectsFor (digest_of d) files) }
+    ensures links { (d : DescriptionTree) (objects : List PlainObject) → IsDecided (IsLinked d objects) (IsUnlinked d objects) }
+    ensures sources { (bytes : List ℕ) → IsDecided (IsSource bytes) (IsNoSource bytes) }
+    ensures assemblies { (d : DescriptionTree) (c : Checked) (lines : List PlainLine) → IsChecked d c → IsSingle (IsObjectOf d lines) (IsUnassembled d lines) }
+    ensures schedules { (pins : List Item) (bytes : List ℕ) → IsDecided (IsSchedule pins bytes) (IsNoSchedule pins bytes) }
+    ensures memories { (wanted : Machine) (memories : List Memory) → IsDecided (IsMade wanted memories) (IsMissing wanted.arrays memories) }
+{
+    sources_have_one_answer();
+}

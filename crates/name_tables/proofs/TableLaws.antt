@@ -1,0 +1,30 @@
+-- Names that were put in, by their bytes.
+use Rattle.std.proofs.Common.{◌≡◌, ℕ, Bool, true, false, cond, ◌||◌, List, Option, refl, ap, ◌∙◌}
+use Rattle.std.specs.BTreeMap.{BTreeMap}
+use Rattle.std.specs.BTreeMap as tree
+use Rattle.std.specs.BTreeSet.{BTreeSet}
+use Rattle.std.specs.BTreeSet as sorted
+use Rattle.std.specs.Cmp.Lexicographic.{slice_cmp, nat_list_eq_equiv}
+use Rattle.std.specs.Ordering.{is_eq, nat_cmp}
+use Rattle.std.specs.Str.{bytes_eq}
+use Rattle.std.proofs.lemmas.Map.Text.{is_eq-slice_cmp}
+use Rattle.name_tables.specs.TableViews.{has_name, value_of}
+
+-- a name that compares as equal has the same bytes
+pub is_name : (name other : List ℕ) → is_eq (slice_cmp nat_cmp name other) ≡ bytes_eq other name
+is_name name other = is_eq-slice_cmp name other ∙ nat_list_eq_equiv.symm name other
+
+or_here : (a b : Bool) → cond a true b ≡ (a || b)
+or_here true b = refl
+or_here false b = refl
+
+-- one more name in a set
+pub entered : (set more : BTreeSet (List ℕ)) (name : List ℕ) → sorted.Updates (slice_cmp nat_cmp) set more name true
+    → (n : List ℕ) → has_name more n ≡ (bytes_eq n name || has_name set n)
+entered set more name updates n =
+    updates.0 n ∙ ap (λ b. cond b true (has_name set n)) (is_name name n) ∙ or_here (bytes_eq n name) (has_name set n)
+
+-- a value in a table
+pub put_one : {V : Type 0} (table more : BTreeMap (List ℕ) V) (name : List ℕ) (value : Option V) → tree.Updates (slice_cmp nat_cmp) table more name value
+    → (n : List ℕ) → value_of more n ≡ cond (bytes_eq n name) value (value_of table n)
+put_one table more name value updates n = updates.0 n ∙ ap (λ b. cond b value (value_of table n)) (is_name name n)

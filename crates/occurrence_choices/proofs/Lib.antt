@@ -1,0 +1,6 @@
+pub mod Bits
+pub mod Rows
+pub mod Chosen
+pub mod Kept
+pub mod Activating
+pub mod Stepping

@@ -1,0 +1,8 @@
+use Rattle.program_laws.proofs.Refusing.{requests_refuse, runs_refuse}
+use Rattle.program_laws.proofs.refusals.runs_refuse_first_faults.Goals as goal
+
+pub returns-clause-requests : goal.returns-clause-requests
+returns-clause-requests c = requests_refuse
+
+pub returns-clause-runs : goal.returns-clause-runs
+returns-clause-runs c = runs_refuse _ c.words_ask_for_one.ensures
