@@ -168,13 +168,20 @@ def linted(made):
 
 
 def in_verilator(made):
-    """What is built in the folder of all builds, so that the parts that all have are built once."""
-    builds, name = made.folder.parent / "verilated", f"bench_{made.folder.name}"
-    done = run(["verilator", "--binary", "--Mdir", str(builds), "--prefix", name, "--top-module", "bench", *WARNINGS, "-Wno-fatal", "-CFLAGS", "-O0",
-                "-o", name, "m.v", "bench.v"], made.folder)
+    """What is built in a folder of its own, since a build reads what others leave in its folder; the parts that all have are built once."""
+    built, shared = made.folder / "built", made.folder.parent / "shared"
+    built.mkdir(exist_ok=True)
+    for part in shared.glob("*.o"):
+        shutil.copy2(part, built)
+    done = run(["verilator", "--binary", "--Mdir", "built", "--top-module", "bench", *WARNINGS, "-Wno-fatal", "-CFLAGS", "-O0",
+                "-o", "states", "m.v", "bench.v"], made.folder)
     if done.returncode:
         return f"verilator: status {done.returncode}: {(done.stdout + done.stderr).strip()[-300:]}"
-    done = run([str(builds / name)], made.folder)
+    if not shared.exists():
+        shared.mkdir()
+        for part in built.glob("verilated*.o"):
+            shutil.copy2(part, shared)
+    done = run([str(built / "states")], made.folder)
     return f"what it built ended with {done.returncode}" if done.returncode else compared(states_of(done.stdout, True), made)
 
 
