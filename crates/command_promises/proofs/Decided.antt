@@ -24,7 +24,8 @@ use Rattle.verilog_reader.proofs.OutcomeLaws.{has_outcome}
 use Rattle.lisa_outcomes.specs.declared.status.Refusal.{Refusal}
 use Rattle.lisa_outcomes.specs.declared.status.Refusal.TheVariants as refusals
 use Rattle.engine_commands.specs.Images.{IsMissing}
-use Rattle.engine_commands.specs.Machines.{Machine, IsSchedule, IsNoSchedule}
+use Rattle.lisa_engine.specs.Machines.{Machine}
+use Rattle.engine_commands.specs.Schedules.{IsSchedule, IsNoSchedule}
 use Rattle.engine_commands.specs.Making.{IsMade}
 use Rattle.module_commands.specs.Designs.{IsUnreadModule}
 use Rattle.assembler_commands.specs.Assembled.{IsSource, IsNoSource}

@@ -23,8 +23,9 @@ use Rattle.lisa_debug.specs.Sessions.{is_too_long, session_text}
 use Rattle.engine_commands.specs.declared.tasks.Task.{Task}
 use Rattle.engine_commands.specs.declared.tasks.Task.TheVariants as tasks
 use Rattle.engine_commands.specs.Images.{IsNoImage, IsMissing}
-use Rattle.engine_commands.specs.Machines.{Machine, schedule_bytes, IsSchedule, IsNoSchedule}
-use Rattle.engine_commands.specs.Sessions.{course_under, given_up}
+use Rattle.lisa_engine.specs.Machines.{Machine, course_of}
+use Rattle.engine_commands.specs.Schedules.{schedule_bytes, IsSchedule, IsNoSchedule}
+use Rattle.engine_commands.specs.Sessions.{given_up}
 use Rattle.engine_commands.specs.Tasks.{GivesTask, GivesUnder}
 use Rattle.engine_commands.specs.Making.{IsMade, GivesMade}
 use Rattle.checked_descriptions.specs.Checked.{Checked, AfterChecks}
@@ -116,7 +117,7 @@ up false r text answers apart e = no_finish r text answers e
 apart_task : (task : Task) (m : Machine) (input : List ℕ) (lines : List Line) (r : Refusal) (text : List ℕ) → IsApart r → GivesTask task m input lines (Refusing r text) → ⊥
 apart_task (tasks.State edges) m input lines r text apart e = no_finish _ _ _ e
 apart_task (tasks.Trace edges) m input lines r text apart e = no_finish _ _ _ e
-apart_task tasks.Answers m input lines r text apart e = up (is_too_long (course_under m lines) input) r text (session_text (course_under m lines) input) apart e
+apart_task tasks.Answers m input lines r text apart e = up (is_too_long (course_of m lines) input) r text (session_text (course_of m lines) input) apart e
 
 apart_under : (task : Task) (m : Machine) (schedule input : List ℕ) (r : Refusal) (text : List ℕ) → IsApart r → GivesUnder task m schedule input (Refusing r text) → ⊥
 apart_under task m schedule input r text apart = never_after (IsSchedule m.pins schedule) (IsNoSchedule m.pins schedule) (GivesTask task m input) r text

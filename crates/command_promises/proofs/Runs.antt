@@ -6,7 +6,8 @@ use Rattle.lisa_engine.specs.ScheduleLine.{Line}
 use Rattle.lisa_outcomes.specs.Outcomes.{Finished, passed}
 use Rattle.lisa_outcomes.specs.RunFiles.{RunBytes}
 use Rattle.engine_commands.specs.declared.tasks.Task.{Task}
-use Rattle.engine_commands.specs.Machines.{Machine, schedule_bytes}
+use Rattle.lisa_engine.specs.Machines.{Machine}
+use Rattle.engine_commands.specs.Schedules.{schedule_bytes}
 use Rattle.engine_commands.specs.Making.{GivesMade}
 use Rattle.checked_descriptions.specs.Checked.{Checked, IsChecked, IsFaulty, AfterChecks}
 use Rattle.checked_descriptions.specs.Descriptions.{IsUnread}

@@ -7,7 +7,8 @@ use Rattle.lisa_outcomes.specs.Outcomes.{Outcome, Finished, passed}
 use Rattle.engine_commands.specs.declared.tasks.Task.{Task}
 use Rattle.engine_commands.specs.declared.tasks.Task.TheVariants as tasks
 use Rattle.engine_commands.specs.Images.{IsMissing}
-use Rattle.engine_commands.specs.Machines.{Machine, IsSchedule, IsNoSchedule}
+use Rattle.lisa_engine.specs.Machines.{Machine}
+use Rattle.engine_commands.specs.Schedules.{IsSchedule, IsNoSchedule}
 use Rattle.engine_commands.specs.Tasks.{GivesTask, GivesUnder}
 use Rattle.engine_commands.specs.Making.{IsMade, GivesMade}
 use Rattle.command_promises.specs.Runs.{task_outcome}

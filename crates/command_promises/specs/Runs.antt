@@ -8,8 +8,9 @@ use Rattle.lisa_outcomes.specs.Outcomes.{Outcome, Finished}
 use Rattle.lisa_outcomes.specs.RunFiles.{RunBytes}
 use Rattle.engine_commands.specs.declared.tasks.Task.{Task}
 use Rattle.engine_commands.specs.declared.tasks.Task.TheVariants as tasks
-use Rattle.engine_commands.specs.Machines.{Machine, schedule_bytes, IsSchedule, machine_state}
-use Rattle.engine_commands.specs.Sessions.{course_under, session_outcome}
+use Rattle.lisa_engine.specs.Machines.{Machine, course_of, state_at}
+use Rattle.engine_commands.specs.Schedules.{schedule_bytes, IsSchedule}
+use Rattle.engine_commands.specs.Sessions.{session_outcome}
 use Rattle.checked_descriptions.specs.Checked.{Checked}
 use Rattle.checked_descriptions.specs.DescriptionImages.{IsImageFor}
 use Rattle.description_commands.specs.Runs.{described_machine}
@@ -37,6 +38,6 @@ pub record IsClocked (bytes : RunBytes) (m : Machine) (lines : List Line) : Type
 -- what a task gives over a machine under the lines: the text of the state after some edges; that of the first state, and of what each edge
 -- changes; or the answers to the input
 abbrev pub task_outcome : Task → Machine → List Line → (input : List ℕ) → Outcome
-task_outcome (tasks.State edges) m lines input = Finished (state_text m.items m.arrays edges (machine_state m lines edges))
-task_outcome (tasks.Trace edges) m lines input = Finished (trace_text m.items m.arrays (machine_state m lines) edges)
-task_outcome tasks.Answers m lines input = session_outcome (course_under m lines) input
+task_outcome (tasks.State edges) m lines input = Finished (state_text m.items m.arrays edges (state_at (course_of m lines) edges))
+task_outcome (tasks.Trace edges) m lines input = Finished (trace_text m.items m.arrays (state_at (course_of m lines)) edges)
+task_outcome tasks.Answers m lines input = session_outcome (course_of m lines) input

@@ -5,7 +5,7 @@ ghost use Rattle.lisa_engine.specs.ScheduleLine.{Line};
 ghost use Rattle.lisa_outcomes.specs.Outcomes.{Finished};
 ghost use Rattle.lisa_outcomes.specs.RunFiles.{RunBytes};
 ghost use Rattle.engine_commands.specs.declared.tasks.Task.{Task};
-ghost use Rattle.engine_commands.specs.Machines.{Machine};
+ghost use Rattle.lisa_engine.specs.Machines.{Machine};
 ghost use Rattle.checked_descriptions.specs.Descriptions.{AfterSpelling};
 ghost use Rattle.description_commands.specs.Formats.{Formats};
 ghost use Rattle.description_commands.specs.Checks.{Checks};

@@ -9,7 +9,8 @@ use Rattle.lisa_engine.specs.Memory.{Memory}
 use Rattle.lisa_outcomes.specs.Outcomes.{Outcome}
 use Rattle.lisa_outcomes.specs.RunFiles.{RunBytes}
 use Rattle.engine_commands.specs.declared.tasks.Task.{Task}
-use Rattle.engine_commands.specs.Machines.{Machine, machine_of, schedule_bytes}
+use Rattle.lisa_engine.specs.Machines.{Machine, machine_of}
+use Rattle.engine_commands.specs.Schedules.{schedule_bytes}
 use Rattle.engine_commands.specs.Making.{GivesMade, IsCutMade}
 use Rattle.checked_descriptions.specs.Descriptions.{AfterSpelling}
 use Rattle.checked_descriptions.specs.Checked.{Checked, IsChecked, AfterChecks}

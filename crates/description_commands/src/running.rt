@@ -5,7 +5,7 @@ ghost use Rattle.lisa_engine.specs.Images.{IsImage};
 ghost use Rattle.lisa_machine.specs.Machines.{IsSpelled};
 ghost use Rattle.lisa_outcomes.specs.Ends.{Ends};
 ghost use Rattle.lisa_outcomes.specs.RunViews.{bytes_of};
-ghost use Rattle.engine_commands.specs.Machines.{schedule_bytes};
+ghost use Rattle.engine_commands.specs.Schedules.{schedule_bytes};
 ghost use Rattle.engine_commands.specs.Making.{GivesMade, IsCutMade};
 ghost use Rattle.engine_commands.specs.Tasks.{takes_input, IsHeard, HasFailed};
 ghost use Rattle.checked_descriptions.specs.Checked.{AfterChecks};

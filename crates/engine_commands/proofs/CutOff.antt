@@ -3,8 +3,7 @@ use Rattle.std.proofs.Common.{List, ℕ, Option}
 use Rattle.std.specs.Io.KnownBytes.{Keeps}
 use Rattle.lisa_io.proofs.Known.{appends_kept}
 use Rattle.lisa_engine.specs.Memory.{Memory}
-use Rattle.lisa_debug.specs.Courses.{Course}
-use Rattle.engine_commands.specs.Machines.{Machine}
+use Rattle.lisa_engine.specs.Machines.{Machine, Course}
 use Rattle.engine_commands.specs.Sessions.{IsCutOff}
 use Rattle.engine_commands.specs.Tasks.{IsCutUnder}
 use Rattle.engine_commands.specs.Making.{IsCutMade}

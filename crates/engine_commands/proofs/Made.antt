@@ -3,8 +3,6 @@ use Rattle.std.proofs.Common.{◌≡◌, ◌∙◌, sym, refl, subst, List, [], 
 use Rattle.lisa_engine.specs.Memory.{Memory}
 use Rattle.lisa_engine.specs.Images.{missing_memory}
 use Rattle.lisa_engine.specs.State.{State}
-use Rattle.lisa_engine.specs.declared.parts.Item.{Item}
-use Rattle.lisa_engine.specs.declared.parts.ArrayItem.{ArrayItem}
 use Rattle.lisa_engine.specs.declared.image.MakeFault.{MakeFault}
 use Rattle.lisa_engine.specs.declared.image.MakeFault.TheVariants as makes
 use Rattle.lisa_object.specs.declared.faults.ImageFault.TheVariants as images
@@ -14,7 +12,7 @@ use Rattle.lisa_outcomes.proofs.Finding.{found_ok, found_memory, found_refused}
 use Rattle.lisa_outcomes.proofs.Refusals.{image_refusal}
 use Rattle.lisa_outcomes.proofs.Told.{none_is_no_some}
 use Rattle.engine_commands.specs.Images.{IsMissing}
-use Rattle.engine_commands.specs.Machines.{Machine, machine_of}
+use Rattle.lisa_engine.specs.Machines.{Machine}
 use Rattle.engine_commands.specs.Making.{IsMade, IsCutMade, Makes}
 use Rattle.engine_commands.specs.Tasks.{IsCutUnder}
 use Rattle.engine_commands.specs.Unread.{unmade_end}
@@ -40,14 +38,10 @@ cut_wanted view wanted memories e schedule left rest before after makes cut = re
 
 -- ---- from what making an engine answers
 
-module _ {E : Type 0} (pins items : E → List Item) (arrays : E → List ArrayItem) (defined : E → List (List ℕ) → State) (wanted : Machine) (memories : List Memory) where
-  pub parts_make : (made : Result E MakeFault) → IfOk made (λ e. pins e ≡ wanted.pins) → IfOk made (λ e. items e ≡ wanted.items) → IfOk made (λ e. arrays e ≡ wanted.arrays)
-      → IfOk made (λ e. defined e ≡ wanted.defined) → OnOk made (missing_memory wanted.arrays memories ≡ None)
-      → ((name : List ℕ) → made ≡ Err (makes.NoSuchMemory name) → missing_memory wanted.arrays memories ≡ Some name)
-      → Makes (λ e. machine_of (pins e) (items e) (arrays e) (defined e)) wanted memories made
-  parts_make (Ok e) pins_are items_are arrays_are defined_are found missing =
-      record { is = λ i. machine_of (pins_are i) (items_are i) (arrays_are i) (defined_are i); found = found; missing = missing }
-  parts_make (Err fault) pins_are items_are arrays_are defined_are found missing = record { is = tt; found = tt; missing = missing }
+pub is_made : {E : Type 0} (view : E → Machine) (wanted : Machine) (memories : List Memory) (made : Result E MakeFault) → IfOk made (λ e. view e ≡ wanted)
+    → OnOk made (missing_memory wanted.arrays memories ≡ None) → ((name : List ℕ) → made ≡ Err (makes.NoSuchMemory name) → missing_memory wanted.arrays memories ≡ Some name)
+    → Makes view wanted memories made
+is_made view wanted memories made is found missing = record { is = is; found = found; missing = missing }
 
 -- what holds of an engine leads to what else holds of it
 pub made_so : {E : Type 0} (P Q : E → Type 0) (made : Result E MakeFault) → ((e : E) → P e → Q e) → IfOk made P → IfOk made Q
@@ -55,7 +49,7 @@ made_so P Q (Ok e) to p = to e p
 made_so P Q (Err fault) to p = tt
 
 -- an engine stands at its first state
-pub made_first : {E : Type 0} (present : E → State) (defined : E → List (List ℕ) → State) (wanted : List (List ℕ) → State) (made : Result E MakeFault)
-    → IfOk made (λ e. present e ≡ wanted []) → IfOk made (λ e. defined e ≡ wanted) → IfOk made (λ e. present e ≡ defined e [])
-made_first present defined wanted (Ok e) first defines = first ∙ sym (λ i. defines i [])
-made_first present defined wanted (Err fault) first defines = tt
+pub made_first : {E : Type 0} (present : E → State) (view : E → Machine) (wanted : Machine) (made : Result E MakeFault)
+    → IfOk made (λ e. present e ≡ wanted.defined []) → IfOk made (λ e. view e ≡ wanted) → IfOk made (λ e. present e ≡ (view e).defined [])
+made_first present view wanted (Ok e) first is = first ∙ sym (λ i. (is i).defined [])
+made_first present view wanted (Err fault) first is = tt

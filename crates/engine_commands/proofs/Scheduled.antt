@@ -13,7 +13,7 @@ use Rattle.lisa_outcomes.specs.Stages.{Finds}
 use Rattle.lisa_outcomes.proofs.Finding.{found_ok, found_memory, found_refused}
 use Rattle.lisa_outcomes.proofs.Refusals.{schedule_refusal}
 use Rattle.lisa_outcomes.proofs.Told.{ok_is_no_err}
-use Rattle.engine_commands.specs.Machines.{IsSchedule, IsNoSchedule}
+use Rattle.engine_commands.specs.Schedules.{IsSchedule, IsNoSchedule}
 use Rattle.engine_commands.specs.Unread.{unscheduled_end}
 
 same_lines : (a b : List Line) → ◌≡◌ {A = Result (List Line) ScheduleFault} (Ok a) (Ok b) → a ≡ b

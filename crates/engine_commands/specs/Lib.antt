@@ -1,4 +1,4 @@
-pub mod Machines
+pub mod Schedules
 pub mod Sessions
 pub mod Tasks
 pub mod Images

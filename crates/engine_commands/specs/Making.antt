@@ -7,7 +7,7 @@ use Rattle.lisa_engine.specs.declared.image.MakeFault.TheVariants as makes
 use Rattle.lisa_outcomes.specs.Outcomes.{Outcome, After}
 use Rattle.engine_commands.specs.declared.tasks.Task.{Task}
 use Rattle.engine_commands.specs.Images.{IsMissing}
-use Rattle.engine_commands.specs.Machines.{Machine}
+use Rattle.lisa_engine.specs.Machines.{Machine}
 use Rattle.engine_commands.specs.Tasks.{GivesUnder, IsCutUnder}
 
 -- the machine that is wanted, each of whose memories is an array of it

@@ -2,8 +2,6 @@
 use Rattle.std.specs.Prelude.{ℕ, ◌≡◌, Bool, true, false, List, Option, Result, Ok, Err}
 use Rattle.std.specs.Io.KnownBytes.{Consumes}
 use Rattle.lisa_io.specs.Causes.{Rose}
-use Rattle.lisa_engine.specs.ScheduleLine.{Line}
-use Rattle.lisa_debug.specs.Courses.{Course, course_of}
 use Rattle.lisa_debug.specs.Sessions.{is_too_long, session_text}
 use Rattle.lisa_debug.specs.Runs.{GoesOn}
 use Rattle.lisa_debug.specs.declared.ends.SessionEnd.{SessionEnd}
@@ -13,11 +11,7 @@ use Rattle.lisa_outcomes.specs.declared.status.End.TheVariants as ends
 use Rattle.lisa_outcomes.specs.declared.status.Refusal.TheVariants as refusals
 use Rattle.lisa_outcomes.specs.declared.status.InputFault.TheVariants as input_faults
 use Rattle.lisa_outcomes.specs.Outcomes.{Outcome, Finished, Refusing}
-use Rattle.engine_commands.specs.Machines.{Machine}
-
--- the machine under a schedule
-abbrev pub course_under : Machine → List Line → Course
-course_under m lines = course_of m.pins m.items m.arrays m.defined lines
+use Rattle.lisa_engine.specs.Machines.{Course}
 
 -- the answers to the lines of an input, or to the whole lines among the first bytes of one that is too long
 abbrev pub given_up : Bool → List ℕ → Outcome

@@ -6,8 +6,9 @@ use Rattle.lisa_engine.specs.Text.{state_text, trace_text}
 use Rattle.lisa_outcomes.specs.Outcomes.{Outcome, Finished}
 use Rattle.engine_commands.specs.declared.tasks.Task.{Task}
 use Rattle.engine_commands.specs.declared.tasks.Task.TheVariants as tasks
-use Rattle.engine_commands.specs.Machines.{Machine, machine_state, IsSchedule, AfterSchedule}
-use Rattle.engine_commands.specs.Sessions.{course_under, session_outcome, IsCutOff}
+use Rattle.lisa_engine.specs.Machines.{Machine, course_of, state_at}
+use Rattle.engine_commands.specs.Schedules.{IsSchedule, AfterSchedule}
+use Rattle.engine_commands.specs.Sessions.{session_outcome, IsCutOff}
 
 -- it takes the lines of the input
 abbrev pub takes_input : Task → Bool
@@ -21,9 +22,9 @@ IsHeard task left input = takes_input task ≡ true → left ≡ Some input
 
 -- the text of the state after some edges; that of the first state, and of what each edge changes; or the answers to the input
 abbrev pub GivesTask : Task → Machine → (input : List ℕ) → List Line → Outcome → Type 0
-GivesTask (tasks.State edges) m input lines outcome = outcome ≡ Finished (state_text m.items m.arrays edges (machine_state m lines edges))
-GivesTask (tasks.Trace edges) m input lines outcome = outcome ≡ Finished (trace_text m.items m.arrays (machine_state m lines) edges)
-GivesTask tasks.Answers m input lines outcome = outcome ≡ session_outcome (course_under m lines) input
+GivesTask (tasks.State edges) m input lines outcome = outcome ≡ Finished (state_text m.items m.arrays edges (state_at (course_of m lines) edges))
+GivesTask (tasks.Trace edges) m input lines outcome = outcome ≡ Finished (trace_text m.items m.arrays (state_at (course_of m lines)) edges)
+GivesTask tasks.Answers m input lines outcome = outcome ≡ session_outcome (course_of m lines) input
 
 -- the same behind the reading of the schedule
 abbrev pub GivesUnder : Task → Machine → (schedule input : List ℕ) → Outcome → Type 0
@@ -35,4 +36,4 @@ HasFailed task first last = (takes_input task ≡ true) × Rose first last
 
 -- and the session under the schedule is cut off there
 abbrev pub IsCutUnder : Machine → (schedule : List ℕ) → (left rest before after : Option (List ℕ)) → Type 0
-IsCutUnder m schedule left rest before after = (lines : List Line) × IsSchedule m.pins schedule lines × IsCutOff (course_under m lines) left rest before after
+IsCutUnder m schedule left rest before after = (lines : List Line) × IsSchedule m.pins schedule lines × IsCutOff (course_of m lines) left rest before after

@@ -2,7 +2,7 @@
 ghost use Rattle.std.specs.Prelude.{◌≡◌, ◌≤◌, ◌<◌, ◌^◌, [], List, ℕ, length, false, IfOk};
 ghost use Rattle.lisa_engine.specs.Memory.{Memory};
 ghost use Rattle.lisa_outcomes.specs.Ends.{Ends};
-ghost use Rattle.engine_commands.specs.Machines.{Machine, machine_of};
+ghost use Rattle.lisa_engine.specs.Machines.{Machine};
 ghost use Rattle.engine_commands.specs.Making.{GivesMade, IsCutMade, Makes};
 ghost use Rattle.engine_commands.specs.Tasks.{takes_input, IsHeard, HasFailed};
 ghost use Rattle.engine_commands.specs.Unread.{unmade_end};
@@ -36,10 +36,10 @@ pub fn do_made<E: Engine + Drop, I: Source, O: Flush>(
     input: &mut I,
     out: &mut O,
 ) -> Result<(), End>
-    requires first { IfOk made (λ e. E.present e ≡ E.defined e []) }
+    requires first { IfOk made (λ e. E.present e ≡ (E.machine e).defined []) }
     requires short { length schedule.now < 2 ^ 32 }
     ensures ends { (wanted : Machine) (memories : List Memory)
-        → Makes (λ e. machine_of (E.pin_list e) (E.item_list e) (E.array_list e) (E.defined e)) wanted memories made
+        → Makes E.machine wanted memories made
         → Ends (IsHeard task (I.left input.old)) (GivesMade task wanted memories schedule.now)
         (HasFailed task (I.faults input.old) (I.faults input.new) × IsCutMade wanted memories schedule.now (I.left input.old) (I.left input.new) (O.written out.old) (O.written out.new))
         (O.written out.old) (O.written out.new) (O.faults out.old) (O.faults out.new) result }

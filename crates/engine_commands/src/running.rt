@@ -3,7 +3,7 @@ ghost use Rattle.std.specs.Prelude.{◌≡◌, []};
 ghost use Rattle.lisa_engine.specs.PinValues.{IsFor};
 ghost use Rattle.lisa_engine.specs.Text.{state_text, trace_text};
 ghost use Rattle.lisa_outcomes.specs.Writes.{Writes};
-ghost use Rattle.engine_commands.specs.Machines.{machine_of, machine_state};
+ghost use Rattle.lisa_engine.specs.Machines.{course_of, state_at};
 
 use lisa_engine::{Engine, Schedule, TraceEnd, run_edges, write_state, write_trace};
 use lisa_io::Sink;
@@ -18,10 +18,10 @@ pub fn put_state<E: Engine, O: Sink>(
     edges: u32,
     out: &mut O,
 ) -> Result<(), End>
-    requires first { E.present engine.old ≡ E.defined engine.old [] }
-    requires fits { IsFor (E.pin_list engine.old) schedule.now }
+    requires first { E.present engine.old ≡ (E.machine engine.old).defined [] }
+    requires fits { IsFor (E.machine engine.old).pins schedule.now }
     ensures { Writes (O.written out.old) (O.written out.new) (O.faults out.old) (O.faults out.new) result
-        (state_text (E.item_list engine.old) (E.array_list engine.old) edges (machine_state (machine_of (E.pin_list engine.old) (E.item_list engine.old) (E.array_list engine.old) (E.defined engine.old)) schedule.now edges)) }
+        (state_text (E.machine engine.old).items (E.machine engine.old).arrays edges (state_at (course_of (E.machine engine.old) schedule.now) edges)) }
 {
     let mut pins = match vec![in alloc; 0; engine.pins().len()] {
         Ok(pins) => pins,
@@ -42,10 +42,10 @@ pub fn put_trace<E: Engine, O: Sink>(
     edges: u32,
     out: &mut O,
 ) -> Result<(), End>
-    requires first { E.present engine.old ≡ E.defined engine.old [] }
-    requires fits { IsFor (E.pin_list engine.old) schedule.now }
+    requires first { E.present engine.old ≡ (E.machine engine.old).defined [] }
+    requires fits { IsFor (E.machine engine.old).pins schedule.now }
     ensures { Writes (O.written out.old) (O.written out.new) (O.faults out.old) (O.faults out.new) result
-        (trace_text (E.item_list engine.old) (E.array_list engine.old) (machine_state (machine_of (E.pin_list engine.old) (E.item_list engine.old) (E.array_list engine.old) (E.defined engine.old)) schedule.now) edges) }
+        (trace_text (E.machine engine.old).items (E.machine engine.old).arrays (state_at (course_of (E.machine engine.old) schedule.now)) edges) }
 {
     match write_trace(alloc, engine, schedule, edges, out) {
         Ok(()) => Ok(()),

@@ -3,7 +3,7 @@ ghost use Rattle.std.specs.Prelude.{◌≡◌, ◌<◌, ◌^◌, length, IfOk};
 ghost use Rattle.lisa_engine.specs.PinValues.{IsFor};
 ghost use Rattle.lisa_outcomes.specs.RunViews.{bytes_of};
 ghost use Rattle.lisa_outcomes.specs.Stages.{Finds};
-ghost use Rattle.engine_commands.specs.Machines.{IsSchedule, IsNoSchedule, schedule_bytes};
+ghost use Rattle.engine_commands.specs.Schedules.{IsSchedule, IsNoSchedule, schedule_bytes};
 ghost use Rattle.engine_commands.specs.Unread.{unscheduled_end};
 
 use lisa_engine::{Item, Schedule, ScheduleFault, read_schedule};

@@ -3,8 +3,8 @@ ghost use Rattle.std.specs.Prelude.{◌≡◌, ◌≤◌, [], Some};
 ghost use Rattle.lisa_io.specs.Causes.{Rose};
 ghost use Rattle.lisa_engine.specs.PinValues.{IsFor};
 ghost use Rattle.lisa_outcomes.specs.Ends.{Ends};
-ghost use Rattle.engine_commands.specs.Machines.{machine_of};
-ghost use Rattle.engine_commands.specs.Sessions.{course_under, session_outcome, IsCutOff, end_of};
+ghost use Rattle.lisa_engine.specs.Machines.{course_of};
+ghost use Rattle.engine_commands.specs.Sessions.{session_outcome, IsCutOff, end_of};
 
 use lisa_debug::{SessionEnd, answer_input};
 use lisa_engine::{Engine, Schedule};
@@ -32,11 +32,11 @@ pub fn answer_under<E: Engine + Drop, I: Source, O: Flush>(
     input: &mut I,
     out: &mut O,
 ) -> Result<(), End>
-    requires first { E.present engine ≡ E.defined engine [] }
-    requires fits { IsFor (E.pin_list engine) schedule }
-    ensures ends { let machine = machine_of (E.pin_list engine) (E.item_list engine) (E.array_list engine) (E.defined engine) in
-        Ends (λ bytes. I.left input.old ≡ Some bytes) (λ bytes outcome. outcome ≡ session_outcome (course_under machine schedule) bytes)
-        (Rose (I.faults input.old) (I.faults input.new) × IsCutOff (course_under machine schedule) (I.left input.old) (I.left input.new) (O.written out.old) (O.written out.new))
+    requires first { E.present engine ≡ (E.machine engine).defined [] }
+    requires fits { IsFor (E.machine engine).pins schedule }
+    ensures ends { let machine = E.machine engine in
+        Ends (λ bytes. I.left input.old ≡ Some bytes) (λ bytes outcome. outcome ≡ session_outcome (course_of machine schedule) bytes)
+        (Rose (I.faults input.old) (I.faults input.new) × IsCutOff (course_of machine schedule) (I.left input.old) (I.left input.new) (O.written out.old) (O.written out.new))
         (O.written out.old) (O.written out.new) (O.faults out.old) (O.faults out.new) result }
     ensures later { I.faults input.old ≤ I.faults input.new }
 {

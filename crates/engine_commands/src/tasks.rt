@@ -2,9 +2,9 @@
 ghost use Rattle.std.specs.Prelude.{◌≡◌, ◌≤◌, ◌<◌, ◌^◌, [], List, ℕ, length, false};
 ghost use Rattle.lisa_engine.specs.PinValues.{IsFor};
 ghost use Rattle.lisa_outcomes.specs.Ends.{Ends};
-ghost use Rattle.engine_commands.specs.Machines.{machine_of};
+ghost use Rattle.lisa_engine.specs.Machines.{course_of};
 ghost use Rattle.engine_commands.specs.Tasks.{takes_input, IsHeard, GivesTask, GivesUnder, HasFailed, IsCutUnder};
-ghost use Rattle.engine_commands.specs.Sessions.{course_under, IsCutOff};
+ghost use Rattle.engine_commands.specs.Sessions.{IsCutOff};
 
 use crate::running::{put_state, put_trace};
 use crate::scheduling::schedule_for;
@@ -34,11 +34,11 @@ fn do_under<E: Engine + Drop, I: Source, O: Flush>(
     input: &mut I,
     out: &mut O,
 ) -> Result<(), End>
-    requires first { E.present engine ≡ E.defined engine [] }
-    requires fits { IsFor (E.pin_list engine) schedule }
-    ensures ends { let machine = machine_of (E.pin_list engine) (E.item_list engine) (E.array_list engine) (E.defined engine) in
+    requires first { E.present engine ≡ (E.machine engine).defined [] }
+    requires fits { IsFor (E.machine engine).pins schedule }
+    ensures ends { let machine = E.machine engine in
         Ends (IsHeard task (I.left input.old)) (λ bytes. GivesTask task machine bytes schedule)
-        (HasFailed task (I.faults input.old) (I.faults input.new) × IsCutOff (course_under machine schedule) (I.left input.old) (I.left input.new) (O.written out.old) (O.written out.new))
+        (HasFailed task (I.faults input.old) (I.faults input.new) × IsCutOff (course_of machine schedule) (I.left input.old) (I.left input.new) (O.written out.old) (O.written out.new))
         (O.written out.old) (O.written out.new) (O.faults out.old) (O.faults out.new) result }
     ensures input { takes_input task ≡ false → (I.left input.new ≡ I.left input.old) × (I.faults input.new ≡ I.faults input.old) }
     ensures later { I.faults input.old ≤ I.faults input.new }
@@ -59,9 +59,9 @@ pub fn do_task<E: Engine + Drop, I: Source, O: Flush>(
     input: &mut I,
     out: &mut O,
 ) -> Result<(), End>
-    requires first { E.present engine ≡ E.defined engine [] }
+    requires first { E.present engine ≡ (E.machine engine).defined [] }
     requires short { length schedule.now < 2 ^ 32 }
-    ensures ends { let machine = machine_of (E.pin_list engine) (E.item_list engine) (E.array_list engine) (E.defined engine) in
+    ensures ends { let machine = E.machine engine in
         Ends (IsHeard task (I.left input.old)) (GivesUnder task machine schedule.now)
         (HasFailed task (I.faults input.old) (I.faults input.new) × IsCutUnder machine schedule.now (I.left input.old) (I.left input.new) (O.written out.old) (O.written out.new))
         (O.written out.old) (O.written out.new) (O.faults out.old) (O.faults out.new) result }

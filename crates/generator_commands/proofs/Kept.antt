@@ -10,7 +10,8 @@ use Rattle.lisa_outcomes.specs.Outcomes.{Outcome, Finished}
 use Rattle.lisa_outcomes.specs.Writes.{Writes}
 use Rattle.lisa_outcomes.specs.Replies.{Replies}
 use Rattle.lisa_outcomes.proofs.Writing.{written_replies}
-use Rattle.engine_commands.specs.Machines.{Machine, machine_state, IsSchedule}
+use Rattle.lisa_engine.specs.Machines.{Machine, course_of, state_at}
+use Rattle.engine_commands.specs.Schedules.{IsSchedule}
 use Rattle.generator_commands.specs.declared.reports.Report.{Report}
 use Rattle.generator_commands.specs.Reports.{final_text}
 
@@ -19,10 +20,10 @@ pub no_lines : (pins : List Item) → IsSchedule pins [] []
 no_lines pins = refl
 
 pub kept_digest : (m : Machine) (edges : ℕ) (lines : List Line) (start text : List ℕ) → lines ≡ [] → start ≡ []
-    → Appends (Some start) (Some text) (state_text m.items m.arrays edges (machine_state m lines edges)) → sha256 text ≡ sha256 (final_text m edges)
+    → Appends (Some start) (Some text) (state_text m.items m.arrays edges (state_at (course_of m lines) edges)) → sha256 text ≡ sha256 (final_text m edges)
 kept_digest m edges lines start text none empty appends = ap sha256
-    (appends ∙ ap (λ (s : List ℕ). s ++ state_text m.items m.arrays edges (machine_state m lines edges)) empty
-    ∙ ap (λ (l : List Line). state_text m.items m.arrays edges (machine_state m l edges)) none)
+    (appends ∙ ap (λ (s : List ℕ). s ++ state_text m.items m.arrays edges (state_at (course_of m lines) edges)) empty
+    ∙ ap (λ (l : List Line). state_text m.items m.arrays edges (state_at (course_of m l) edges)) none)
 
 -- reports with the same parts
 pub report_is : (r s : Report) → r.cells ≡ s.cells → r.edges ≡ s.edges → r.image ≡ s.image → r.state ≡ s.state → r.clock ≡ s.clock → r ≡ s

@@ -4,13 +4,13 @@ use Rattle.sha2.specs.Sha256.{sha256}
 use Rattle.lisa_engine.specs.Text.{state_text}
 use Rattle.lisa_object.specs.Texts.{digest_digits, image_text}
 use Rattle.lisa_object.specs.declared.parts.Stamped.{Stamped}
-use Rattle.engine_commands.specs.Machines.{Machine, machine_state}
+use Rattle.lisa_engine.specs.Machines.{Machine, course_of, state_at}
 use Rattle.description_commands.specs.Checks.{count_line}
 use Rattle.generator_commands.specs.declared.reports.Report.{Report}
 
 -- the text of a machine's state after so many edges in which all pins are 0
 abbrev pub final_text : Machine → ℕ → List ℕ
-final_text m edges = state_text m.items m.arrays edges (machine_state m [] edges)
+final_text m edges = state_text m.items m.arrays edges (state_at (course_of m []) edges)
 
 -- a label and a digest, on a line
 abbrev pub digest_line : List ℕ → List ℕ → List ℕ

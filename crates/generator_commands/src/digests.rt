@@ -2,7 +2,7 @@
 ghost use Rattle.std.specs.Prelude.{◌≡◌, [], List, ℕ, Some, Err, IfOk};
 ghost use Rattle.sha2.specs.Sha256.{sha256};
 ghost use Rattle.lisa_engine.specs.declared.image.MakeFault.TheVariants as makes;
-ghost use Rattle.engine_commands.specs.Machines.{Machine, machine_of};
+ghost use Rattle.lisa_engine.specs.Machines.{Machine};
 ghost use Rattle.generator_commands.specs.Reports.{final_text};
 
 use engine_commands::{put_state, schedule_for};
@@ -53,8 +53,8 @@ pub fn state_digest<E: Engine>(
     engine: &mut E,
     edges: u32,
 ) -> Result<[u8; 32], NoMemory>
-    requires { E.present engine.old ≡ E.defined engine.old [] }
-    ensures { IfOk result (λ digest. digest ≡ sha256 (final_text (machine_of (E.pin_list engine.old) (E.item_list engine.old) (E.array_list engine.old) (E.defined engine.old)) edges)) }
+    requires { E.present engine.old ≡ (E.machine engine.old).defined [] }
+    ensures { IfOk result (λ digest. digest ≡ sha256 (final_text (E.machine engine.old) edges)) }
 {
     let schedule = match schedule_for(alloc, &[], engine.pins()) {
         Ok(schedule) => schedule,
@@ -74,9 +74,9 @@ pub fn made_digest<E: Engine + Drop>(
     made: Result<E, MakeFault>,
     edges: u32,
 ) -> Result<[u8; 32], NoMemory>
-    requires first { IfOk made (λ e. E.present e ≡ E.defined e []) }
+    requires first { IfOk made (λ e. E.present e ≡ (E.machine e).defined []) }
     requires there { (name : List ℕ) → made ≡ Err (makes.NoSuchMemory name) → ⊥ }
-    ensures { (machine : Machine) → IfOk made (λ e. machine_of (E.pin_list e) (E.item_list e) (E.array_list e) (E.defined e) ≡ machine)
+    ensures { (machine : Machine) → IfOk made (λ e. E.machine e ≡ machine)
         → IfOk result (λ digest. digest ≡ sha256 (final_text machine edges)) }
 {
     match made {

@@ -13,7 +13,6 @@ ghost use Rattle.verilog_text.specs.Trees.{module_tree};
 ghost use Rattle.verilog_text.specs.Clockable.{IsClockable};
 ghost use Rattle.lisa_outcomes.specs.Outcomes.{Finished};
 ghost use Rattle.lisa_outcomes.specs.Replies.{Replies};
-ghost use Rattle.engine_commands.specs.Machines.{machine_of};
 ghost use Rattle.checked_descriptions.specs.Checked.{AfterChecks};
 ghost use Rattle.checked_descriptions.specs.ToolViews.{checked_of, AreTools};
 ghost use Rattle.description_commands.specs.Runs.{described_machine};
@@ -74,9 +73,9 @@ fn report_on<E: Engine>(
     requires kept { IsImage image.now.image }
     requires found { missing_memory (arrays_of (checked_of tools.now).tree) image.now.image ≡ None }
     requires digest { image.now.digest ≡ digest_of (checked_of tools.now).tree }
-    requires first { E.present engine.old ≡ E.defined engine.old [] }
+    requires first { E.present engine.old ≡ (E.machine engine.old).defined [] }
     ensures { IfOk result (λ report. report ≡ report_of plan.count plan.edges (stamped (checked_of tools.now).tree image.now.image) (described_machine (checked_of tools.now) image.now.image)
-        (machine_of (E.pin_list engine.old) (E.item_list engine.old) (E.array_list engine.old) (E.defined engine.old))) }
+        (E.machine engine.old)) }
 {
     let clock = state_digest(alloc, engine, plan.edges)?;
     let state = described_digest(alloc, tools, &image.image, plan.edges)?;
@@ -103,9 +102,9 @@ fn soak_made<E: Engine + Drop, O: Sink>(
     requires kept { IsImage image.now.image }
     requires found { missing_memory (arrays_of (checked_of tools.now).tree) image.now.image ≡ None }
     requires digest { image.now.digest ≡ digest_of (checked_of tools.now).tree }
-    requires first { E.present engine ≡ E.defined engine [] }
+    requires first { E.present engine ≡ (E.machine engine).defined [] }
     ensures { Replies (λ outcome. outcome ≡ Finished (report_text (report_of plan.count plan.edges (stamped (checked_of tools.now).tree image.now.image) (described_machine (checked_of tools.now) image.now.image)
-        (machine_of (E.pin_list engine) (E.item_list engine) (E.array_list engine) (E.defined engine)))))
+        (E.machine engine))))
         (O.written out.old) (O.written out.new) (O.faults out.old) (O.faults out.new) result }
 {
     let report = match report_on(alloc, tools, &mut engine, image, plan) {

@@ -12,7 +12,8 @@ use Rattle.lisa_engine.specs.declared.parts.ArrayItem.{ArrayItem}
 use Rattle.lisa_outcomes.specs.Outcomes.{Outcome, Finished, passed, stopped}
 use Rattle.engine_commands.specs.declared.tasks.Task.{Task}
 use Rattle.engine_commands.specs.declared.tasks.Task.TheVariants as tasks
-use Rattle.engine_commands.specs.Machines.{Machine, machine_of, IsSchedule}
+use Rattle.lisa_engine.specs.Machines.{Machine, machine_of}
+use Rattle.engine_commands.specs.Schedules.{IsSchedule}
 use Rattle.engine_commands.specs.Tasks.{takes_input, GivesTask, GivesUnder}
 use Rattle.engine_commands.specs.Making.{GivesMade}
 

@@ -19,7 +19,8 @@ use Rattle.lisa_outcomes.specs.Outcomes.{Outcome}
 use Rattle.engine_commands.specs.declared.tasks.Task.{Task}
 use Rattle.engine_commands.specs.Images.{IsImageOf, memories_of}
 use Rattle.engine_commands.specs.Tasks.{takes_input}
-use Rattle.engine_commands.specs.Machines.{Machine, machine_of, IsSchedule}
+use Rattle.lisa_engine.specs.Machines.{Machine, machine_of}
+use Rattle.engine_commands.specs.Schedules.{IsSchedule}
 use Rattle.engine_commands.specs.Making.{GivesMade}
 use Rattle.checked_descriptions.specs.Checked.{Checked}
 use Rattle.description_commands.specs.Runs.{described_machine}

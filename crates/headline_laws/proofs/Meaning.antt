@@ -10,7 +10,8 @@ use Rattle.lisa_engine.specs.ScheduleLine.{Line}
 use Rattle.lisa_outcomes.specs.Outcomes.{Outcome, Finished, passed, stopped}
 use Rattle.lisa_outcomes.specs.RunFiles.{RunBytes}
 use Rattle.engine_commands.specs.declared.tasks.Task.{Task}
-use Rattle.engine_commands.specs.Machines.{Machine, machine_of, IsSchedule, schedule_bytes}
+use Rattle.lisa_engine.specs.Machines.{Machine, machine_of}
+use Rattle.engine_commands.specs.Schedules.{IsSchedule, schedule_bytes}
 use Rattle.engine_commands.specs.Tasks.{GivesTask}
 use Rattle.checked_descriptions.specs.Checked.{Checked, IsChecked}
 use Rattle.checked_descriptions.specs.DescriptionImages.{IsImageFor}

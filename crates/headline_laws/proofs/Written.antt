@@ -15,7 +15,7 @@ use Rattle.lisa_outcomes.specs.Outcomes.{Outcome, Finished, Refusing, passed, st
 use Rattle.lisa_outcomes.specs.RunFiles.{RunBytes}
 use Rattle.engine_commands.specs.declared.tasks.Task.{Task}
 use Rattle.engine_commands.specs.Images.{IsImageOf, memories_of}
-use Rattle.engine_commands.specs.Machines.{Machine, schedule_bytes}
+use Rattle.engine_commands.specs.Schedules.{schedule_bytes}
 use Rattle.engine_commands.specs.Tasks.{takes_input}
 use Rattle.engine_commands.specs.Making.{GivesMade}
 use Rattle.checked_descriptions.specs.Checked.{Checked, IsChecked, IsFaulty, AfterChecks}

@@ -19,7 +19,7 @@ use Rattle.engine_commands.specs.declared.tasks.Task.{Task}
 use Rattle.engine_commands.specs.declared.tasks.Task.TheVariants as tasks
 use Rattle.engine_commands.specs.Images.{IsImageOf}
 use Rattle.engine_commands.specs.Tasks.{takes_input}
-use Rattle.engine_commands.specs.Machines.{IsSchedule, schedule_bytes}
+use Rattle.engine_commands.specs.Schedules.{IsSchedule, schedule_bytes}
 use Rattle.checked_descriptions.specs.Descriptions.{AfterSpelling}
 use Rattle.checked_descriptions.specs.Checked.{IsChecked}
 use Rattle.checked_descriptions.specs.DescriptionImages.{IsImageFor}

@@ -5,7 +5,7 @@ use Rattle.std.specs.List.{onto_first}
 use Rattle.std.proofs.lemmas.Grind.{fold-append}
 use Rattle.std.proofs.lemmas.Bool.{eqb-true}
 use Rattle.std.proofs.lemmas.List.{append-nil, take_all, take-append-le, get_or_push}
-use Rattle.lisa_debug.specs.Courses.{Course}
+use Rattle.lisa_engine.specs.Machines.{Course}
 use Rattle.lisa_debug.specs.Answers.{Answer, answer}
 use Rattle.lisa_debug.specs.Sessions.{first_answer, next_answer, answered, answers, parts, whole_lines, rest_of, last_line, lines_of}
 use Rattle.lisa_debug.specs.declared.command.Go.{Go}

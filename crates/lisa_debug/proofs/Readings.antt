@@ -11,7 +11,7 @@ use Rattle.lisa_engine.specs.Traces.{PutsUnless}
 use Rattle.lisa_engine.specs.declared.trace.TraceEnd.{TraceEnd}
 use Rattle.lisa_engine.specs.declared.trace.TraceEnd.TheVariants as answer
 use Rattle.lisa_debug.specs.Ends.{session_end}
-use Rattle.lisa_debug.specs.Courses.{Course}
+use Rattle.lisa_engine.specs.Machines.{Course}
 use Rattle.lisa_debug.specs.Answers.{Answer, answer}
 use Rattle.lisa_debug.specs.Sessions.{next_answer, followed, answers, whole_lines, rest_of, last_line, lines_of, most_input}
 use Rattle.lisa_debug.specs.Taking.{Stands, Takes, Finishes}

@@ -13,49 +13,48 @@ use Rattle.lisa_engine.specs.declared.parts.ArrayItem.{ArrayItem}
 use Rattle.lisa_engine.specs.declared.parts.Touch.{Touch}
 use Rattle.lisa_engine.proofs.Played.{values_at, pins_fit, entries_fit}
 use Rattle.lisa_engine.proofs.Journal.{leads_back}
-use Rattle.lisa_debug.specs.Courses.{Course, course_of, entries_to, state_at}
+use Rattle.lisa_engine.specs.Machines.{Machine, Course, course_of, entries_to, state_at}
 use Rattle.lisa_debug.specs.Kept.{restored, LeadsOver, IsPlayed, HasMade, IsLive, CameTo}
 use Rattle.lisa_debug.specs.declared.journal.Entry.{Entry}
 use Rattle.lisa_debug.specs.declared.journal.Journal.{Journal}
 
-pub same_course : {p q i j : List Item} {a b : List ArrayItem} {d e : List (List ℕ) → State} (lines : List Line)
-    → p ≡ q → i ≡ j → a ≡ b → d ≡ e → course_of p i a d lines ≡ course_of q j b e lines
-same_course lines pins items arrays defined = λ k. course_of (pins k) (items k) (arrays k) (defined k) lines
+pub same_course : {m n : Machine} (lines : List Line) → m ≡ n → course_of m lines ≡ course_of n lines
+same_course lines same = λ k. course_of (same k) lines
 
-pub played_values : (course : Course) (edge place : ℕ) (given : List ℕ) → IsPlayed course edge place given → given ≡ pins_at (length course.pins) course.lines edge
-played_values course edge place given p = p.values ∙ values_at (length course.pins) course.lines edge place p.after
+pub played_values : (course : Course) (edge place : ℕ) (given : List ℕ) → IsPlayed course edge place given → given ≡ pins_at (length course.machine.pins) course.lines edge
+played_values course edge place given p = p.values ∙ values_at (length course.machine.pins) course.lines edge place p.after
 
-pub played_fit : (course : Course) (edge place : ℕ) (given : List ℕ) → IsFor course.pins course.lines → IsPlayed course edge place given → IsFitting course.pins given
-played_fit course edge place given for p = subst (IsFitting course.pins) (sym (played_values course edge place given p)) (pins_fit course.pins course.lines edge for)
+pub played_fit : (course : Course) (edge place : ℕ) (given : List ℕ) → IsFor course.machine.pins course.lines → IsPlayed course edge place given → IsFitting course.machine.pins given
+played_fit course edge place given for p = subst (IsFitting course.machine.pins) (sym (played_values course edge place given p)) (pins_fit course.machine.pins course.lines edge for)
 
 -- the next edge with the values that were played
-pub has_made : (course now : Course) (before after : State) (touches : List Touch) (edge place : ℕ) (values row : List ℕ) → IsFor course.pins course.lines
+pub has_made : (course now : Course) (before after : State) (touches : List Touch) (edge place : ℕ) (values row : List ℕ) → IsFor course.machine.pins course.lines
     → IsPlayed course (edge + 1) place values → before ≡ state_at course edge
-    → ((l : List (List ℕ)) → AreEntries course.pins l → before ≡ course.defined l → after ≡ now.defined (l ++ values ∷ []))
-    → Tracks course.arrays before.cells after.cells touches → now ≡ course → row ≡ before.items → HasMade course now before after touches edge row
+    → ((l : List (List ℕ)) → AreEntries course.machine.pins l → before ≡ course.machine.defined l → after ≡ now.machine.defined (l ++ values ∷ []))
+    → Tracks course.machine.arrays before.cells after.cells touches → now ≡ course → row ≡ before.items → HasMade course now before after touches edge row
 has_made course now before after touches edge place values row for played is_before leads tracks same kept = record {
   same = same;
   kept = kept;
-  led = leads (entries_to course edge) (entries_fit course.pins course.lines edge for) is_before
-      ∙ (λ k. (same k).defined (entries_to course edge ++ values_are k ∷ []));
+  led = leads (entries_to course edge) (entries_fit course.machine.pins course.lines edge for) is_before
+      ∙ (λ k. (same k).machine.defined (entries_to course edge ++ values_are k ∷ []));
   tracks = tracks;
 }
   where
     next : edge + 1 ≡ suc edge
     next = omega arith
 
-    values_are : values ≡ pins_at (length course.pins) course.lines (suc edge)
-    values_are = played_values course (edge + 1) place values played ∙ ap (pins_at (length course.pins) course.lines) next
+    values_are : values ≡ pins_at (length course.machine.pins) course.lines (suc edge)
+    values_are = played_values course (edge + 1) place values played ∙ ap (pins_at (length course.machine.pins) course.lines) next
 
 -- what is kept of the edge leads back over it
 pub leads_over : (course now : Course) (before after : State) (touches : List Touch) (edge : ℕ) (row : List ℕ) (entry : Entry)
     → HasMade course now before after touches edge row → before ≡ state_at course edge
-    → restored entry.changes.items after.items ≡ row → entry.touches.items ≡ touches → All (λ change. change.item < length course.items) entry.changes.items
+    → restored entry.changes.items after.items ≡ row → entry.touches.items ≡ touches → All (λ change. change.item < length course.machine.items) entry.changes.items
     → LeadsOver course edge entry
 leads_over course now before after touches edge row entry made is_before back same places = record {
   places = places;
-  back = subst (λ given. LeadsBack course.arrays course.defined given entry.touches.items (entries_to course edge) (pins_at (length course.pins) course.lines (suc edge))) (sym given_is)
-      (subst (λ ts. LeadsBack course.arrays course.defined before.items ts (entries_to course edge) (pins_at (length course.pins) course.lines (suc edge))) (sym same)
+  back = subst (λ given. LeadsBack course.machine given entry.touches.items (entries_to course edge) (pins_at (length course.machine.pins) course.lines (suc edge))) (sym given_is)
+      (subst (λ ts. LeadsBack course.machine before.items ts (entries_to course edge) (pins_at (length course.machine.pins) course.lines (suc edge))) (sym same)
       (leads_back is_before made.led made.tracks));
 }
   where
@@ -79,13 +78,13 @@ kept_less course entries n le all k d within =
     subst (LeadsOver course k) (sym (get_or-take n entries k d less)) (all k d (omega arith))
 
 -- the condition for going back over the last edge
-pub takes_back : (course : Course) (present : State) (given : List ℕ) (edge : ℕ) (entry : Entry) → IsFor course.pins course.lines → present ≡ state_at course (suc edge) → LeadsOver course edge entry
+pub takes_back : (course : Course) (present : State) (given : List ℕ) (edge : ℕ) (entry : Entry) → IsFor course.machine.pins course.lines → present ≡ state_at course (suc edge) → LeadsOver course edge entry
     → given ≡ restored entry.changes.items present.items
-    → TakesBack course.pins course.arrays course.defined present given entry.touches.items (entries_to course edge) (pins_at (length course.pins) course.lines (suc edge))
+    → TakesBack course.machine present given entry.touches.items (entries_to course edge) (pins_at (length course.machine.pins) course.lines (suc edge))
 takes_back course present given edge entry for now over is = record {
-  entries = entries_fit course.pins course.lines (suc edge) for;
+  entries = entries_fit course.machine.pins course.lines (suc edge) for;
   now = now;
-  back = subst (λ g. LeadsBack course.arrays course.defined g entry.touches.items (entries_to course edge) (pins_at (length course.pins) course.lines (suc edge)))
+  back = subst (λ g. LeadsBack course.machine g entry.touches.items (entries_to course edge) (pins_at (length course.machine.pins) course.lines (suc edge)))
       (sym (is ∙ ap (λ s. restored entry.changes.items s.items) now)) over.back;
 }
 
@@ -160,8 +159,8 @@ live_less {course = course} {after = after} {journal = journal} {kept = kept} a 
 -- what `retreat` asks for, after as many edges as there are entries
 pub may_retreat : {course : Course} {present : State} {journal : Journal} (given : List ℕ) (entry : Entry) → IsLive course present journal → 0 < length journal.entries.items
     → entry ≡ get_or journal.entries.items (length journal.entries.items - 1) entry → given ≡ restored entry.changes.items present.items
-    → TakesBack course.pins course.arrays course.defined present given entry.touches.items (entries_to course (length journal.entries.items - 1))
-    (pins_at (length course.pins) course.lines (suc (length journal.entries.items - 1)))
+    → TakesBack course.machine present given entry.touches.items (entries_to course (length journal.entries.items - 1))
+    (pins_at (length course.machine.pins) course.lines (suc (length journal.entries.items - 1)))
 may_retreat {course = course} {present = present} {journal = journal} given entry a some is given_is =
     let last : length journal.entries.items ≡ suc (length journal.entries.items - 1) = omega arith in
     takes_back course present given (length journal.entries.items - 1) entry a.schedule (a.now ∙ ap (state_at course) last)

@@ -10,7 +10,7 @@ use Rattle.lisa_io.proofs.Known.{appends_more}
 use Rattle.lisa_engine.specs.State.{State}
 use Rattle.lisa_engine.specs.Traces.{PutsUnless}
 use Rattle.lisa_engine.specs.declared.trace.TraceEnd.{TraceEnd}
-use Rattle.lisa_debug.specs.Courses.{Course}
+use Rattle.lisa_engine.specs.Machines.{Course}
 use Rattle.lisa_debug.specs.Answers.{Answer, answer}
 use Rattle.lisa_debug.specs.Kept.{CameTo}
 use Rattle.lisa_debug.specs.Sessions.{followed, next_answer, answers, whole_lines, rest_of}

@@ -7,7 +7,7 @@ use Rattle.std.proofs.Math.Seq.{take-append-add}
 use Rattle.std.proofs.lemmas.Bool.{lt-ltb, le-ltb}
 use Rattle.std.proofs.lemmas.List.{append-nil, take-append-le, take_all}
 use Rattle.lisa_io.specs.Contents.{AppendsFront}
-use Rattle.lisa_debug.specs.Courses.{Course}
+use Rattle.lisa_engine.specs.Machines.{Course}
 use Rattle.lisa_debug.specs.Answers.{Answer}
 use Rattle.lisa_debug.specs.Sessions.{answers, whole_lines, lines_of, most_input, goes_on, first_bytes, is_too_long, session_text}
 use Rattle.lisa_debug.specs.Runs.{IsWhole, AreHeard, GoesOn, IsOver, Ran, Gives}

@@ -6,7 +6,7 @@ use Rattle.lisa_engine.specs.State.{cells_of}
 use Rattle.lisa_engine.specs.Text.{newline, value_text, edge_line, cell_text, state_text}
 use Rattle.lisa_engine.specs.declared.parts.Item.{Item}
 use Rattle.lisa_engine.specs.declared.parts.ArrayItem.{ArrayItem}
-use Rattle.lisa_debug.specs.Courses.{Course, state_at}
+use Rattle.lisa_engine.specs.Machines.{Course, state_at}
 use Rattle.lisa_debug.specs.Commands.{command_of}
 use Rattle.lisa_debug.specs.declared.command.Command.{Command}
 use Rattle.lisa_debug.specs.declared.command.Command.TheVariants.{Step, Until, Show, ShowItem, ShowCell, Where, ListItems, Back, Quit}
@@ -58,11 +58,11 @@ list_line item = item.name ++ (codes " " ++ (decimal item.width ++ newline))
 abbrev pub told : Course → ℕ → Command → List ℕ
 told course edge (Step count) = edge_line edge
 told course edge (Until item value count) = met_line edge (is_met course item value edge)
-told course edge Show = state_text course.items course.arrays edge (state_at course edge)
-told course edge (ShowItem item) = item_name course.items item ++ value_text (slice_index (state_at course edge).items item)
-told course edge (ShowCell array index) = cell_text (array_name course.arrays array) index (slice_index (cells_of (state_at course edge) array) index)
+told course edge Show = state_text course.machine.items course.machine.arrays edge (state_at course edge)
+told course edge (ShowItem item) = item_name course.machine.items item ++ value_text (slice_index (state_at course edge).items item)
+told course edge (ShowCell array index) = cell_text (array_name course.machine.arrays array) index (slice_index (cells_of (state_at course edge) array) index)
 told course edge Where = edge_line edge
-told course edge ListItems = flat_map list_line course.items
+told course edge ListItems = flat_map list_line course.machine.items
 told course edge (Back count) = edge_line edge
 told course edge Quit = []
 
@@ -85,4 +85,4 @@ answer_of course edge (Ok command) =
 
 -- the answer to a line, after so many edges
 abbrev pub answer : Course → ℕ → List ℕ → Answer
-answer course edge line = answer_of course edge (command_of course.items course.arrays edge line)
+answer course edge line = answer_of course edge (command_of course.machine.items course.machine.arrays edge line)

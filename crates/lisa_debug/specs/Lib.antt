@@ -1,4 +1,3 @@
-pub mod Courses
 pub mod Kept
 pub mod Commands
 pub mod Answers

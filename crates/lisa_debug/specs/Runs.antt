@@ -3,7 +3,7 @@ use Rattle.std.specs.Prelude.{ℕ, ◌≤◌, ◌≡◌, ◌+◌, ◌⊎◌, Lis
 use Rattle.std.specs.Io.KnownBytes.{Appends, Consumes, IsAtEnd}
 use Rattle.lisa_io.specs.Causes.{Rose}
 use Rattle.lisa_io.specs.Contents.{AppendsFront}
-use Rattle.lisa_debug.specs.Courses.{Course}
+use Rattle.lisa_engine.specs.Machines.{Course}
 use Rattle.lisa_debug.specs.Sessions.{answers, whole_lines, lines_of, most_input, is_too_long, session_text}
 use Rattle.lisa_debug.specs.declared.command.Go.TheVariants.{On, Quit}
 use Rattle.lisa_debug.specs.declared.ends.SessionEnd.{SessionEnd}

@@ -1,7 +1,7 @@
 -- What a session answers to an input, from the states of its course alone.
 use Rattle.std.specs.Prelude.{ℕ, ◌+◌, ◌-◌, ◌==◌, ◌&&◌, List, [], ◌∷◌, ◌++◌, length, take, fold, slice_index_or, nat_lt, Bool, true, false, if◌then◌else◌}
 use Rattle.std.specs.List.{slice_split}
-use Rattle.lisa_debug.specs.Courses.{Course}
+use Rattle.lisa_engine.specs.Machines.{Course}
 use Rattle.lisa_debug.specs.Answers.{Answer, answer}
 use Rattle.lisa_debug.specs.declared.command.Go.{Go}
 use Rattle.lisa_debug.specs.declared.command.Go.TheVariants.{On, Quit}

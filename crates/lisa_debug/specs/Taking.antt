@@ -6,7 +6,7 @@ use Rattle.lisa_io.specs.Contents.{AppendsFront}
 use Rattle.lisa_engine.specs.State.{State}
 use Rattle.lisa_engine.specs.declared.trace.TraceEnd.{TraceEnd}
 use Rattle.lisa_engine.specs.declared.trace.TraceEnd.TheVariants.{WriteFault}
-use Rattle.lisa_debug.specs.Courses.{Course}
+use Rattle.lisa_engine.specs.Machines.{Course}
 use Rattle.lisa_debug.specs.Kept.{CameTo}
 use Rattle.lisa_debug.specs.Sessions.{answers, whole_lines, rest_of, lines_of}
 use Rattle.lisa_debug.specs.declared.command.Go.{Go}

@@ -3,7 +3,7 @@ ghost use Rattle.std.specs.Prelude.{◌≡◌, ◌⊎◌, ◌<◌, ◌≤◌, �
 ghost use Rattle.std.specs.Io.KnownBytes.{Appends, Consumes, IsAtEnd, Keeps};
 ghost use Rattle.lisa_io.specs.Causes.{Rose};
 ghost use Rattle.lisa_engine.specs.PinValues.{IsFor};
-ghost use Rattle.lisa_debug.specs.Courses.{Course, course_of};
+ghost use Rattle.lisa_engine.specs.Machines.{Course, course_of};
 ghost use Rattle.lisa_debug.specs.Kept.{IsLive};
 ghost use Rattle.lisa_debug.specs.Sessions.{answers, whole_lines};
 ghost use Rattle.lisa_debug.specs.declared.command.Go.TheVariants.{On};
@@ -29,14 +29,14 @@ fn end_line<E: Engine + Drop, O: Sink>(
     line: &mut Vec<u8>,
     out: &mut O,
 ) -> Result<Go, TraceEnd>
-    requires { IsLive (course_of (E.pin_list session.old.engine) (E.item_list session.old.engine) (E.array_list session.old.engine) (E.defined session.old.engine) session.old.schedule)
+    requires { IsLive (course_of (E.machine session.old.engine) session.old.schedule)
         (E.present session.old.engine) session.old.journal }
-    ensures takes { let before = course_of (E.pin_list session.old.engine) (E.item_list session.old.engine) (E.array_list session.old.engine) (E.defined session.old.engine) session.old.schedule in
-        let now = course_of (E.pin_list session.new.engine) (E.item_list session.new.engine) (E.array_list session.new.engine) (E.defined session.new.engine) session.new.schedule in
+    ensures takes { let before = course_of (E.machine session.old.engine) session.old.schedule in
+        let now = course_of (E.machine session.new.engine) session.new.schedule in
         (course : Course) (start : Option (List ℕ)) (taken : List ℕ) → Stands course before (E.present session.old.engine) session.old.journal line.old.items taken
         → Appends start (O.written out.old) (answers course (whole_lines taken)).text
         → Takes course now (E.present session.new.engine) session.new.journal line.new.items (taken ++ 10 ∷ []) start (O.written out.new) result }
-    ensures live { OnOk result (IsLive (course_of (E.pin_list session.new.engine) (E.item_list session.new.engine) (E.array_list session.new.engine) (E.defined session.new.engine) session.new.schedule)
+    ensures live { OnOk result (IsLive (course_of (E.machine session.new.engine) session.new.schedule)
         (E.present session.new.engine) session.new.journal) }
     ensures fault { HasFault (O.faults out.old) (O.faults out.new) result }
 {
@@ -63,14 +63,14 @@ fn take_byte<E: Engine + Drop, O: Sink>(
     byte: u8,
     out: &mut O,
 ) -> Result<Go, TraceEnd>
-    requires { IsLive (course_of (E.pin_list session.old.engine) (E.item_list session.old.engine) (E.array_list session.old.engine) (E.defined session.old.engine) session.old.schedule)
+    requires { IsLive (course_of (E.machine session.old.engine) session.old.schedule)
         (E.present session.old.engine) session.old.journal }
-    ensures takes { let before = course_of (E.pin_list session.old.engine) (E.item_list session.old.engine) (E.array_list session.old.engine) (E.defined session.old.engine) session.old.schedule in
-        let now = course_of (E.pin_list session.new.engine) (E.item_list session.new.engine) (E.array_list session.new.engine) (E.defined session.new.engine) session.new.schedule in
+    ensures takes { let before = course_of (E.machine session.old.engine) session.old.schedule in
+        let now = course_of (E.machine session.new.engine) session.new.schedule in
         (course : Course) (start : Option (List ℕ)) (taken : List ℕ) → Stands course before (E.present session.old.engine) session.old.journal line.old.items taken
         → Appends start (O.written out.old) (answers course (whole_lines taken)).text
         → Takes course now (E.present session.new.engine) session.new.journal line.new.items (taken ++ byte ∷ []) start (O.written out.new) result }
-    ensures live { OnOk result (IsLive (course_of (E.pin_list session.new.engine) (E.item_list session.new.engine) (E.array_list session.new.engine) (E.defined session.new.engine) session.new.schedule)
+    ensures live { OnOk result (IsLive (course_of (E.machine session.new.engine) session.new.schedule)
         (E.present session.new.engine) session.new.journal) }
     ensures fault { HasFault (O.faults out.old) (O.faults out.new) result }
 {
@@ -87,14 +87,14 @@ fn take_bytes<E: Engine + Drop, O: Sink>(
     bytes: &[u8],
     out: &mut O,
 ) -> Result<Go, TraceEnd>
-    requires { IsLive (course_of (E.pin_list session.old.engine) (E.item_list session.old.engine) (E.array_list session.old.engine) (E.defined session.old.engine) session.old.schedule)
+    requires { IsLive (course_of (E.machine session.old.engine) session.old.schedule)
         (E.present session.old.engine) session.old.journal }
-    ensures takes { let before = course_of (E.pin_list session.old.engine) (E.item_list session.old.engine) (E.array_list session.old.engine) (E.defined session.old.engine) session.old.schedule in
-        let now = course_of (E.pin_list session.new.engine) (E.item_list session.new.engine) (E.array_list session.new.engine) (E.defined session.new.engine) session.new.schedule in
+    ensures takes { let before = course_of (E.machine session.old.engine) session.old.schedule in
+        let now = course_of (E.machine session.new.engine) session.new.schedule in
         (course : Course) (start : Option (List ℕ)) (taken : List ℕ) → Stands course before (E.present session.old.engine) session.old.journal line.old.items taken
         → Appends start (O.written out.old) (answers course (whole_lines taken)).text
         → Takes course now (E.present session.new.engine) session.new.journal line.new.items (taken ++ bytes.now) start (O.written out.new) result }
-    ensures live { OnOk result (IsLive (course_of (E.pin_list session.new.engine) (E.item_list session.new.engine) (E.array_list session.new.engine) (E.defined session.new.engine) session.new.schedule)
+    ensures live { OnOk result (IsLive (course_of (E.machine session.new.engine) session.new.schedule)
         (E.present session.new.engine) session.new.journal) }
     ensures fault { HasFault (O.faults out.old) (O.faults out.new) result }
 {
@@ -113,9 +113,9 @@ fn answer_rest<E: Engine + Drop, O: Sink>(
     line: &[u8],
     out: &mut O,
 ) -> Result<(), TraceEnd>
-    requires { IsLive (course_of (E.pin_list session.old.engine) (E.item_list session.old.engine) (E.array_list session.old.engine) (E.defined session.old.engine) session.old.schedule)
+    requires { IsLive (course_of (E.machine session.old.engine) session.old.schedule)
         (E.present session.old.engine) session.old.journal }
-    ensures finishes { let before = course_of (E.pin_list session.old.engine) (E.item_list session.old.engine) (E.array_list session.old.engine) (E.defined session.old.engine) session.old.schedule in
+    ensures finishes { let before = course_of (E.machine session.old.engine) session.old.schedule in
         (course : Course) (start : Option (List ℕ)) (taken : List ℕ) → Stands course before (E.present session.old.engine) session.old.journal line.now taken
         → Appends start (O.written out.old) (answers course (whole_lines taken)).text
         → Finishes course taken start (O.written out.new) result }
@@ -173,9 +173,9 @@ fn finish<E: Engine + Drop, O: Flush>(
     line: &[u8],
     out: &mut O,
 ) -> Result<(), SessionEnd>
-    requires { IsLive (course_of (E.pin_list session.old.engine) (E.item_list session.old.engine) (E.array_list session.old.engine) (E.defined session.old.engine) session.old.schedule)
+    requires { IsLive (course_of (E.machine session.old.engine) session.old.schedule)
         (E.present session.old.engine) session.old.journal }
-    ensures finishes { let before = course_of (E.pin_list session.old.engine) (E.item_list session.old.engine) (E.array_list session.old.engine) (E.defined session.old.engine) session.old.schedule in
+    ensures finishes { let before = course_of (E.machine session.old.engine) session.old.schedule in
         (course : Course) (start : Option (List ℕ)) (taken : List ℕ) → Stands course before (E.present session.old.engine) session.old.journal line.now taken
         → Appends start (O.written out.old) (answers course (whole_lines taken)).text
         → Finishes course taken start (O.written out.new) result }
@@ -195,10 +195,10 @@ fn answer_lines<E: Engine + Drop, I: Source, O: Flush>(
     input: &mut I,
     out: &mut O,
 ) -> Result<(), SessionEnd>
-    requires live { IsLive (course_of (E.pin_list session.old.engine) (E.item_list session.old.engine) (E.array_list session.old.engine) (E.defined session.old.engine) session.old.schedule)
+    requires live { IsLive (course_of (E.machine session.old.engine) session.old.schedule)
         (E.present session.old.engine) session.old.journal }
     requires first { length session.old.journal.entries.items ≡ 0 }
-    ensures ran { Ran (course_of (E.pin_list session.old.engine) (E.item_list session.old.engine) (E.array_list session.old.engine) (E.defined session.old.engine) session.old.schedule)
+    ensures ran { Ran (course_of (E.machine session.old.engine) session.old.schedule)
         (I.left input.old) (I.left input.new) (O.written out.old) (O.written out.new) result }
     ensures sent { IsSent (O.sent out.new) (O.written out.new) result }
     ensures causes { HasCauses (I.faults input.old) (I.faults input.new) (O.faults out.old) (O.faults out.new) result }
@@ -234,13 +234,13 @@ pub fn answer_input<E: Engine + Drop, I: Source, O: Flush>(
     input: &mut I,
     out: &mut O,
 ) -> Result<(), SessionEnd>
-    requires first { E.present engine ≡ E.defined engine [] }
-    requires schedule { IsFor (E.pin_list engine) schedule }
+    requires first { E.present engine ≡ (E.machine engine).defined [] }
+    requires schedule { IsFor (E.machine engine).pins schedule }
     // What it gives of any input, and of one whose bytes are told.
-    ensures ran { Ran (course_of (E.pin_list engine) (E.item_list engine) (E.array_list engine) (E.defined engine) schedule)
+    ensures ran { Ran (course_of (E.machine engine) schedule)
         (I.left input.old) (I.left input.new) (O.written out.old) (O.written out.new) result }
     ensures gives { (bytes : List ℕ) → I.left input.old ≡ Some bytes
-        → Gives (course_of (E.pin_list engine) (E.item_list engine) (E.array_list engine) (E.defined engine) schedule) bytes (O.written out.old) (O.written out.new) result }
+        → Gives (course_of (E.machine engine) schedule) bytes (O.written out.old) (O.written out.new) result }
     ensures sent { IsSent (O.sent out.new) (O.written out.new) result }
     ensures causes { HasCauses (I.faults input.old) (I.faults input.new) (O.faults out.old) (O.faults out.new) result }
 {

@@ -1,7 +1,7 @@
 // What a session keeps of the edges that it made.
 ghost use Rattle.std.specs.Prelude.{◌≡◌, ◌<◌, ◌+◌, List, IfOk, OnOk, length, All, take};
 ghost use Rattle.lisa_engine.specs.PinValues.{after_lines, IsPlayable, IsPlaceAfter, IsFor};
-ghost use Rattle.lisa_debug.specs.Courses.{course_of, state_at};
+ghost use Rattle.lisa_engine.specs.Machines.{course_of, state_at};
 ghost use Rattle.lisa_debug.specs.Kept.{restored, with_change, IsPlayed, HasMade};
 
 use lisa_engine::{Engine, Schedule, Touch};
@@ -32,7 +32,7 @@ pub(crate) struct Journal {
 
 // Writes the present values of the items.
 pub(crate) fn keep_row<E: Engine>(engine: &E, row: &mut [u64])
-    requires { length row.old ≡ length (E.item_list engine.now) }
+    requires { length row.old ≡ length (E.machine engine.now).items }
     ensures { row.new ≡ (E.present engine.now).items }
 {
     for place in 0..row.len() {
@@ -62,9 +62,9 @@ pub(crate) fn changes_since<E: Engine>(
     engine: &E,
     row: &[u64],
 ) -> Result<Vec<Change>, NoMemory>
-    requires { length row.now ≡ length (E.item_list engine.now) }
+    requires { length row.now ≡ length (E.machine engine.now).items }
     ensures back { IfOk result (λ v. restored v.items (E.present engine.now).items ≡ row.now) }
-    ensures places { IfOk result (λ v. All (λ change. change.item < length (E.item_list engine.now)) v.items) }
+    ensures places { IfOk result (λ v. All (λ change. change.item < length (E.machine engine.now).items) v.items) }
 {
     let mut changes = Vec::new(alloc);
     for item in 0..row.len() {
@@ -102,18 +102,18 @@ pub(crate) fn advance<E: Engine>(
     row: &mut [u64],
     pins: &mut [u64],
 ) -> usize
-    requires schedule { IsFor (E.pin_list engine.old) schedule.now }
+    requires schedule { IsFor (E.machine engine.old).pins schedule.now }
     requires limit { edge < 10000 }
-    requires now { let course = course_of (E.pin_list engine.old) (E.item_list engine.old) (E.array_list engine.old) (E.defined engine.old) schedule.now in
+    requires now { let course = course_of (E.machine engine.old) schedule.now in
         E.present engine.old ≡ state_at course edge }
-    requires played { let course = course_of (E.pin_list engine.old) (E.item_list engine.old) (E.array_list engine.old) (E.defined engine.old) schedule.now in
+    requires played { let course = course_of (E.machine engine.old) schedule.now in
         IsPlayed course edge next pins.old }
-    requires row { length row.old ≡ length (E.item_list engine.old) }
-    requires room { length pins.old ≡ length (E.pin_list engine.old) }
-    ensures made { let course = course_of (E.pin_list engine.old) (E.item_list engine.old) (E.array_list engine.old) (E.defined engine.old) schedule.now in
-        let now = course_of (E.pin_list engine.new) (E.item_list engine.new) (E.array_list engine.new) (E.defined engine.new) schedule.now in
+    requires row { length row.old ≡ length (E.machine engine.old).items }
+    requires room { length pins.old ≡ length (E.machine engine.old).pins }
+    ensures made { let course = course_of (E.machine engine.old) schedule.now in
+        let now = course_of (E.machine engine.new) schedule.now in
         HasMade course now (E.present engine.old) (E.present engine.new) (E.touch_list engine.new) edge row.new }
-    ensures played { let course = course_of (E.pin_list engine.old) (E.item_list engine.old) (E.array_list engine.old) (E.defined engine.old) schedule.now in
+    ensures played { let course = course_of (E.machine engine.old) schedule.now in
         IsPlayed course (edge + 1) result pins.new }
 {
     keep_row(engine, row);

@@ -2,7 +2,7 @@
 ghost use Rattle.std.specs.Prelude.{◌≡◌, ℕ, ◌<◌, ◌≤◌, ◌+◌, ◌-◌, [], IfOk, IfErr, OnOk, length};
 ghost use Rattle.lisa_io.specs.Contents.{Puts};
 ghost use Rattle.lisa_engine.specs.PinValues.{IsFor};
-ghost use Rattle.lisa_debug.specs.Courses.{Course, course_of};
+ghost use Rattle.lisa_engine.specs.Machines.{Course, course_of};
 ghost use Rattle.lisa_debug.specs.Kept.{IsLive, CameTo, IsPlayed};
 ghost use Rattle.lisa_debug.specs.Commands.{command_of, IsShown, IsWithin};
 ghost use Rattle.lisa_debug.specs.Answers.{edges_until, is_met, moved, told, goes, refusal_text, answer, answer_of};
@@ -42,19 +42,19 @@ pub trait Standing {
 }
 
 impl<E: Engine + Drop> Standing for Session<E> {
-    ghost course = { λ s. course_of (E.pin_list s.engine) (E.item_list s.engine) (E.array_list s.engine) (E.defined s.engine) s.schedule };
+    ghost course = { λ s. course_of (E.machine s.engine) s.schedule };
 
     ghost position = { λ s. length s.journal.entries.items };
 
-    ghost lives = { λ s. IsLive (course_of (E.pin_list s.engine) (E.item_list s.engine) (E.array_list s.engine) (E.defined s.engine) s.schedule) (E.present s.engine) s.journal };
+    ghost lives = { λ s. IsLive (course_of (E.machine s.engine) s.schedule) (E.present s.engine) s.journal };
 }
 
 impl<E: Engine + Drop> Session<E> {
     /// A session of an engine after no edge, with a schedule of its pins.
     pub fn make(alloc: Global, engine: E, schedule: Schedule) -> Result<Session<E>, NoMemory>
-        requires first { E.present engine ≡ E.defined engine [] }
-        requires schedule { IsFor (E.pin_list engine) schedule }
-        ensures course { IfOk result (λ s. ⟦<Session<E> as Standing>⟧.course s ≡ course_of (E.pin_list engine) (E.item_list engine) (E.array_list engine) (E.defined engine) schedule) }
+        requires first { E.present engine ≡ (E.machine engine).defined [] }
+        requires schedule { IsFor (E.machine engine).pins schedule }
+        ensures course { IfOk result (λ s. ⟦<Session<E> as Standing>⟧.course s ≡ course_of (E.machine engine) schedule) }
         ensures position { IfOk result (λ s. ⟦<Session<E> as Standing>⟧.position s ≡ 0) }
         ensures lives { IfOk result (λ s. ⟦<Session<E> as Standing>⟧.lives s) }
     {
@@ -83,12 +83,12 @@ impl<E: Engine + Drop> Session<E> {
 
     // Plays the lines that hold in the edges made, and answers the place after them.
     fn replay(&mut self) -> usize
-        requires { IsLive (course_of (E.pin_list self.old.engine) (E.item_list self.old.engine) (E.array_list self.old.engine) (E.defined self.old.engine) self.old.schedule)
+        requires { IsLive (course_of (E.machine self.old.engine) self.old.schedule)
             (E.present self.old.engine) self.old.journal }
-        ensures came { CameTo (course_of (E.pin_list self.old.engine) (E.item_list self.old.engine) (E.array_list self.old.engine) (E.defined self.old.engine) self.old.schedule)
-            (course_of (E.pin_list self.new.engine) (E.item_list self.new.engine) (E.array_list self.new.engine) (E.defined self.new.engine) self.new.schedule) (E.present self.new.engine) self.new.journal
+        ensures came { CameTo (course_of (E.machine self.old.engine) self.old.schedule)
+            (course_of (E.machine self.new.engine) self.new.schedule) (E.present self.new.engine) self.new.journal
             (length self.old.journal.entries.items) }
-        ensures played { IsPlayed (course_of (E.pin_list self.old.engine) (E.item_list self.old.engine) (E.array_list self.old.engine) (E.defined self.old.engine) self.old.schedule)
+        ensures played { IsPlayed (course_of (E.machine self.old.engine) self.old.schedule)
             (length self.old.journal.entries.items) result self.new.journal.pins.items }
     {
         let position = self.position();
@@ -97,15 +97,15 @@ impl<E: Engine + Drop> Session<E> {
 
     // Makes the next edge, where the lines before a place are played, and answers the next place.
     fn make_edge(&mut self, next: usize) -> Result<usize, NoMemory>
-        requires live { IsLive (course_of (E.pin_list self.old.engine) (E.item_list self.old.engine) (E.array_list self.old.engine) (E.defined self.old.engine) self.old.schedule)
+        requires live { IsLive (course_of (E.machine self.old.engine) self.old.schedule)
             (E.present self.old.engine) self.old.journal }
         requires limit { length self.old.journal.entries.items < 10000 }
-        requires played { IsPlayed (course_of (E.pin_list self.old.engine) (E.item_list self.old.engine) (E.array_list self.old.engine) (E.defined self.old.engine) self.old.schedule)
+        requires played { IsPlayed (course_of (E.machine self.old.engine) self.old.schedule)
             (length self.old.journal.entries.items) next self.old.journal.pins.items }
-        ensures came { OnOk result (CameTo (course_of (E.pin_list self.old.engine) (E.item_list self.old.engine) (E.array_list self.old.engine) (E.defined self.old.engine) self.old.schedule)
-            (course_of (E.pin_list self.new.engine) (E.item_list self.new.engine) (E.array_list self.new.engine) (E.defined self.new.engine) self.new.schedule) (E.present self.new.engine) self.new.journal
+        ensures came { OnOk result (CameTo (course_of (E.machine self.old.engine) self.old.schedule)
+            (course_of (E.machine self.new.engine) self.new.schedule) (E.present self.new.engine) self.new.journal
             (length self.old.journal.entries.items + 1)) }
-        ensures played { IfOk result (λ next. IsPlayed (course_of (E.pin_list self.old.engine) (E.item_list self.old.engine) (E.array_list self.old.engine) (E.defined self.old.engine) self.old.schedule)
+        ensures played { IfOk result (λ next. IsPlayed (course_of (E.machine self.old.engine) self.old.schedule)
             (length self.old.journal.entries.items + 1) next self.new.journal.pins.items) }
     {
         let position = self.position();
@@ -126,11 +126,11 @@ impl<E: Engine + Drop> Session<E> {
 
     // Takes the last edge back.
     fn take_back(&mut self)
-        requires live { IsLive (course_of (E.pin_list self.old.engine) (E.item_list self.old.engine) (E.array_list self.old.engine) (E.defined self.old.engine) self.old.schedule)
+        requires live { IsLive (course_of (E.machine self.old.engine) self.old.schedule)
             (E.present self.old.engine) self.old.journal }
         requires some { 0 < length self.old.journal.entries.items }
-        ensures { CameTo (course_of (E.pin_list self.old.engine) (E.item_list self.old.engine) (E.array_list self.old.engine) (E.defined self.old.engine) self.old.schedule)
-            (course_of (E.pin_list self.new.engine) (E.item_list self.new.engine) (E.array_list self.new.engine) (E.defined self.new.engine) self.new.schedule) (E.present self.new.engine) self.new.journal
+        ensures { CameTo (course_of (E.machine self.old.engine) self.old.schedule)
+            (course_of (E.machine self.new.engine) self.new.schedule) (E.present self.new.engine) self.new.journal
             (length self.old.journal.entries.items - 1) }
     {
         let Some(entry) = self.journal.entries.pop() else {
@@ -142,11 +142,11 @@ impl<E: Engine + Drop> Session<E> {
     }
 
     fn step(&mut self, count: u32) -> Result<(), NoMemory>
-        requires live { IsLive (course_of (E.pin_list self.old.engine) (E.item_list self.old.engine) (E.array_list self.old.engine) (E.defined self.old.engine) self.old.schedule)
+        requires live { IsLive (course_of (E.machine self.old.engine) self.old.schedule)
             (E.present self.old.engine) self.old.journal }
         requires limit { length self.old.journal.entries.items + count ≤ 10000 }
-        ensures { OnOk result (CameTo (course_of (E.pin_list self.old.engine) (E.item_list self.old.engine) (E.array_list self.old.engine) (E.defined self.old.engine) self.old.schedule)
-            (course_of (E.pin_list self.new.engine) (E.item_list self.new.engine) (E.array_list self.new.engine) (E.defined self.new.engine) self.new.schedule) (E.present self.new.engine) self.new.journal
+        ensures { OnOk result (CameTo (course_of (E.machine self.old.engine) self.old.schedule)
+            (course_of (E.machine self.new.engine) self.new.schedule) (E.present self.new.engine) self.new.journal
             (length self.old.journal.entries.items + count)) }
     {
         // the lines of the edges made aren't played again where none is made
@@ -162,13 +162,13 @@ impl<E: Engine + Drop> Session<E> {
 
     // Makes edges while the item isn't the value, at most so many.
     fn step_until(&mut self, item: usize, value: u64, count: u32) -> Result<(), NoMemory>
-        requires live { IsLive (course_of (E.pin_list self.old.engine) (E.item_list self.old.engine) (E.array_list self.old.engine) (E.defined self.old.engine) self.old.schedule)
+        requires live { IsLive (course_of (E.machine self.old.engine) self.old.schedule)
             (E.present self.old.engine) self.old.journal }
         requires limit { length self.old.journal.entries.items + count ≤ 10000 }
-        requires item { item < length (E.item_list self.old.engine) }
-        ensures { OnOk result (CameTo (course_of (E.pin_list self.old.engine) (E.item_list self.old.engine) (E.array_list self.old.engine) (E.defined self.old.engine) self.old.schedule)
-            (course_of (E.pin_list self.new.engine) (E.item_list self.new.engine) (E.array_list self.new.engine) (E.defined self.new.engine) self.new.schedule) (E.present self.new.engine) self.new.journal
-            (edges_until (is_met (course_of (E.pin_list self.old.engine) (E.item_list self.old.engine) (E.array_list self.old.engine) (E.defined self.old.engine) self.old.schedule) item value) (length self.old.journal.entries.items) count)) }
+        requires item { item < length (E.machine self.old.engine).items }
+        ensures { OnOk result (CameTo (course_of (E.machine self.old.engine) self.old.schedule)
+            (course_of (E.machine self.new.engine) self.new.schedule) (E.present self.new.engine) self.new.journal
+            (edges_until (is_met (course_of (E.machine self.old.engine) self.old.schedule) item value) (length self.old.journal.entries.items) count)) }
     {
         if count == 0 {
             return Ok(());
@@ -184,11 +184,11 @@ impl<E: Engine + Drop> Session<E> {
     }
 
     fn back(&mut self, count: u32)
-        requires live { IsLive (course_of (E.pin_list self.old.engine) (E.item_list self.old.engine) (E.array_list self.old.engine) (E.defined self.old.engine) self.old.schedule)
+        requires live { IsLive (course_of (E.machine self.old.engine) self.old.schedule)
             (E.present self.old.engine) self.old.journal }
         requires limit { count ≤ length self.old.journal.entries.items }
-        ensures { CameTo (course_of (E.pin_list self.old.engine) (E.item_list self.old.engine) (E.array_list self.old.engine) (E.defined self.old.engine) self.old.schedule)
-            (course_of (E.pin_list self.new.engine) (E.item_list self.new.engine) (E.array_list self.new.engine) (E.defined self.new.engine) self.new.schedule) (E.present self.new.engine) self.new.journal
+        ensures { CameTo (course_of (E.machine self.old.engine) self.old.schedule)
+            (course_of (E.machine self.new.engine) self.new.schedule) (E.present self.new.engine) self.new.journal
             (length self.old.journal.entries.items - count) }
     {
         for taken in 0..count {
@@ -198,13 +198,13 @@ impl<E: Engine + Drop> Session<E> {
 
     // Makes and takes back the edges that a command asks for.
     fn go(&mut self, command: Command) -> Result<(), NoMemory>
-        requires live { IsLive (course_of (E.pin_list self.old.engine) (E.item_list self.old.engine) (E.array_list self.old.engine) (E.defined self.old.engine) self.old.schedule)
+        requires live { IsLive (course_of (E.machine self.old.engine) self.old.schedule)
             (E.present self.old.engine) self.old.journal }
         requires within { IsWithin (length self.old.journal.entries.items) command }
-        requires shown { IsShown (E.item_list self.old.engine) (E.array_list self.old.engine) command }
-        ensures { OnOk result (CameTo (course_of (E.pin_list self.old.engine) (E.item_list self.old.engine) (E.array_list self.old.engine) (E.defined self.old.engine) self.old.schedule)
-            (course_of (E.pin_list self.new.engine) (E.item_list self.new.engine) (E.array_list self.new.engine) (E.defined self.new.engine) self.new.schedule) (E.present self.new.engine) self.new.journal
-            (moved (course_of (E.pin_list self.old.engine) (E.item_list self.old.engine) (E.array_list self.old.engine) (E.defined self.old.engine) self.old.schedule) (length self.old.journal.entries.items) command)) }
+        requires shown { IsShown (E.machine self.old.engine).items (E.machine self.old.engine).arrays command }
+        ensures { OnOk result (CameTo (course_of (E.machine self.old.engine) self.old.schedule)
+            (course_of (E.machine self.new.engine) self.new.schedule) (E.present self.new.engine) self.new.journal
+            (moved (course_of (E.machine self.old.engine) self.old.schedule) (length self.old.journal.entries.items) command)) }
     {
         match command {
             Command::Step(count) => self.step(count),
@@ -224,11 +224,11 @@ impl<E: Engine + Drop> Session<E> {
 
     // Appends what is told of a command, once its edges are made.
     fn tell<O: Sink>(&self, command: Command, out: &mut O) -> Result<(), Failed>
-        requires live { IsLive (course_of (E.pin_list self.now.engine) (E.item_list self.now.engine) (E.array_list self.now.engine) (E.defined self.now.engine) self.now.schedule)
+        requires live { IsLive (course_of (E.machine self.now.engine) self.now.schedule)
             (E.present self.now.engine) self.now.journal }
-        requires shown { IsShown (E.item_list self.now.engine) (E.array_list self.now.engine) command }
+        requires shown { IsShown (E.machine self.now.engine).items (E.machine self.now.engine).arrays command }
         ensures { Puts (O.written out.old) (O.written out.new) (O.faults out.old) (O.faults out.new) result
-            (told (course_of (E.pin_list self.now.engine) (E.item_list self.now.engine) (E.array_list self.now.engine) (E.defined self.now.engine) self.now.schedule)
+            (told (course_of (E.machine self.now.engine) self.now.schedule)
             (length self.now.journal.entries.items) command) }
     {
         let position = self.position();
@@ -250,9 +250,9 @@ impl<E: Engine + Drop> Session<E> {
     // What a line asks for.
     fn read(&self, line: &[u8]) -> Result<Result<Command, Refusal>, TraceEnd>
         requires { length self.now.journal.entries.items ≤ 10000 }
-        ensures read { IfOk result (λ r. r ≡ command_of (E.item_list self.now.engine) (E.array_list self.now.engine) (length self.now.journal.entries.items) line.now) }
+        ensures read { IfOk result (λ r. r ≡ command_of (E.machine self.now.engine).items (E.machine self.now.engine).arrays (length self.now.journal.entries.items) line.now) }
         ensures within { IfOk result (λ r. IfOk r (IsWithin (length self.now.journal.entries.items))) }
-        ensures shown { IfOk result (λ r. IfOk r (IsShown (E.item_list self.now.engine) (E.array_list self.now.engine))) }
+        ensures shown { IfOk result (λ r. IfOk r (IsShown (E.machine self.now.engine).items (E.machine self.now.engine).arrays)) }
         ensures memory { IfErr result (λ e. e ≡ TraceEnd.NoMemory) }
     {
         let position = self.position();
@@ -287,17 +287,17 @@ impl<E: Engine + Drop> Session<E> {
         read: Result<Command, Refusal>,
         out: &mut O,
     ) -> Result<Go, TraceEnd>
-        requires live { IsLive (course_of (E.pin_list self.old.engine) (E.item_list self.old.engine) (E.array_list self.old.engine) (E.defined self.old.engine) self.old.schedule)
+        requires live { IsLive (course_of (E.machine self.old.engine) self.old.schedule)
             (E.present self.old.engine) self.old.journal }
         requires within { IfOk read (IsWithin (length self.old.journal.entries.items)) }
-        requires shown { IfOk read (IsShown (E.item_list self.old.engine) (E.array_list self.old.engine)) }
+        requires shown { IfOk read (IsShown (E.machine self.old.engine).items (E.machine self.old.engine).arrays) }
         ensures puts { PutsUnless (O.written out.old) (O.written out.new) (O.faults out.old) (O.faults out.new) result
-            (answer_of (course_of (E.pin_list self.old.engine) (E.item_list self.old.engine) (E.array_list self.old.engine) (E.defined self.old.engine) self.old.schedule)
+            (answer_of (course_of (E.machine self.old.engine) self.old.schedule)
             (length self.old.journal.entries.items) read).text }
-        ensures came { OnOk result (CameTo (course_of (E.pin_list self.old.engine) (E.item_list self.old.engine) (E.array_list self.old.engine) (E.defined self.old.engine) self.old.schedule)
-            (course_of (E.pin_list self.new.engine) (E.item_list self.new.engine) (E.array_list self.new.engine) (E.defined self.new.engine) self.new.schedule) (E.present self.new.engine) self.new.journal
-            (answer_of (course_of (E.pin_list self.old.engine) (E.item_list self.old.engine) (E.array_list self.old.engine) (E.defined self.old.engine) self.old.schedule) (length self.old.journal.entries.items) read).position) }
-        ensures goes { IfOk result (λ go. go ≡ (answer_of (course_of (E.pin_list self.old.engine) (E.item_list self.old.engine) (E.array_list self.old.engine) (E.defined self.old.engine) self.old.schedule)
+        ensures came { OnOk result (CameTo (course_of (E.machine self.old.engine) self.old.schedule)
+            (course_of (E.machine self.new.engine) self.new.schedule) (E.present self.new.engine) self.new.journal
+            (answer_of (course_of (E.machine self.old.engine) self.old.schedule) (length self.old.journal.entries.items) read).position) }
+        ensures goes { IfOk result (λ go. go ≡ (answer_of (course_of (E.machine self.old.engine) self.old.schedule)
             (length self.old.journal.entries.items) read).go) }
     {
         match read {
@@ -307,17 +307,17 @@ impl<E: Engine + Drop> Session<E> {
     }
 
     fn carry_out<O: Sink>(&mut self, command: Command, out: &mut O) -> Result<Go, TraceEnd>
-        requires live { IsLive (course_of (E.pin_list self.old.engine) (E.item_list self.old.engine) (E.array_list self.old.engine) (E.defined self.old.engine) self.old.schedule)
+        requires live { IsLive (course_of (E.machine self.old.engine) self.old.schedule)
             (E.present self.old.engine) self.old.journal }
         requires within { IsWithin (length self.old.journal.entries.items) command }
-        requires shown { IsShown (E.item_list self.old.engine) (E.array_list self.old.engine) command }
+        requires shown { IsShown (E.machine self.old.engine).items (E.machine self.old.engine).arrays command }
         ensures puts { PutsUnless (O.written out.old) (O.written out.new) (O.faults out.old) (O.faults out.new) result
-            (told (course_of (E.pin_list self.old.engine) (E.item_list self.old.engine) (E.array_list self.old.engine) (E.defined self.old.engine) self.old.schedule)
-            (moved (course_of (E.pin_list self.old.engine) (E.item_list self.old.engine) (E.array_list self.old.engine) (E.defined self.old.engine) self.old.schedule)
+            (told (course_of (E.machine self.old.engine) self.old.schedule)
+            (moved (course_of (E.machine self.old.engine) self.old.schedule)
             (length self.old.journal.entries.items) command) command) }
-        ensures came { OnOk result (CameTo (course_of (E.pin_list self.old.engine) (E.item_list self.old.engine) (E.array_list self.old.engine) (E.defined self.old.engine) self.old.schedule)
-            (course_of (E.pin_list self.new.engine) (E.item_list self.new.engine) (E.array_list self.new.engine) (E.defined self.new.engine) self.new.schedule) (E.present self.new.engine) self.new.journal
-            (moved (course_of (E.pin_list self.old.engine) (E.item_list self.old.engine) (E.array_list self.old.engine) (E.defined self.old.engine) self.old.schedule) (length self.old.journal.entries.items) command)) }
+        ensures came { OnOk result (CameTo (course_of (E.machine self.old.engine) self.old.schedule)
+            (course_of (E.machine self.new.engine) self.new.schedule) (E.present self.new.engine) self.new.journal
+            (moved (course_of (E.machine self.old.engine) self.old.schedule) (length self.old.journal.entries.items) command)) }
         ensures goes { IfOk result (λ go. go ≡ goes command) }
     {
         match self.go(command) {
@@ -328,11 +328,11 @@ impl<E: Engine + Drop> Session<E> {
 
     // Tells of a command, once its edges are made.
     fn answer_now<O: Sink>(&self, command: Command, out: &mut O) -> Result<Go, TraceEnd>
-        requires live { IsLive (course_of (E.pin_list self.now.engine) (E.item_list self.now.engine) (E.array_list self.now.engine) (E.defined self.now.engine) self.now.schedule)
+        requires live { IsLive (course_of (E.machine self.now.engine) self.now.schedule)
             (E.present self.now.engine) self.now.journal }
-        requires shown { IsShown (E.item_list self.now.engine) (E.array_list self.now.engine) command }
+        requires shown { IsShown (E.machine self.now.engine).items (E.machine self.now.engine).arrays command }
         ensures puts { PutsUnless (O.written out.old) (O.written out.new) (O.faults out.old) (O.faults out.new) result
-            (told (course_of (E.pin_list self.now.engine) (E.item_list self.now.engine) (E.array_list self.now.engine) (E.defined self.now.engine) self.now.schedule)
+            (told (course_of (E.machine self.now.engine) self.now.schedule)
             (length self.now.journal.entries.items) command) }
         ensures goes { IfOk result (λ go. go ≡ goes command) }
     {

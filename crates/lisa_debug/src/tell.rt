@@ -95,9 +95,9 @@ pub(crate) fn put_item<E: Engine, O: Sink>(
     engine: &E,
     item: usize,
 ) -> Result<(), Failed>
-    requires { item < length (E.item_list engine.now) }
+    requires { item < length (E.machine engine.now).items }
     ensures { Puts (O.written out.old) (O.written out.new) (O.faults out.old) (O.faults out.new) result
-        (item_name (E.item_list engine.now) item ++ value_text (slice_index (E.present engine.now).items item)) }
+        (item_name (E.machine engine.now).items item ++ value_text (slice_index (E.present engine.now).items item)) }
 {
     put_item_line(out, name_of_item(engine.items(), item), engine.value(item))
 }
@@ -109,10 +109,10 @@ pub(crate) fn put_cell<E: Engine, O: Sink>(
     array: usize,
     index: usize,
 ) -> Result<(), Failed>
-    requires array { array < length (E.array_list engine.now) }
-    requires index { (a : ArrayItem) → index < (slice_index_or (E.array_list engine.now) array a).depth }
+    requires array { array < length (E.machine engine.now).arrays }
+    requires index { (a : ArrayItem) → index < (slice_index_or (E.machine engine.now).arrays array a).depth }
     ensures { Puts (O.written out.old) (O.written out.new) (O.faults out.old) (O.faults out.new) result
-        (cell_text (array_name (E.array_list engine.now) array) index (slice_index (cells_of (E.present engine.now) array) index)) }
+        (cell_text (array_name (E.machine engine.now).arrays array) index (slice_index (cells_of (E.present engine.now) array) index)) }
 {
     let name = name_of_array(engine.arrays(), array);
     put_cell_text(out, name, index, engine.cell(array, index))

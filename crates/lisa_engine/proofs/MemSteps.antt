@@ -6,6 +6,7 @@ use Rattle.std.proofs.lemmas.Grind.{get_or-set_at}
 use Rattle.lisa_engine.specs.State.{State}
 use Rattle.lisa_engine.specs.Shape.{IsShaped, IsFitting, AreEntries, IsWidth, HaveWidths}
 use Rattle.lisa_engine.specs.Touches.{Tracks, IsPlaced, TakesBack, put_back}
+use Rattle.lisa_engine.specs.Machines.{machine_of}
 use Rattle.lisa_engine.specs.MemStates.{mem_items, mem_arrays, mem_pins, mem_first, mem_next, mem_defined}
 use Rattle.lisa_engine.specs.declared.parts.Item.{Item}
 use Rattle.lisa_engine.specs.declared.parts.ArrayItem.{ArrayItem}
@@ -138,7 +139,7 @@ two_values (a ∷ b ∷ c ∷ rest) long = absurd (omega (arith, long))
 -- an edge taken back
 module _ {pins items : List Item} {arrays : List ArrayItem} {present : State} {given cells : List ℕ} {touches : List Touch} {l : List (List ℕ)} {entry : List ℕ}
     (shapes : (l : List (List ℕ)) → AreEntries pins l → IsShaped items arrays (mem_defined l)) (is_items : items ≡ mem_items) (is_arrays : arrays ≡ mem_arrays)
-    (is_cells : cells ∷ [] ≡ put_back touches present.cells) (t : TakesBack pins arrays mem_defined present given touches l entry) where
+    (is_cells : cells ∷ [] ≡ put_back touches present.cells) (t : TakesBack (machine_of pins items arrays mem_defined) present given touches l entry) where
   pub given_two : length given ≡ 2
   given_two = (taken_shaped shapes t).values.count ∙ ap length is_items
 

@@ -11,7 +11,7 @@ use Rattle.lisa_io.proofs.Known.{appends_none, appends_more}
 use Rattle.lisa_engine.specs.State.{State}
 use Rattle.lisa_engine.specs.Text.{change_text, changes_text}
 use Rattle.lisa_engine.specs.ScheduleLine.{Line}
-use Rattle.lisa_engine.specs.PinValues.{pin_values, state_at}
+use Rattle.lisa_engine.specs.Machines.{Machine, course_of, state_at}
 use Rattle.lisa_engine.specs.Traces.{PutsUnless}
 use Rattle.lisa_engine.proofs.Edges.{Led}
 use Rattle.lisa_engine.specs.declared.parts.Item.{Item}
@@ -70,29 +70,19 @@ changes_rest items arrays state k (suc n) le = ⊎_elim
     (cases_eq k (suc n))
 
 -- what one edge changed, by the states of the definition
-module _ {D : Type 0} (present : D → State) (defined : D → List (List ℕ) → State) (items : D → List Item) (arrays : D → List ArrayItem) (pins : D → List Item)
-    (first now next : D) (lines : List Line) (edge : ℕ) (at_first : present first ≡ defined first []) (led : Led present defined items arrays pins first now lines 0 edge)
-    (led_next : Led present defined items arrays pins first next lines 0 (edge + 1)) where
-  state : ℕ → State
-  state = state_at (defined first) (length (pins first)) lines
-
-  pub present_is : present now ≡ state_at (defined first) (length (pins first)) lines edge
-  present_is = led.leads at_first ∙ ap (λ d. d (pin_values (length (pins first)) lines edge)) led.defined_kept
-
-  next_is : present next ≡ state_at (defined first) (length (pins first)) lines (edge + 1)
-  next_is = led_next.leads at_first ∙ ap (λ d. d (pin_values (length (pins first)) lines (edge + 1))) led_next.defined_kept
-
-  pub changes_more : changes_text (items first) (arrays first) (state_at (defined first) (length (pins first)) lines) edge ++ change_text (items now) (arrays now) (edge + 1) (present now) (present next)
-      ≡ changes_text (items first) (arrays first) (state_at (defined first) (length (pins first)) lines) (edge + 1)
+module _ {D : Type 0} (present : D → State) (machine : D → Machine) (first now next : D) (lines : List Line) (edge : ℕ) (at_first : present first ≡ (machine first).defined [])
+    (led : Led present machine first now lines 0 edge) (led_next : Led present machine first next lines 0 (edge + 1)) where
+  pub changes_more : changes_text (machine first).items (machine first).arrays (state_at (course_of (machine first) lines)) edge
+      ++ change_text (machine now).items (machine now).arrays (edge + 1) (present now) (present next)
+      ≡ changes_text (machine first).items (machine first).arrays (state_at (course_of (machine first) lines)) (edge + 1)
   changes_more =
+      let m = machine first in
+      let state = state_at (course_of m lines) in
       let e : edge + 1 ≡ suc edge = omega arith in
-      let one : change_text (items now) (arrays now) (edge + 1) (present now) (present next)
-      ≡ change_text (items first) (arrays first) (edge + 1) (state_at (defined first) (length (pins first)) lines edge) (state_at (defined first) (length (pins first)) lines (edge + 1))
-      = λ i. change_text (led.items_kept i) (led.arrays_kept i) (edge + 1) (present_is i) (next_is i) in
-      ap (λ t. changes_text (items first) (arrays first) (state_at (defined first) (length (pins first)) lines) edge ++ t) one
-      ∙ subst (λ n. changes_text (items first) (arrays first) (state_at (defined first) (length (pins first)) lines) edge
-      ++ change_text (items first) (arrays first) n (state_at (defined first) (length (pins first)) lines edge) (state_at (defined first) (length (pins first)) lines n)
-      ≡ changes_text (items first) (arrays first) (state_at (defined first) (length (pins first)) lines) n) (sym e) refl
+      let one : change_text (machine now).items (machine now).arrays (edge + 1) (present now) (present next) ≡ change_text m.items m.arrays (edge + 1) (state edge) (state (edge + 1))
+      = λ i. change_text (led.kept i).items (led.kept i).arrays (edge + 1) (led.leads at_first i) (led_next.leads at_first i) in
+      ap (λ t. changes_text m.items m.arrays state edge ++ t) one
+      ∙ subst (λ n. changes_text m.items m.arrays state edge ++ change_text m.items m.arrays n (state edge) (state n) ≡ changes_text m.items m.arrays state n) (sym e) refl
 
 pub unless_over : {T : Type 0} {a b : Option (List ℕ)} {x y : ℕ} {r : Result T TraceEnd} {s t : List ℕ} → s ≡ t → PutsUnless {T = T} a b x y r s → PutsUnless {T = T} a b x y r t
 unless_over {T = T} {a = a} {b = b} {x = x} {y = y} {r = r} e p = subst (λ t. PutsUnless {T = T} a b x y r t) e p

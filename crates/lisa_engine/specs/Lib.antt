@@ -4,6 +4,7 @@ pub mod Memory
 pub mod Shape
 pub mod State
 pub mod Touches
+pub mod Machines
 pub mod Text
 pub mod ScheduleLine
 pub mod PinValues

@@ -4,6 +4,7 @@ use Rattle.std.proofs.Common.{zero, suc, arith, sym, subst}
 use Rattle.lisa_engine.specs.State.{State}
 use Rattle.lisa_engine.specs.Shape.{IsShaped, HaveDistinctNames}
 use Rattle.lisa_engine.specs.Touches.{set_cell}
+use Rattle.lisa_engine.specs.Machines.{Machine, machine_of}
 use Rattle.lisa_engine.specs.declared.parts.Item.{Item}
 use Rattle.lisa_engine.specs.declared.parts.ArrayItem.{ArrayItem}
 
@@ -29,6 +30,9 @@ mem_next state entry = record {
 
 abbrev pub mem_defined : List (List ℕ) → State
 mem_defined entries = fold mem_next mem_first entries
+
+abbrev pub mem_machine : Machine
+mem_machine = machine_of mem_pins mem_items mem_arrays mem_defined
 
 pub mem_shaped : {items : List Item} {arrays : List ArrayItem} {state : State}
     → items ≡ mem_items → arrays ≡ mem_arrays → IsShaped mem_items mem_arrays state → IsShaped items arrays state

@@ -2,7 +2,6 @@
 use Rattle.std.specs.Prelude.{ℕ, ◌<◌, ◌≤◌, ◌^◌, List, [], ◌∷◌, ◌++◌, length, replicate, slice_set, slice_index_or, nat_le, filter, fold, All, AllPairs}
 use Rattle.std.proofs.Common.{zero, suc}
 use Rattle.std.specs.List.{flat_map}
-use Rattle.lisa_engine.specs.State.{State}
 use Rattle.lisa_engine.specs.ScheduleLine.{Line}
 use Rattle.lisa_engine.specs.declared.parts.Item.{Item}
 use Rattle.lisa_engine.specs.declared.parts.Setting.{Setting}
@@ -26,10 +25,6 @@ pins_at pins lines edge = after_lines pins (lines_until lines edge)
 abbrev pub pin_values : ℕ → List Line → ℕ → List (List ℕ)
 pin_values pins lines zero = []
 pin_values pins lines (suc n) = pin_values pins lines n ++ pins_at pins lines (suc n) ∷ []
-
--- a definition's state after an edge, for so many pins
-abbrev pub state_at : (List (List ℕ) → State) → ℕ → List Line → ℕ → State
-state_at defined pins lines edge = defined (pin_values pins lines edge)
 
 -- the edges of the lines rise, and each setting is of one of so many pins
 pub record IsPlayable (pins : ℕ) (lines : List Line) : Type 0 where

@@ -2,7 +2,7 @@
 use Rattle.std.specs.Prelude.{ℕ, ◌<◌, ◌^◌, ◌≡◌, List, [], ◌∷◌, ◌++◌, length, slice_index_or, slice_set, All}
 use Rattle.lisa_engine.specs.State.{State}
 use Rattle.lisa_engine.specs.Shape.{AreEntries}
-use Rattle.lisa_engine.specs.declared.parts.Item.{Item}
+use Rattle.lisa_engine.specs.Machines.{Machine}
 use Rattle.lisa_engine.specs.declared.parts.ArrayItem.{ArrayItem}
 use Rattle.lisa_engine.specs.declared.parts.Touch.{Touch}
 
@@ -28,14 +28,12 @@ pub record Tracks (arrays : List ArrayItem) (before after : List (List ℕ)) (to
   pub back : put_back touches after ≡ before
 
 -- what is kept of one edge leads back over it: the items of the definition's state before the edge, and touches that lead to its cells
-pub record LeadsBack (arrays : List ArrayItem) (defined : List (List ℕ) → State) (given : List ℕ) (touches : List Touch)
-    (before : List (List ℕ)) (entry : List ℕ) : Type 0 where
-  pub values : given ≡ (defined before).items
-  pub cells : Tracks arrays (defined before).cells (defined (before ++ entry ∷ [])).cells touches
+pub record LeadsBack (m : Machine) (given : List ℕ) (touches : List Touch) (before : List (List ℕ)) (entry : List ℕ) : Type 0 where
+  pub values : given ≡ (m.defined before).items
+  pub cells : Tracks m.arrays (m.defined before).cells (m.defined (before ++ entry ∷ [])).cells touches
 
 -- the present state is the definition's after these entries and one more, over which the given items and touches lead back
-pub record TakesBack (pins : List Item) (arrays : List ArrayItem) (defined : List (List ℕ) → State) (present : State) (given : List ℕ) (touches : List Touch)
-    (before : List (List ℕ)) (entry : List ℕ) : Type 0 where
-  pub entries : AreEntries pins (before ++ entry ∷ [])
-  pub now : present ≡ defined (before ++ entry ∷ [])
-  pub back : LeadsBack arrays defined given touches before entry
+pub record TakesBack (m : Machine) (present : State) (given : List ℕ) (touches : List Touch) (before : List (List ℕ)) (entry : List ℕ) : Type 0 where
+  pub entries : AreEntries m.pins (before ++ entry ∷ [])
+  pub now : present ≡ m.defined (before ++ entry ∷ [])
+  pub back : LeadsBack m given touches before entry

@@ -3,7 +3,8 @@ ghost use Rattle.std.specs.Prelude.{◌≡◌, ◌≤◌, ℕ, List, [], ◌∷�
 ghost use Rattle.lisa_engine.specs.State.{State};
 ghost use Rattle.lisa_engine.specs.Shape.{IsShaped, AreEntries, HaveWidths};
 ghost use Rattle.lisa_engine.specs.Touches.{IsPlaced, put_back};
-ghost use Rattle.lisa_engine.specs.MemStates.{mem_items, mem_arrays, mem_pins, mem_defined, mem_shaped, mem_named};
+ghost use Rattle.lisa_engine.specs.Machines.{machine_of};
+ghost use Rattle.lisa_engine.specs.MemStates.{mem_items, mem_arrays, mem_pins, mem_defined, mem_machine, mem_shaped, mem_named};
 
 use crate::engine::Engine;
 use crate::parts::{ArrayItem, Item, Touch};
@@ -89,11 +90,8 @@ fn put_all_back(cells: &mut [u64], touches: &[Touch])
 impl MemEngine {
     /// The engine after no edge.
     pub fn make(alloc: Global) -> Result<MemEngine, NoMemory>
-        ensures defined { IfOk result (λ e. ⟦<MemEngine as Engine>⟧.defined e ≡ mem_defined) }
+        ensures machine { IfOk result (λ e. ⟦<MemEngine as Engine>⟧.machine e ≡ mem_machine) }
         ensures first { IfOk result (λ e. ⟦<MemEngine as Engine>⟧.present e ≡ mem_defined []) }
-        ensures items { IfOk result (λ e. ⟦<MemEngine as Engine>⟧.item_list e ≡ mem_items) }
-        ensures arrays { IfOk result (λ e. ⟦<MemEngine as Engine>⟧.array_list e ≡ mem_arrays) }
-        ensures pins { IfOk result (λ e. ⟦<MemEngine as Engine>⟧.pin_list e ≡ mem_pins) }
     {
         let items = make_items(alloc)?;
         let arrays = make_arrays(alloc)?;
@@ -111,13 +109,7 @@ impl MemEngine {
 }
 
 impl Engine for MemEngine {
-    ghost item_list = { λ e. e.items.items };
-
-    ghost array_list = { λ e. e.arrays.items };
-
-    ghost pin_list = { λ e. e.pins.items };
-
-    ghost defined = { λ e. mem_defined };
+    ghost machine = { λ e. machine_of e.pins.items e.items.items e.arrays.items mem_defined };
 
     ghost present = { λ e. record { items = e.values; cells = e.cells ∷ [] } };
 

@@ -1,6 +1,7 @@
 // Several edges in a row.
 ghost use Rattle.std.specs.Prelude.{◌≡◌, ◌<◌, ◌+◌, ◌^◌, length};
-ghost use Rattle.lisa_engine.specs.PinValues.{pin_values, IsFor};
+ghost use Rattle.lisa_engine.specs.PinValues.{IsFor};
+ghost use Rattle.lisa_engine.specs.Machines.{course_of, state_at};
 
 use crate::engine::Engine;
 use crate::schedule::Schedule;
@@ -15,14 +16,11 @@ pub fn run_edges<E: Engine>(
     pins: &mut [u64],
 )
     requires last { from + count < 2 ^ 32 }
-    requires schedule { IsFor (E.pin_list engine.old) schedule.now }
-    requires room { length pins.old ≡ length (E.pin_list engine.old) }
-    ensures leads { let values = pin_values (length (E.pin_list engine.old)) schedule.now in
-        E.present engine.old ≡ E.defined engine.old (values from) → E.present engine.new ≡ E.defined engine.new (values (from + count)) }
-    ensures defined { E.defined engine.new ≡ E.defined engine.old }
-    ensures items { E.item_list engine.new ≡ E.item_list engine.old }
-    ensures arrays { E.array_list engine.new ≡ E.array_list engine.old }
-    ensures pins { E.pin_list engine.new ≡ E.pin_list engine.old }
+    requires schedule { IsFor (E.machine engine.old).pins schedule.now }
+    requires room { length pins.old ≡ length (E.machine engine.old).pins }
+    ensures leads { let state = state_at (course_of (E.machine engine.old) schedule.now) in
+        E.present engine.old ≡ state from → E.present engine.new ≡ state (from + count) }
+    ensures machine { E.machine engine.new ≡ E.machine engine.old }
 {
     pins.fill(0);
     let mut next = schedule.play(0, from, pins);

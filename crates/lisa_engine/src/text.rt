@@ -84,7 +84,7 @@ fn put_cell_line<O: Sink>(out: &mut O, name: &[u8], index: usize, value: u64) ->
 
 // A line for each item.
 fn put_items<E: Engine, O: Sink>(engine: &E, out: &mut O) -> Result<(), Failed>
-    ensures { Puts (O.written out.old) (O.written out.new) (O.faults out.old) (O.faults out.new) result (item_lines (E.item_list engine.now) (E.present engine.now).items) }
+    ensures { Puts (O.written out.old) (O.written out.new) (O.faults out.old) (O.faults out.new) result (item_lines (E.machine engine.now).items (E.present engine.now).items) }
 {
     for (place, item) in engine.items().iter().enumerate() {
         put_item_line(out, item.name.as_bytes(), engine.value(place))?;
@@ -100,7 +100,7 @@ fn put_cells<E: Engine, O: Sink>(
     depth: usize,
     out: &mut O,
 ) -> Result<(), Failed>
-    requires array { array < length (E.array_list engine.now) }
+    requires array { array < length (E.machine engine.now).arrays }
     requires depth { depth ≡ length (cells_of (E.present engine.now) array) }
     ensures { Puts (O.written out.old) (O.written out.new) (O.faults out.old) (O.faults out.new) result (flat_map (cell_line name.now) (enumerate_from 0 (cells_of (E.present engine.now) array))) }
 {
@@ -112,7 +112,7 @@ fn put_cells<E: Engine, O: Sink>(
 
 // The lines of all arrays.
 fn put_arrays<E: Engine, O: Sink>(engine: &E, out: &mut O) -> Result<(), Failed>
-    ensures { Puts (O.written out.old) (O.written out.new) (O.faults out.old) (O.faults out.new) result (flat_map array_lines (zip (E.array_list engine.now) (E.present engine.now).cells)) }
+    ensures { Puts (O.written out.old) (O.written out.new) (O.faults out.old) (O.faults out.new) result (flat_map array_lines (zip (E.machine engine.now).arrays (E.present engine.now).cells)) }
 {
     for (place, array) in engine.arrays().iter().enumerate() {
         put_cells(
@@ -128,7 +128,7 @@ fn put_arrays<E: Engine, O: Sink>(engine: &E, out: &mut O) -> Result<(), Failed>
 
 /// Appends the text of the engine's state after an edge; after a failure, a prefix of it.
 pub fn write_state<E: Engine, O: Sink>(engine: &E, edge: u32, out: &mut O) -> Result<(), Failed>
-    ensures { Puts (O.written out.old) (O.written out.new) (O.faults out.old) (O.faults out.new) result (state_text (E.item_list engine.now) (E.array_list engine.now) edge (E.present engine.now)) }
+    ensures { Puts (O.written out.old) (O.written out.new) (O.faults out.old) (O.faults out.new) result (state_text (E.machine engine.now).items (E.machine engine.now).arrays edge (E.present engine.now)) }
 {
     put_edge_line(out, edge)?;
     put_items(engine, out)?;

@@ -4,7 +4,8 @@ ghost use Rattle.std.specs.List.{flat_map, zip, enumerate_from};
 ghost use Rattle.lisa_io.specs.Contents.{Puts};
 ghost use Rattle.lisa_engine.specs.State.{cells_of};
 ghost use Rattle.lisa_engine.specs.Shape.{IsFitting, AreEntries};
-ghost use Rattle.lisa_engine.specs.PinValues.{pin_values, state_at, IsFor};
+ghost use Rattle.lisa_engine.specs.PinValues.{IsFor};
+ghost use Rattle.lisa_engine.specs.Machines.{course_of, state_at};
 ghost use Rattle.lisa_engine.specs.Touches.{IsPlaced, put_back};
 ghost use Rattle.lisa_engine.specs.Traces.{PutsUnless};
 ghost use Rattle.lisa_engine.specs.Changes.{is_at, touched_line, touched_array, IsRow, IsCut};
@@ -62,9 +63,9 @@ fn put_changed_items<E: Engine, O: Sink>(
     before: &mut [u64],
     out: &mut O,
 ) -> Result<(), Failed>
-    requires { length before.old ≡ length (E.item_list engine.now) }
+    requires { length before.old ≡ length (E.machine engine.now).items }
     ensures puts { Puts (O.written out.old) (O.written out.new) (O.faults out.old) (O.faults out.new) result
-        (changed_items (E.item_list engine.now) before.old (E.present engine.now).items) }
+        (changed_items (E.machine engine.now).items before.old (E.present engine.now).items) }
     ensures row { OnOk result (before.new ≡ (E.present engine.now).items) }
 {
     for (place, item) in engine.items().iter().enumerate() {
@@ -96,8 +97,8 @@ fn put_changed_array<E: Engine, O: Sink>(
     from: usize,
     out: &mut O,
 ) -> Result<usize, Failed>
-    requires array { array < length (E.array_list engine.now) }
-    requires places { All (IsPlaced (E.array_list engine.now)) row.now }
+    requires array { array < length (E.machine engine.now).arrays }
+    requires places { All (IsPlaced (E.machine engine.now).arrays) row.now }
     requires sorted { IsRow row.now }
     requires from { IsCut row.now array from }
     ensures puts { Puts (O.written out.old) (O.written out.new) (O.faults out.old) (O.faults out.new) result
@@ -125,10 +126,10 @@ fn put_changed_arrays<E: Engine, O: Sink>(
     row: &[Touch],
     out: &mut O,
 ) -> Result<(), Failed>
-    requires places { All (IsPlaced (E.array_list engine.now)) row.now }
+    requires places { All (IsPlaced (E.machine engine.now).arrays) row.now }
     requires sorted { IsRow row.now }
     ensures { Puts (O.written out.old) (O.written out.new) (O.faults out.old) (O.faults out.new) result
-        (flat_map (touched_array row.now) (enumerate_from 0 (zip (E.array_list engine.now) (E.present engine.now).cells))) }
+        (flat_map (touched_array row.now) (enumerate_from 0 (zip (E.machine engine.now).arrays (E.present engine.now).cells))) }
 {
     let mut from = 0;
     for (place, array) in engine.arrays().iter().enumerate() {
@@ -146,13 +147,13 @@ fn put_changes<E: Engine, O: Sink>(
     row: &[Touch],
     out: &mut O,
 ) -> Result<(), Failed>
-    requires items { length before.old ≡ length (E.item_list engine.now) }
-    requires touches { All (IsPlaced (E.array_list engine.now)) (E.touch_list engine.now) }
-    requires places { All (IsPlaced (E.array_list engine.now)) row.now }
+    requires items { length before.old ≡ length (E.machine engine.now).items }
+    requires touches { All (IsPlaced (E.machine engine.now).arrays) (E.touch_list engine.now) }
+    requires places { All (IsPlaced (E.machine engine.now).arrays) row.now }
     requires sorted { IsRow row.now }
     requires same { (array index : ℕ) → find (is_at array index) row.now ≡ find (is_at array index) (E.touch_list engine.now) }
     ensures puts { Puts (O.written out.old) (O.written out.new) (O.faults out.old) (O.faults out.new) result
-        (change_text (E.item_list engine.now) (E.array_list engine.now) edge
+        (change_text (E.machine engine.now).items (E.machine engine.now).arrays edge
         (record { items = before.old; cells = put_back (E.touch_list engine.now) (E.present engine.now).cells }) (E.present engine.now)) }
     ensures row { OnOk result (before.new ≡ (E.present engine.now).items) }
 {
@@ -190,17 +191,14 @@ fn trace_edge<E: Engine, O: Sink>(
     row: &mut Vec<Touch>,
     out: &mut O,
 ) -> Result<(), TraceEnd>
-    requires pins { IsFitting (E.pin_list engine.old) pins.now }
+    requires pins { IsFitting (E.machine engine.old).pins pins.now }
     requires items { before.old ≡ (E.present engine.old).items }
     ensures text { PutsUnless (O.written out.old) (O.written out.new) (O.faults out.old) (O.faults out.new) result
-        (change_text (E.item_list engine.old) (E.array_list engine.old) edge (E.present engine.old) (E.present engine.new)) }
+        (change_text (E.machine engine.old).items (E.machine engine.old).arrays edge (E.present engine.old) (E.present engine.new)) }
     ensures row { OnOk result (before.new ≡ (E.present engine.new).items) }
-    ensures leads { (l : List (List ℕ)) → AreEntries (E.pin_list engine.old) l → E.present engine.old ≡ E.defined engine.old l
-        → E.present engine.new ≡ E.defined engine.new (l ++ pins.now ∷ []) }
-    ensures defined { E.defined engine.new ≡ E.defined engine.old }
-    ensures items { E.item_list engine.new ≡ E.item_list engine.old }
-    ensures arrays { E.array_list engine.new ≡ E.array_list engine.old }
-    ensures pins { E.pin_list engine.new ≡ E.pin_list engine.old }
+    ensures leads { (l : List (List ℕ)) → AreEntries (E.machine engine.old).pins l → E.present engine.old ≡ (E.machine engine.old).defined l
+        → E.present engine.new ≡ (E.machine engine.new).defined (l ++ pins.now ∷ []) }
+    ensures machine { E.machine engine.new ≡ E.machine engine.old }
 {
     engine.edge(pins);
     sort_touches(row, engine.touched())?;
@@ -230,18 +228,15 @@ fn trace_edges<E: Engine, O: Sink>(
     row: &mut Vec<Touch>,
     out: &mut O,
 ) -> Result<(), TraceEnd>
-    requires first { E.present engine.old ≡ E.defined engine.old [] }
-    requires schedule { IsFor (E.pin_list engine.old) schedule.now }
-    requires room { length pins.old ≡ length (E.pin_list engine.old) }
+    requires first { E.present engine.old ≡ (E.machine engine.old).defined [] }
+    requires schedule { IsFor (E.machine engine.old).pins schedule.now }
+    requires room { length pins.old ≡ length (E.machine engine.old).pins }
     requires items { before.old ≡ (E.present engine.old).items }
-    ensures text { let state = state_at (E.defined engine.old) (length (E.pin_list engine.old)) schedule.now in
+    ensures text { let state = state_at (course_of (E.machine engine.old) schedule.now) in
         PutsUnless (O.written out.old) (O.written out.new) (O.faults out.old) (O.faults out.new) result
-        (changes_text (E.item_list engine.old) (E.array_list engine.old) state count) }
-    ensures leads { OnOk result (E.present engine.new ≡ E.defined engine.new (pin_values (length (E.pin_list engine.old)) schedule.now count)) }
-    ensures defined { E.defined engine.new ≡ E.defined engine.old }
-    ensures items { E.item_list engine.new ≡ E.item_list engine.old }
-    ensures arrays { E.array_list engine.new ≡ E.array_list engine.old }
-    ensures pins { E.pin_list engine.new ≡ E.pin_list engine.old }
+        (changes_text (E.machine engine.old).items (E.machine engine.old).arrays state count) }
+    ensures leads { OnOk result (E.present engine.new ≡ state_at (course_of (E.machine engine.old) schedule.now) count) }
+    ensures machine { E.machine engine.new ≡ E.machine engine.old }
 {
     pins.fill(0);
     let mut next = schedule.play(0, 0, pins);
@@ -261,16 +256,13 @@ pub fn write_trace<E: Engine, O: Sink>(
     count: u32,
     out: &mut O,
 ) -> Result<(), TraceEnd>
-    requires first { E.present engine.old ≡ E.defined engine.old [] }
-    requires schedule { IsFor (E.pin_list engine.old) schedule.now }
-    ensures text { let state = state_at (E.defined engine.old) (length (E.pin_list engine.old)) schedule.now in
+    requires first { E.present engine.old ≡ (E.machine engine.old).defined [] }
+    requires schedule { IsFor (E.machine engine.old).pins schedule.now }
+    ensures text { let state = state_at (course_of (E.machine engine.old) schedule.now) in
         PutsUnless (O.written out.old) (O.written out.new) (O.faults out.old) (O.faults out.new) result
-        (trace_text (E.item_list engine.old) (E.array_list engine.old) state count) }
-    ensures leads { OnOk result (E.present engine.new ≡ E.defined engine.new (pin_values (length (E.pin_list engine.old)) schedule.now count)) }
-    ensures defined { E.defined engine.new ≡ E.defined engine.old }
-    ensures items { E.item_list engine.new ≡ E.item_list engine.old }
-    ensures arrays { E.array_list engine.new ≡ E.array_list engine.old }
-    ensures pins { E.pin_list engine.new ≡ E.pin_list engine.old }
+        (trace_text (E.machine engine.old).items (E.machine engine.old).arrays state count) }
+    ensures leads { OnOk result (E.present engine.new ≡ state_at (course_of (E.machine engine.old) schedule.now) count) }
+    ensures machine { E.machine engine.new ≡ E.machine engine.old }
 {
     let mut before = item_values(alloc, engine)?;
     let mut pins = vec![in alloc; 0; engine.pins().len()]?;

@@ -7,6 +7,7 @@ use Rattle.lisa_tree.specs.Descriptions.{DescriptionTree}
 use Rattle.lisa_engine.specs.Memory.{Memory}
 use Rattle.lisa_engine.specs.State.{State}
 use Rattle.lisa_engine.specs.Shape.{IsShaped}
+use Rattle.lisa_engine.specs.Machines.{machine_of}
 use Rattle.lisa_engine.specs.Touches.{IsPlaced, Tracks, TakesBack, put_back}
 use Rattle.lisa_engine.specs.declared.parts.Item.{Item}
 use Rattle.lisa_engine.specs.declared.parts.ArrayItem.{ArrayItem}
@@ -117,8 +118,8 @@ module _ (old new : Seen) (kept : kept_of new ≡ begun_of old) where
 -- ---- back
 
 -- what leads back over an edge is of the state before it
-pub before_is : {pins : List Item} (d : DescriptionTree) (image : List Memory) (present : State) (items : List ℕ) (touches : List Touch) (l : List (List ℕ)) (entry : List ℕ)
-    → TakesBack pins (arrays_of d) (state_of d image) present items touches l entry
+pub before_is : {pins shown : List Item} (d : DescriptionTree) (image : List Memory) (present : State) (items : List ℕ) (touches : List Touch) (l : List (List ℕ)) (entry : List ℕ)
+    → TakesBack (machine_of pins shown (arrays_of d) (state_of d image)) present items touches l entry
     → IsBefore d image present.cells items touches l
 before_is d image present items touches l entry takes = record {
   items_are = takes.back.values;

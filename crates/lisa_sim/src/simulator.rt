@@ -3,6 +3,7 @@
 ghost use Rattle.std.specs.Prelude.{◌≡◌, ℕ, List, [], ◌∷◌, ◌++◌, Err, Some, None, IfOk, OnOk};
 ghost use Rattle.lisa_tree.specs.Descriptions.{description_tree};
 ghost use Rattle.lisa_engine.specs.Images.{IsImage, missing_memory};
+ghost use Rattle.lisa_engine.specs.Machines.{machine_of};
 ghost use Rattle.lisa_engine.specs.Shape.{IsFitting, IsShaped, AreEntries, HaveWidths, HaveDistinctNames};
 ghost use Rattle.lisa_engine.specs.Touches.{Tracks};
 ghost use Rattle.machine_parts.specs.Parts.{arrays_of, pins_of};
@@ -51,11 +52,10 @@ impl<'a> Simulator<'a> {
         requires has_forms { HasForms (description_tree machine.now) }
         requires coding { IsCodingOf (description_tree machine.now) coding.now }
         requires image { IsImage image.now }
-        ensures defined { IfOk result (λ s. ⟦<Simulator<'a> as Engine>⟧.defined s ≡ state_of (description_tree machine.now) image.now) }
+        ensures machine { IfOk result (λ s. ⟦<Simulator<'a> as Engine>⟧.machine s
+            ≡ machine_of (pins_of (description_tree machine.now)) forms.now.items.items (arrays_of (description_tree machine.now))
+            (state_of (description_tree machine.now) image.now)) }
         ensures first { IfOk result (λ s. ⟦<Simulator<'a> as Engine>⟧.present s ≡ state_of (description_tree machine.now) image.now []) }
-        ensures items { IfOk result (λ s. ⟦<Simulator<'a> as Engine>⟧.item_list s ≡ forms.now.items.items) }
-        ensures arrays { IfOk result (λ s. ⟦<Simulator<'a> as Engine>⟧.array_list s ≡ arrays_of (description_tree machine.now)) }
-        ensures pins { IfOk result (λ s. ⟦<Simulator<'a> as Engine>⟧.pin_list s ≡ pins_of (description_tree machine.now)) }
         ensures description { IfOk result (λ s. description_of s ≡ description_tree machine.now) }
         ensures image { IfOk result (λ s. image_of s ≡ image.now) }
         ensures found { OnOk result (missing_memory (arrays_of (description_tree machine.now)) image.now ≡ None) }
@@ -75,16 +75,13 @@ impl<'a> Simulator<'a> {
 
     /// Makes an edge with these values of the pins, as `edge` does. Answers what each stage did in it.
     pub fn edge_seen(&mut self, pins: &[u64]) -> Seen
-        requires { IsFitting (⟦<Simulator<'a> as Engine>⟧.pin_list self.old) pins.now }
-        ensures seen { (l : List (List ℕ)) → ⟦<Simulator<'a> as Engine>⟧.present self.old ≡ ⟦<Simulator<'a> as Engine>⟧.defined self.old l
+        requires { IsFitting (⟦<Simulator<'a> as Engine>⟧.machine self.old).pins pins.now }
+        ensures seen { (l : List (List ℕ)) → ⟦<Simulator<'a> as Engine>⟧.present self.old ≡ (⟦<Simulator<'a> as Engine>⟧.machine self.old).defined l
             → IsLastSeen (description_of self.old) (image_of self.old) (l ++ pins.now ∷ []) result }
-        ensures leads { (l : List (List ℕ)) → AreEntries (⟦<Simulator<'a> as Engine>⟧.pin_list self.old) l → ⟦<Simulator<'a> as Engine>⟧.present self.old ≡ ⟦<Simulator<'a> as Engine>⟧.defined self.old l
-            → ⟦<Simulator<'a> as Engine>⟧.present self.new ≡ ⟦<Simulator<'a> as Engine>⟧.defined self.new (l ++ pins.now ∷ []) }
-        ensures touches { Tracks (⟦<Simulator<'a> as Engine>⟧.array_list self.old) (⟦<Simulator<'a> as Engine>⟧.present self.old).cells (⟦<Simulator<'a> as Engine>⟧.present self.new).cells (⟦<Simulator<'a> as Engine>⟧.touch_list self.new) }
-        ensures defined { ⟦<Simulator<'a> as Engine>⟧.defined self.new ≡ ⟦<Simulator<'a> as Engine>⟧.defined self.old }
-        ensures items { ⟦<Simulator<'a> as Engine>⟧.item_list self.new ≡ ⟦<Simulator<'a> as Engine>⟧.item_list self.old }
-        ensures arrays { ⟦<Simulator<'a> as Engine>⟧.array_list self.new ≡ ⟦<Simulator<'a> as Engine>⟧.array_list self.old }
-        ensures pins { ⟦<Simulator<'a> as Engine>⟧.pin_list self.new ≡ ⟦<Simulator<'a> as Engine>⟧.pin_list self.old }
+        ensures leads { (l : List (List ℕ)) → AreEntries (⟦<Simulator<'a> as Engine>⟧.machine self.old).pins l → ⟦<Simulator<'a> as Engine>⟧.present self.old ≡ (⟦<Simulator<'a> as Engine>⟧.machine self.old).defined l
+            → ⟦<Simulator<'a> as Engine>⟧.present self.new ≡ (⟦<Simulator<'a> as Engine>⟧.machine self.new).defined (l ++ pins.now ∷ []) }
+        ensures touches { Tracks (⟦<Simulator<'a> as Engine>⟧.machine self.old).arrays (⟦<Simulator<'a> as Engine>⟧.present self.old).cells (⟦<Simulator<'a> as Engine>⟧.present self.new).cells (⟦<Simulator<'a> as Engine>⟧.touch_list self.new) }
+        ensures machine { ⟦<Simulator<'a> as Engine>⟧.machine self.new ≡ ⟦<Simulator<'a> as Engine>⟧.machine self.old }
         ensures description { description_of self.new ≡ description_of self.old }
         ensures image { image_of self.new ≡ image_of self.old }
     {
@@ -94,13 +91,8 @@ impl<'a> Simulator<'a> {
 }
 
 impl<'a> Engine for Simulator<'a> {
-    ghost item_list = { λ s. s.forms.now.items.items };
-
-    ghost array_list = { λ s. arrays_of (tree_of s.runner.described) };
-
-    ghost pin_list = { λ s. pins_of (tree_of s.runner.described) };
-
-    ghost defined = { λ s. state_of (tree_of s.runner.described) s.runner.image };
+    ghost machine = { λ s. machine_of (pins_of (tree_of s.runner.described)) s.forms.now.items.items (arrays_of (tree_of s.runner.described))
+        (state_of (tree_of s.runner.described) s.runner.image) };
 
     ghost present = { λ s. s.runner.present };
 

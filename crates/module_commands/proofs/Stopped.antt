@@ -2,7 +2,7 @@
 use Rattle.std.proofs.Common.{List, ℕ, Option}
 use Rattle.std.specs.Io.KnownBytes.{Keeps}
 use Rattle.lisa_outcomes.specs.RunFiles.{RunBytes}
-use Rattle.engine_commands.specs.Machines.{schedule_bytes}
+use Rattle.engine_commands.specs.Schedules.{schedule_bytes}
 use Rattle.engine_commands.proofs.CutOff.{cut_made_kept}
 use Rattle.module_commands.specs.Designs.{clock_machine}
 use Rattle.module_commands.specs.Clocks.{IsCutClock}

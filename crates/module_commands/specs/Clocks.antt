@@ -3,7 +3,7 @@ use Rattle.std.specs.Prelude.{ℕ, List, Option}
 use Rattle.lisa_outcomes.specs.Outcomes.{Outcome}
 use Rattle.lisa_outcomes.specs.RunFiles.{RunBytes}
 use Rattle.engine_commands.specs.declared.tasks.Task.{Task}
-use Rattle.engine_commands.specs.Machines.{schedule_bytes}
+use Rattle.engine_commands.specs.Schedules.{schedule_bytes}
 use Rattle.engine_commands.specs.Making.{GivesMade, IsCutMade}
 use Rattle.module_commands.specs.Designs.{Design, IsDesign, clock_machine, AfterDesign}
 

@@ -11,7 +11,7 @@ use Rattle.lisa_outcomes.specs.declared.status.Refusal.TheVariants as refusals
 use Rattle.lisa_outcomes.specs.Outcomes.{Outcome, After}
 use Rattle.lisa_outcomes.specs.RunFiles.{RunBytes}
 use Rattle.engine_commands.specs.Images.{IsImageOf, IsNoImage, memories_of}
-use Rattle.engine_commands.specs.Machines.{Machine, machine_of}
+use Rattle.lisa_engine.specs.Machines.{Machine, machine_of}
 
 -- the fault of bytes that are no module
 abbrev pub IsUnreadModule : List ℕ → Refusal → Type 0

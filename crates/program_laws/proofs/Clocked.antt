@@ -13,7 +13,8 @@ use Rattle.lisa_outcomes.specs.RunFiles.{RunNames, RunBytes, run_files, run_byte
 use Rattle.engine_commands.specs.declared.tasks.Task.{Task}
 use Rattle.engine_commands.specs.declared.tasks.Task.TheVariants as tasks
 use Rattle.engine_commands.specs.Images.{IsImageOf, memories_of}
-use Rattle.engine_commands.specs.Machines.{Machine, schedule_bytes}
+use Rattle.lisa_engine.specs.Machines.{Machine}
+use Rattle.engine_commands.specs.Schedules.{schedule_bytes}
 use Rattle.engine_commands.specs.Tasks.{takes_input, GivesTask, GivesUnder}
 use Rattle.engine_commands.specs.Making.{GivesMade}
 use Rattle.module_commands.specs.Designs.{Design, IsDesign, clock_machine}

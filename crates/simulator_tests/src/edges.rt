@@ -40,9 +40,9 @@ fn make_edge<'a>(
     edge: u32,
     pins: &mut [u64],
 ) -> Seen
-    requires schedule { IsFor (⟦<Simulator<'a> as Engine>⟧.pin_list simulator.old) schedule.now }
-    requires room { length pins.old ≡ length (⟦<Simulator<'a> as Engine>⟧.pin_list simulator.old) }
-    ensures pins { ⟦<Simulator<'a> as Engine>⟧.pin_list simulator.new ≡ ⟦<Simulator<'a> as Engine>⟧.pin_list simulator.old }
+    requires schedule { IsFor (⟦<Simulator<'a> as Engine>⟧.machine simulator.old).pins schedule.now }
+    requires room { length pins.old ≡ length (⟦<Simulator<'a> as Engine>⟧.machine simulator.old).pins }
+    ensures pins { (⟦<Simulator<'a> as Engine>⟧.machine simulator.new).pins ≡ (⟦<Simulator<'a> as Engine>⟧.machine simulator.old).pins }
     ensures room { length pins.new ≡ length pins.old }
 {
     schedule.at(edge, pins);
@@ -56,8 +56,8 @@ fn count_edges<'a>(
     edges: u32,
     pins: &mut [u64],
 ) -> [Counts; 3]
-    requires schedule { IsFor (⟦<Simulator<'a> as Engine>⟧.pin_list simulator.old) schedule.now }
-    requires room { length pins.old ≡ length (⟦<Simulator<'a> as Engine>⟧.pin_list simulator.old) }
+    requires schedule { IsFor (⟦<Simulator<'a> as Engine>⟧.machine simulator.old).pins schedule.now }
+    requires room { length pins.old ≡ length (⟦<Simulator<'a> as Engine>⟧.machine simulator.old).pins }
 {
     let mut counts = [[0; 3]; 3];
     'each: for edge in 0..edges {

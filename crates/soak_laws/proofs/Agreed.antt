@@ -30,7 +30,7 @@ use Rattle.verilog_text.specs.Clocked.{v_state}
 use Rattle.verilog_text.specs.Faults.{VAccepts}
 use Rattle.verilog_reader.proofs.TextLaws.{one_spelled}
 use Rattle.lisa_outcomes.specs.Outcomes.{Outcome, Finished, After, passed, stopped}
-use Rattle.engine_commands.specs.Machines.{Machine, machine_of}
+use Rattle.lisa_engine.specs.Machines.{Machine, machine_of}
 use Rattle.checked_descriptions.specs.Checked.{Checked, IsChecked, AfterChecks}
 use Rattle.checked_descriptions.specs.Descriptions.{AfterSpelling}
 use Rattle.description_commands.specs.Runs.{described_machine}

@@ -2,6 +2,7 @@
 ghost use Rattle.std.specs.Prelude.{◌≡◌, ◌≤◌, ◌+◌, Err, Some, None, ℕ, List, [], IfOk, OnOk, length, map};
 ghost use Rattle.std.specs.Vec.{vec_len, vec_capacity};
 ghost use Rattle.lisa_engine.specs.Images.{IsImage, missing_memory};
+ghost use Rattle.lisa_engine.specs.Machines.{machine_of};
 ghost use Rattle.lisa_engine.specs.Shape.{IsShaped, HaveWidths, HaveDistinctNames};
 ghost use Rattle.verilog_text.specs.Trees.{module_tree};
 ghost use Rattle.verilog_text.specs.Clocked.{regs, arrays as all_arrays, v_first, v_state};
@@ -56,11 +57,10 @@ impl<'a> Clock<'a> {
     pub fn make(alloc: Global, module: &'a Module, image: &'a Image) -> Result<Clock<'a>, MakeFault>
         requires module { IsClockable (module_tree module.now) }
         requires image { IsImage image.now }
-        ensures defined { IfOk result (λ c. ⟦<Clock<'a> as Engine>⟧.defined c ≡ v_state (module_tree module.now) image.now) }
+        ensures machine { IfOk result (λ c. ⟦<Clock<'a> as Engine>⟧.machine c
+            ≡ machine_of (module_tree module.now).inputs (regs (module_tree module.now).members) (all_arrays (module_tree module.now).members)
+            (v_state (module_tree module.now) image.now)) }
         ensures first { IfOk result (λ c. ⟦<Clock<'a> as Engine>⟧.present c ≡ v_state (module_tree module.now) image.now []) }
-        ensures items { IfOk result (λ c. ⟦<Clock<'a> as Engine>⟧.item_list c ≡ regs (module_tree module.now).members) }
-        ensures arrays { IfOk result (λ c. ⟦<Clock<'a> as Engine>⟧.array_list c ≡ all_arrays (module_tree module.now).members) }
-        ensures pins { IfOk result (λ c. ⟦<Clock<'a> as Engine>⟧.pin_list c ≡ (module_tree module.now).inputs) }
         ensures found { OnOk result (missing_memory (all_arrays (module_tree module.now).members) image.now ≡ None) }
         ensures missing { (name : List ℕ) → result ≡ Err (MakeFault.NoSuchMemory name) → missing_memory (all_arrays (module_tree module.now).members) image.now ≡ Some name }
     {
@@ -89,13 +89,7 @@ impl<'a> Clock<'a> {
 }
 
 impl<'a> Engine for Clock<'a> {
-    ghost item_list = { λ c. c.items.items };
-
-    ghost array_list = { λ c. c.arrays.items };
-
-    ghost pin_list = { λ c. c.module.now.inputs.items };
-
-    ghost defined = { λ c. v_state (module_tree c.module.now) c.image.now };
+    ghost machine = { λ c. machine_of c.module.now.inputs.items c.items.items c.arrays.items (v_state (module_tree c.module.now) c.image.now) };
 
     ghost present = { λ c. state_of c.values.items (rows c.cells.items) };
 

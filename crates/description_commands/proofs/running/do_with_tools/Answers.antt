@@ -2,7 +2,7 @@ use Rattle.std.proofs.Common.{List, ℕ}
 use Rattle.lisa_engine.specs.Memory.{Memory}
 use Rattle.lisa_outcomes.specs.RunViews.{bytes_of}
 use Rattle.lisa_outcomes.proofs.Endings.{passed_ends, stopped_ends}
-use Rattle.engine_commands.specs.Machines.{schedule_bytes}
+use Rattle.engine_commands.specs.Schedules.{schedule_bytes}
 use Rattle.engine_commands.specs.Making.{GivesMade}
 use Rattle.description_commands.specs.Runs.{described_machine}
 use Rattle.checked_descriptions.specs.ToolViews.{checked_of}

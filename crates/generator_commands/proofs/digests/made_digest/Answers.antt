@@ -1,6 +1,6 @@
 use Rattle.std.proofs.Common.{◌≡◌, IfOk, subst}
 use Rattle.sha2.specs.Sha256.{sha256}
-use Rattle.engine_commands.specs.Machines.{Machine}
+use Rattle.lisa_engine.specs.Machines.{Machine}
 use Rattle.generator_commands.specs.Reports.{final_text}
 use Rattle.generator_commands.proofs.digests.made_digest.Goals as goal
 

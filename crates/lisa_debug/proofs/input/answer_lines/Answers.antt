@@ -1,7 +1,7 @@
 use Rattle.std.proofs.Common.{◌≡◌, ◌+◌, ◌≤◌, length, take, refl, inr, arith, rules}
 use Rattle.std.proofs.lemmas.List.{length-take-le}
 use Rattle.lisa_io.proofs.Known.{appends_kept}
-use Rattle.lisa_debug.specs.Courses.{course_of}
+use Rattle.lisa_engine.specs.Machines.{course_of}
 use Rattle.lisa_debug.specs.Sessions.{answers, whole_lines, most_input}
 use Rattle.lisa_debug.proofs.Readings.{not_long, ran_stop, ran_failed, ran_quit, reads_more}
 use Rattle.lisa_debug.proofs.input.answer_lines.Goals as goal
@@ -13,7 +13,7 @@ returns-in_err-count-clause-ran g c =
 pub returns-in_err-take_bytes-clause-ran : goal.returns-in_err-take_bytes-clause-ran
 returns-in_err-take_bytes-clause-ran g c =
     let reads = c.loop-taken.invariant.0 in
-    let course = course_of (g.E.Engine.pin_list c.args.session.now.engine) (g.E.Engine.item_list c.args.session.now.engine) (g.E.Engine.array_list c.args.session.now.engine) (g.E.Engine.defined c.args.session.now.engine) c.args.session.now.schedule in
+    let course = course_of (g.E.Engine.machine c.args.session.now.engine) c.args.session.now.schedule in
     let put = appends_kept _ _ _ (answers course (whole_lines reads.so_far)).text reads.put c.in_ok-count.ensures.written in
     let within : c.loop-taken.taken + length (take c.in_ok-count.count c.take_piece.new.piece) ≤ most_input + 1
     = omega (arith, length-take-le c.in_ok-count.count c.take_piece.new.piece (search rules), c.in_ok-count.ensures.bound, c.min-room.ensures) in
@@ -23,7 +23,7 @@ returns-in_err-take_bytes-clause-ran g c =
 pub loop-taken-preserved : goal.loop-taken-preserved
 loop-taken-preserved g c =
     let reads = c.loop-taken.invariant.0 in
-    let course = course_of (g.E.Engine.pin_list c.args.session.now.engine) (g.E.Engine.item_list c.args.session.now.engine) (g.E.Engine.array_list c.args.session.now.engine) (g.E.Engine.defined c.args.session.now.engine) c.args.session.now.schedule in
+    let course = course_of (g.E.Engine.machine c.args.session.now.engine) c.args.session.now.schedule in
     let put = appends_kept _ _ _ (answers course (whole_lines reads.so_far)).text reads.put c.in_ok-count.ensures.written in
     let long = length-take-le c.in_ok-count.count c.take_piece.new.piece (search rules) in
     let total : c.loop-taken.taken + length (take c.in_ok-count.count c.take_piece.new.piece) ≡ c.loop-taken.taken + c.in_ok-count.count = omega (arith, long) in
@@ -37,7 +37,7 @@ loop-taken-preserved g c =
 pub returns-in-Quit-clause-ran : goal.returns-in-Quit-clause-ran
 returns-in-Quit-clause-ran g c =
     let reads = c.loop-taken.invariant.0 in
-    let course = course_of (g.E.Engine.pin_list c.args.session.now.engine) (g.E.Engine.item_list c.args.session.now.engine) (g.E.Engine.array_list c.args.session.now.engine) (g.E.Engine.defined c.args.session.now.engine) c.args.session.now.schedule in
+    let course = course_of (g.E.Engine.machine c.args.session.now.engine) c.args.session.now.schedule in
     let put = appends_kept _ _ _ (answers course (whole_lines reads.so_far)).text reads.put c.in_ok-count.ensures.written in
     let within : c.loop-taken.taken + length (take c.in_ok-count.count c.take_piece.new.piece) ≤ most_input + 1
     = omega (arith, length-take-le c.in_ok-count.count c.take_piece.new.piece (search rules), c.in_ok-count.ensures.bound, c.min-room.ensures) in

@@ -1,6 +1,6 @@
 use Rattle.std.proofs.Common.{◌≤◌, ◌++◌, ℕ, List, Option, take}
 use Rattle.std.specs.Io.KnownBytes.{Appends}
-use Rattle.lisa_debug.specs.Courses.{Course, course_of}
+use Rattle.lisa_engine.specs.Machines.{Course, course_of}
 use Rattle.lisa_debug.specs.Kept.{IsLive}
 use Rattle.lisa_debug.specs.Sessions.{answers, whole_lines}
 use Rattle.lisa_debug.specs.Taking.{Stands}
@@ -8,8 +8,8 @@ use Rattle.lisa_debug.proofs.input.take_bytes.Given as goal
 
 abbrev pub invariant-loop-byte : goal.invariant-loop-byte
 invariant-loop-byte g l =
-    let before = course_of (g.E.Engine.pin_list l.fn.session.engine) (g.E.Engine.item_list l.fn.session.engine) (g.E.Engine.array_list l.fn.session.engine) (g.E.Engine.defined l.fn.session.engine) l.fn.session.schedule in
-    let now = course_of (g.E.Engine.pin_list l.session.engine) (g.E.Engine.item_list l.session.engine) (g.E.Engine.array_list l.session.engine) (g.E.Engine.defined l.session.engine) l.session.schedule in
+    let before = course_of (g.E.Engine.machine l.fn.session.engine) l.fn.session.schedule in
+    let now = course_of (g.E.Engine.machine l.session.engine) l.session.schedule in
     IsLive now (g.E.Engine.present l.session.engine) l.session.journal
     × (g.O.Sink.faults l.fn.out ≤ g.O.Sink.faults l.out)
     × ((course : Course) (start : Option (List ℕ)) (taken : List ℕ) → Stands course before (g.E.Engine.present l.fn.session.engine) l.fn.session.journal l.fn.line.items taken

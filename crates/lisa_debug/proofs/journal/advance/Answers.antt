@@ -1,6 +1,6 @@
 use Rattle.std.proofs.Common.{◌+◌, ap, ◌∙◌, sym, subst, take, arith}
 use Rattle.lisa_engine.specs.PinValues.{after_lines, IsPlayable}
-use Rattle.lisa_debug.specs.Courses.{Course, course_of}
+use Rattle.lisa_engine.specs.Machines.{Course, course_of}
 use Rattle.lisa_debug.proofs.Steps.{same_course, played_fit, has_made}
 use Rattle.lisa_debug.proofs.journal.advance.Goals as goal
 
@@ -21,7 +21,7 @@ play-next-requires-clause-values g c = c.requires.played.values ∙ ap (λ n. af
 
 pub edge-requires : goal.edge-requires
 edge-requires g c =
-    let course : Course = course_of (g.E.Engine.pin_list c.args.engine.now) (g.E.Engine.item_list c.args.engine.now) (g.E.Engine.array_list c.args.engine.now) (g.E.Engine.defined c.args.engine.now) c.args.schedule.now in
+    let course : Course = course_of (g.E.Engine.machine c.args.engine.now) c.args.schedule.now in
     played_fit course (c.args.edge + 1) c.play-next.result c.play-next.new.into c.requires.schedule (record {
       after = c.play-next.ensures.place;
       values = c.play-next.ensures.values ∙ ap (λ n. after_lines n (take c.play-next.result c.args.schedule.now)) c.requires.room;
@@ -29,8 +29,8 @@ edge-requires g c =
 
 pub returns-clause-made : goal.returns-clause-made
 returns-clause-made g c =
-    let course : Course = course_of (g.E.Engine.pin_list c.args.engine.now) (g.E.Engine.item_list c.args.engine.now) (g.E.Engine.array_list c.args.engine.now) (g.E.Engine.defined c.args.engine.now) c.args.schedule.now in
-    let now : Course = course_of (g.E.Engine.pin_list c.edge.new.self) (g.E.Engine.item_list c.edge.new.self) (g.E.Engine.array_list c.edge.new.self) (g.E.Engine.defined c.edge.new.self) c.args.schedule.now in
+    let course : Course = course_of (g.E.Engine.machine c.args.engine.now) c.args.schedule.now in
+    let now : Course = course_of (g.E.Engine.machine c.edge.new.self) c.args.schedule.now in
     has_made course now (g.E.Engine.present c.args.engine.now) (g.E.Engine.present c.edge.new.self) (g.E.Engine.touch_list c.edge.new.self) c.args.edge c.play-next.result c.play-next.new.into c.keep_row.new.row
     c.requires.schedule
     (record {
@@ -38,7 +38,7 @@ returns-clause-made g c =
       values = c.play-next.ensures.values ∙ ap (λ n. after_lines n (take c.play-next.result c.args.schedule.now)) c.requires.room;
     })
     c.requires.now c.edge.ensures.leads c.edge.ensures.touches
-    (same_course c.args.schedule.now c.edge.ensures.pins c.edge.ensures.items c.edge.ensures.arrays c.edge.ensures.defined) c.keep_row.ensures
+    (same_course c.args.schedule.now c.edge.ensures.machine) c.keep_row.ensures
 
 pub returns-clause-played : goal.returns-clause-played
 returns-clause-played g c = record {

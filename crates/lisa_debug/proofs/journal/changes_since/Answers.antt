@@ -9,13 +9,13 @@ loop-item-preserved g c =
     let shape = g.met.E.Engine.shaped c.args.engine.now in
     let within : c.loop-item.item < length (g.E.Engine.present c.args.engine.now).items = omega (arith, shape.values.count, c.requires) in
     let same : length c.args.row.now ≡ length (g.E.Engine.present c.args.engine.now).items = omega (arith, shape.values.count, c.requires) in
-    let there : c.loop-item.item < length (g.E.Engine.item_list c.args.engine.now) = omega (arith, c.requires) in
+    let there : c.loop-item.item < length (g.E.Engine.machine c.args.engine.now).items = omega (arith, c.requires) in
     let grown : c.keep_change.new.changes.items ≡ with_change c.loop-item.changes.items c.loop-item.item (slice_index c.args.row.now c.loop-item.item) c.value.result = c.in_ok-keep_change.ensures in (
       ap (λ changes. restored changes (g.E.Engine.present c.args.engine.now).items) grown
           ∙ restored_more c.loop-item.item c.args.row.now (g.E.Engine.present c.args.engine.now).items c.loop-item.changes.items (slice_index c.args.row.now c.loop-item.item) c.value.result
           within same c.value.ensures refl c.loop-item.invariant.0,
-      subst (λ changes. All (λ change. change.item < length (g.E.Engine.item_list c.args.engine.now)) changes) (sym grown)
-          (placed_more (length (g.E.Engine.item_list c.args.engine.now)) c.loop-item.item c.loop-item.changes.items (slice_index c.args.row.now c.loop-item.item) c.value.result there c.loop-item.invariant.1),
+      subst (λ changes. All (λ change. change.item < length (g.E.Engine.machine c.args.engine.now).items) changes) (sym grown)
+          (placed_more (length (g.E.Engine.machine c.args.engine.now).items) c.loop-item.item c.loop-item.changes.items (slice_index c.args.row.now c.loop-item.item) c.value.result there c.loop-item.invariant.1),
     )
 
 pub returns-clause-back : goal.returns-clause-back

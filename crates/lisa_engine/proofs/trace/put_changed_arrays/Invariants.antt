@@ -8,5 +8,5 @@ use Rattle.lisa_engine.proofs.trace.put_changed_arrays.Given as goal
 abbrev pub invariant-loop-place : goal.invariant-loop-place
 invariant-loop-place g l =
     Puts {T = Unit {0}} {E = Failed} (g.O.Sink.written l.fn.out) (g.O.Sink.written l.out) (g.O.Sink.faults l.fn.out) (g.O.Sink.faults l.out) (Ok tt)
-    (flat_map (touched_array l.row) (take l.place (enumerate_from 0 (zip (g.E.Engine.array_list l.fn.engine) (g.E.Engine.present l.fn.engine).cells))))
+    (flat_map (touched_array l.row) (take l.place (enumerate_from 0 (zip (g.E.Engine.machine l.fn.engine).arrays (g.E.Engine.present l.fn.engine).cells))))
     × IsCut l.row l.place l.from

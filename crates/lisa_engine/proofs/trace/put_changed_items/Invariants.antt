@@ -8,5 +8,5 @@ use Rattle.lisa_engine.proofs.trace.put_changed_items.Given as goal
 abbrev pub invariant-loop-place : goal.invariant-loop-place
 invariant-loop-place g l =
     Puts {T = Unit {0}} {E = Failed} (g.O.Sink.written l.fn.out) (g.O.Sink.written l.out) (g.O.Sink.faults l.fn.out) (g.O.Sink.faults l.out) (Ok tt)
-    (flat_map changed_line (take l.place (zip (g.E.Engine.item_list l.fn.engine) (zip l.fn.before (g.E.Engine.present l.fn.engine).items))))
+    (flat_map changed_line (take l.place (zip (g.E.Engine.machine l.fn.engine).items (zip l.fn.before (g.E.Engine.present l.fn.engine).items))))
     × (l.before ≡ take l.place (g.E.Engine.present l.fn.engine).items ++ drop l.place l.fn.before)

@@ -17,7 +17,7 @@ pub answer_now-requires-clause-live : goal.answer_now-requires-clause-live
 answer_now-requires-clause-live g c = c.in-Ok.ensures.live
 
 pub answer_now-requires-clause-shown : goal.answer_now-requires-clause-shown
-answer_now-requires-clause-shown g c = subst (λ k. IsShown k.items k.arrays c.args.command) (sym c.in-Ok.ensures.same) c.requires.shown
+answer_now-requires-clause-shown g c = subst (λ k. IsShown k.machine.items k.machine.arrays c.args.command) (sym c.in-Ok.ensures.same) c.requires.shown
 
 pub returns-in-Ok-clause-puts : goal.returns-in-Ok-clause-puts
 returns-in-Ok-clause-puts g c =

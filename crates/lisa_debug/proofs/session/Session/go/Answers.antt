@@ -15,7 +15,7 @@ pub step_until-requires-clause-limit : goal.step_until-requires-clause-limit
 step_until-requires-clause-limit g c = subst (IsWithin (length c.args.self.now.journal.entries.items)) c.in-Until.is c.requires.within
 
 pub step_until-requires-clause-item : goal.step_until-requires-clause-item
-step_until-requires-clause-item g c = subst (IsShown (g.E.Engine.item_list c.args.self.now.engine) (g.E.Engine.array_list c.args.self.now.engine)) c.in-Until.is c.requires.shown
+step_until-requires-clause-item g c = subst (IsShown (g.E.Engine.machine c.args.self.now.engine).items (g.E.Engine.machine c.args.self.now.engine).arrays) c.in-Until.is c.requires.shown
 
 pub back-requires-clause-live : goal.back-requires-clause-live
 back-requires-clause-live g c = c.requires.live

@@ -1,6 +1,6 @@
 use Rattle.std.proofs.Common.{length}
 use Rattle.lisa_debug.proofs.Fronts.{puts_spent, on_map}
-use Rattle.lisa_debug.specs.Courses.{course_of}
+use Rattle.lisa_engine.specs.Machines.{course_of}
 use Rattle.lisa_debug.specs.Kept.{CameTo}
 use Rattle.lisa_debug.specs.Answers.{answer}
 use Rattle.lisa_debug.proofs.session.Session.line.Goals as goal
@@ -25,22 +25,22 @@ returns-clause-puts g c = rw c.in_ok-read.ensures.read at c.respond.ensures.puts
 
 pub returns-clause-position : goal.returns-clause-position
 returns-clause-position g c =
-    let before = course_of (g.E.Engine.pin_list c.args.self.now.engine) (g.E.Engine.item_list c.args.self.now.engine) (g.E.Engine.array_list c.args.self.now.engine) (g.E.Engine.defined c.args.self.now.engine) c.args.self.now.schedule in
-    on_map {X = CameTo before (course_of (g.E.Engine.pin_list c.respond.new.self.engine) (g.E.Engine.item_list c.respond.new.self.engine) (g.E.Engine.array_list c.respond.new.self.engine) (g.E.Engine.defined c.respond.new.self.engine) c.respond.new.self.schedule)
+    let before = course_of (g.E.Engine.machine c.args.self.now.engine) c.args.self.now.schedule in
+    on_map {X = CameTo before (course_of (g.E.Engine.machine c.respond.new.self.engine) c.respond.new.self.schedule)
     (g.E.Engine.present c.respond.new.self.engine) c.respond.new.self.journal (answer before (length c.args.self.now.journal.entries.items) c.args.line.now).position}
     c.respond.result (rw c.in_ok-read.ensures.read at c.respond.ensures.came) (λ came. came.stands)
 
 pub returns-clause-course : goal.returns-clause-course
 returns-clause-course g c =
-    let before = course_of (g.E.Engine.pin_list c.args.self.now.engine) (g.E.Engine.item_list c.args.self.now.engine) (g.E.Engine.array_list c.args.self.now.engine) (g.E.Engine.defined c.args.self.now.engine) c.args.self.now.schedule in
-    on_map {X = CameTo before (course_of (g.E.Engine.pin_list c.respond.new.self.engine) (g.E.Engine.item_list c.respond.new.self.engine) (g.E.Engine.array_list c.respond.new.self.engine) (g.E.Engine.defined c.respond.new.self.engine) c.respond.new.self.schedule)
+    let before = course_of (g.E.Engine.machine c.args.self.now.engine) c.args.self.now.schedule in
+    on_map {X = CameTo before (course_of (g.E.Engine.machine c.respond.new.self.engine) c.respond.new.self.schedule)
     (g.E.Engine.present c.respond.new.self.engine) c.respond.new.self.journal (answer before (length c.args.self.now.journal.entries.items) c.args.line.now).position}
     c.respond.result (rw c.in_ok-read.ensures.read at c.respond.ensures.came) (λ came. came.same)
 
 pub returns-clause-lives : goal.returns-clause-lives
 returns-clause-lives g c =
-    let before = course_of (g.E.Engine.pin_list c.args.self.now.engine) (g.E.Engine.item_list c.args.self.now.engine) (g.E.Engine.array_list c.args.self.now.engine) (g.E.Engine.defined c.args.self.now.engine) c.args.self.now.schedule in
-    on_map {X = CameTo before (course_of (g.E.Engine.pin_list c.respond.new.self.engine) (g.E.Engine.item_list c.respond.new.self.engine) (g.E.Engine.array_list c.respond.new.self.engine) (g.E.Engine.defined c.respond.new.self.engine) c.respond.new.self.schedule)
+    let before = course_of (g.E.Engine.machine c.args.self.now.engine) c.args.self.now.schedule in
+    on_map {X = CameTo before (course_of (g.E.Engine.machine c.respond.new.self.engine) c.respond.new.self.schedule)
     (g.E.Engine.present c.respond.new.self.engine) c.respond.new.self.journal (answer before (length c.args.self.now.journal.entries.items) c.args.line.now).position}
     c.respond.result (rw c.in_ok-read.ensures.read at c.respond.ensures.came) (λ came. came.live)
 

@@ -1,5 +1,5 @@
 use Rattle.std.proofs.Common.{◌∙◌, length, ap, sym, arith, refl}
-use Rattle.lisa_debug.specs.Courses.{course_of, state_at}
+use Rattle.lisa_engine.specs.Machines.{course_of, state_at}
 use Rattle.lisa_debug.proofs.session.Session.make.Goals as goal
 
 pub same-schedule : goal.same-schedule
@@ -10,7 +10,7 @@ returns g c = record {
   course = refl;
   lives = record {
     schedule = c.requires.schedule;
-    now = c.requires.first ∙ ap (λ es. state_at (course_of (g.E.Engine.pin_list c.args.engine) (g.E.Engine.item_list c.args.engine) (g.E.Engine.array_list c.args.engine) (g.E.Engine.defined c.args.engine) c.args.schedule) (length es)) (sym c.new.ensures.items);
+    now = c.requires.first ∙ ap (λ es. state_at (course_of (g.E.Engine.machine c.args.engine) c.args.schedule) (length es)) (sym c.new.ensures.items);
     limit = omega (arith, ap length c.new.ensures.items);
     entries = λ k d within. absurd (omega (arith, ap length c.new.ensures.items));
     row = omega (arith, c.in_ok-row.ensures.len, ap length c.items.ensures);

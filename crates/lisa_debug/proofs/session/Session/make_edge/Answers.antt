@@ -2,7 +2,7 @@ use Rattle.std.proofs.Common.{◌≡◌, ◌+◌, ◌∙◌, length, ap, sym, su
 use Rattle.std.proofs.Common.{◌<◌}
 use Rattle.std.specs.Prelude.{All}
 use Rattle.lisa_engine.specs.PinValues.{IsPlaceAfter}
-use Rattle.lisa_debug.specs.Courses.{Course, course_of, state_at}
+use Rattle.lisa_engine.specs.Machines.{Course, course_of, state_at}
 use Rattle.lisa_debug.specs.Kept.{HasMade, LeadsOver}
 use Rattle.lisa_debug.specs.declared.journal.Entry.{Entry}
 use Rattle.lisa_debug.proofs.Rows.{kept_items}
@@ -19,7 +19,7 @@ pub advance-next-requires-clause-limit : goal.advance-next-requires-clause-limit
 advance-next-requires-clause-limit g c = omega (arith, c.requires.limit, c.position-position.ensures)
 
 pub advance-next-requires-clause-now : goal.advance-next-requires-clause-now
-advance-next-requires-clause-now g c = c.requires.live.now ∙ ap (state_at (course_of (g.E.Engine.pin_list c.args.self.now.engine) (g.E.Engine.item_list c.args.self.now.engine) (g.E.Engine.array_list c.args.self.now.engine) (g.E.Engine.defined c.args.self.now.engine) c.args.self.now.schedule)) (sym c.position-position.ensures)
+advance-next-requires-clause-now g c = c.requires.live.now ∙ ap (state_at (course_of (g.E.Engine.machine c.args.self.now.engine) c.args.self.now.schedule)) (sym c.position-position.ensures)
 
 pub advance-next-requires-clause-played : goal.advance-next-requires-clause-played
 advance-next-requires-clause-played g c = record {
@@ -38,7 +38,7 @@ changes_since-requires g c =
     let row_long : length c.advance-next.new.row ≡ c.args.self.now.journal.row.len = omega (arith, c.deref_mut.ensures.len) in
     let row_is : c.deref.result.now ≡ c.advance-next.new.row
     = c.deref.ensures.value ∙ kept_items c.args.self.now.journal.row.len c.advance-next.new.row c.args.self.now.journal.row.items row_long in
-    let items_are : g.E.Engine.item_list c.advance-next.new.engine ≡ g.E.Engine.item_list c.args.self.now.engine = ap (λ k. k.items) c.advance-next.ensures.made.same in
+    let items_are : (g.E.Engine.machine c.advance-next.new.engine).items ≡ (g.E.Engine.machine c.args.self.now.engine).items = ap (λ k. k.machine.items) c.advance-next.ensures.made.same in
     omega (arith, ap length row_is, ap length items_are, c.requires.live.row, ap length c.deref_mut.ensures.value)
 
 pub returns-clause-came : goal.returns-clause-came
@@ -46,17 +46,17 @@ returns-clause-came g c =
     let row_long : length c.advance-next.new.row ≡ c.args.self.now.journal.row.len = omega (arith, c.deref_mut.ensures.len) in
     let row_is : c.deref.result.now ≡ c.advance-next.new.row
     = c.deref.ensures.value ∙ kept_items c.args.self.now.journal.row.len c.advance-next.new.row c.args.self.now.journal.row.items row_long in
-    let items_are : g.E.Engine.item_list c.advance-next.new.engine ≡ g.E.Engine.item_list c.args.self.now.engine = ap (λ k. k.items) c.advance-next.ensures.made.same in
+    let items_are : (g.E.Engine.machine c.advance-next.new.engine).items ≡ (g.E.Engine.machine c.args.self.now.engine).items = ap (λ k. k.machine.items) c.advance-next.ensures.made.same in
     let pins_long : length c.advance-next.new.pins ≡ c.args.self.now.journal.pins.len = omega (arith, c.deref_mut-2.ensures.len) in
     let row_total : length c.advance-next.new.row ≡ length c.args.self.now.journal.row.items = omega (arith, ap length c.deref_mut.ensures.value) in
     let pins_total : length c.advance-next.new.pins ≡ length c.args.self.now.journal.pins.items = omega (arith, ap length c.deref_mut-2.ensures.value) in
-    let course : Course = (course_of (g.E.Engine.pin_list c.args.self.now.engine) (g.E.Engine.item_list c.args.self.now.engine) (g.E.Engine.array_list c.args.self.now.engine) (g.E.Engine.defined c.args.self.now.engine) c.args.self.now.schedule) in
-    let now : Course = course_of (g.E.Engine.pin_list c.advance-next.new.engine) (g.E.Engine.item_list c.advance-next.new.engine) (g.E.Engine.array_list c.advance-next.new.engine) (g.E.Engine.defined c.advance-next.new.engine) c.args.self.now.schedule in
+    let course : Course = (course_of (g.E.Engine.machine c.args.self.now.engine) c.args.self.now.schedule) in
+    let now : Course = course_of (g.E.Engine.machine c.advance-next.new.engine) c.args.self.now.schedule in
     let entry : Entry = record { changes = c.in_ok-changes.changes; touches = c.in_ok-touches.touches } in
     let made : HasMade course now (g.E.Engine.present c.args.self.now.engine) (g.E.Engine.present c.advance-next.new.engine) (g.E.Engine.touch_list c.advance-next.new.engine) (length c.args.self.now.journal.entries.items) c.advance-next.new.row
     = subst (λ k. HasMade course now (g.E.Engine.present c.args.self.now.engine) (g.E.Engine.present c.advance-next.new.engine) (g.E.Engine.touch_list c.advance-next.new.engine) k c.advance-next.new.row)
     c.position-position.ensures c.advance-next.ensures.made in
-    let places : All (λ change. change.item < length course.items) entry.changes.items
+    let places : All (λ change. change.item < length course.machine.items) entry.changes.items
     = subst (λ items. All (λ change. change.item < length items) entry.changes.items) items_are c.in_ok-changes.ensures.places in
     let over : LeadsOver course (length c.args.self.now.journal.entries.items) entry
     = leads_over course now (g.E.Engine.present c.args.self.now.engine) (g.E.Engine.present c.advance-next.new.engine) (g.E.Engine.touch_list c.advance-next.new.engine) (length c.args.self.now.journal.entries.items) c.advance-next.new.row entry

@@ -10,7 +10,7 @@ position-position-requires g c = c.requires.limit
 
 pub play_until-requires : goal.play_until-requires
 play_until-requires g c =
-    let width : length c.deref_mut.result.now ≡ length (g.E.Engine.pin_list c.args.self.now.engine) = omega (arith, ap length c.deref_mut.ensures.value, c.requires.room) in
+    let width : length c.deref_mut.result.now ≡ length (g.E.Engine.machine c.args.self.now.engine).pins = omega (arith, ap length c.deref_mut.ensures.value, c.requires.room) in
     subst (λ n. IsPlayable n c.args.self.now.schedule) (sym width) c.requires.schedule.playable
 
 pub returns-clause-came : goal.returns-clause-came
@@ -22,7 +22,7 @@ returns-clause-came g c =
 pub returns-clause-played : goal.returns-clause-played
 returns-clause-played g c =
     let long : length c.play_until.new.pins ≡ c.args.self.now.journal.pins.len = omega (arith, c.deref_mut.ensures.len) in
-    let width : length c.deref_mut.result.now ≡ length (g.E.Engine.pin_list c.args.self.now.engine) = omega (arith, ap length c.deref_mut.ensures.value, c.requires.room) in
+    let width : length c.deref_mut.result.now ≡ length (g.E.Engine.machine c.args.self.now.engine).pins = omega (arith, ap length c.deref_mut.ensures.value, c.requires.room) in
     record {
       after = subst (λ k. IsPlaceAfter c.args.self.now.schedule k c.play_until.result) c.position-position.ensures c.play_until.ensures.place;
       values = kept_items c.args.self.now.journal.pins.len c.play_until.new.pins c.args.self.now.journal.pins.items long ∙ c.play_until.ensures.values

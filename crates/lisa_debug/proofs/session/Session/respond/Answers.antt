@@ -11,7 +11,7 @@ pub carry_out-requires-clause-within : goal.carry_out-requires-clause-within
 carry_out-requires-clause-within g c = subst (λ r. IfOk r (IsWithin (length c.args.self.now.journal.entries.items))) c.in-Ok.is c.requires.within
 
 pub carry_out-requires-clause-shown : goal.carry_out-requires-clause-shown
-carry_out-requires-clause-shown g c = subst (λ r. IfOk r (IsShown (g.E.Engine.item_list c.args.self.now.engine) (g.E.Engine.array_list c.args.self.now.engine))) c.in-Ok.is c.requires.shown
+carry_out-requires-clause-shown g c = subst (λ r. IfOk r (IsShown (g.E.Engine.machine c.args.self.now.engine).items (g.E.Engine.machine c.args.self.now.engine).arrays)) c.in-Ok.is c.requires.shown
 
 pub returns-in-Ok-clause-puts : goal.returns-in-Ok-clause-puts
 returns-in-Ok-clause-puts g c = rw c.in-Ok.is c.carry_out.ensures.puts

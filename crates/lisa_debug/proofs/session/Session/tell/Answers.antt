@@ -7,16 +7,16 @@ pub position-position-requires : goal.position-position-requires
 position-position-requires g c = c.requires.live.limit
 
 pub value-requires : goal.value-requires
-value-requires g c = subst (IsShown (g.E.Engine.item_list c.args.self.now.engine) (g.E.Engine.array_list c.args.self.now.engine)) c.in-Until.is c.requires.shown
+value-requires g c = subst (IsShown (g.E.Engine.machine c.args.self.now.engine).items (g.E.Engine.machine c.args.self.now.engine).arrays) c.in-Until.is c.requires.shown
 
 pub put_item-requires : goal.put_item-requires
-put_item-requires g c = subst (IsShown (g.E.Engine.item_list c.args.self.now.engine) (g.E.Engine.array_list c.args.self.now.engine)) c.in-ShowItem.is c.requires.shown
+put_item-requires g c = subst (IsShown (g.E.Engine.machine c.args.self.now.engine).items (g.E.Engine.machine c.args.self.now.engine).arrays) c.in-ShowItem.is c.requires.shown
 
 pub put_cell-requires-clause-array : goal.put_cell-requires-clause-array
-put_cell-requires-clause-array g c = (subst (IsShown (g.E.Engine.item_list c.args.self.now.engine) (g.E.Engine.array_list c.args.self.now.engine)) c.in-ShowCell.is c.requires.shown).0
+put_cell-requires-clause-array g c = (subst (IsShown (g.E.Engine.machine c.args.self.now.engine).items (g.E.Engine.machine c.args.self.now.engine).arrays) c.in-ShowCell.is c.requires.shown).0
 
 pub put_cell-requires-clause-index : goal.put_cell-requires-clause-index
-put_cell-requires-clause-index g c = (subst (IsShown (g.E.Engine.item_list c.args.self.now.engine) (g.E.Engine.array_list c.args.self.now.engine)) c.in-ShowCell.is c.requires.shown).1
+put_cell-requires-clause-index g c = (subst (IsShown (g.E.Engine.machine c.args.self.now.engine).items (g.E.Engine.machine c.args.self.now.engine).arrays) c.in-ShowCell.is c.requires.shown).1
 
 pub returns-in-Until : goal.returns-in-Until
 returns-in-Until g c = rw c.in-Until.is (rw (c.position-position.ensures, c.value.ensures, c.requires.live.now) at c.put_met_line.ensures)
