@@ -1,0 +1,2 @@
+pub mod BehaviorLevels
+pub mod ModuleLevels
