@@ -1,2 +1,5 @@
 pub mod Memos
 pub mod Naming
+pub mod Noting
+pub mod Places
+pub mod Standing

@@ -1,14 +1,17 @@
 //! What is noted, and what is found.
 
-ghost use Rattle.std.specs.Prelude.{◌≡◌, ◌<◌, ℕ, List, IfOk, IfSome, IsTrue, length};
+ghost use Rattle.std.specs.Prelude.{◌≡◌, ◌<◌, ℕ, List, Option, None, Some, IfOk, IfSome, OnOk};
+ghost use Rattle.std.specs.Prelude.{OnErr, IsTrue, length};
+ghost use Rattle.name_tables.specs.TableViews.{value_of};
 ghost use Rattle.noted_names.specs.declared.places.Places.{Places};
-ghost use Rattle.noted_names.specs.Memos.{Remembers};
+ghost use Rattle.noted_names.specs.Memos.{Adds, IsRemembered, IsSame, Remembers};
 
 use crate::entry::Entry;
 use crate::memo::Memo;
 use crate::places::Places;
 use lisa_words::Name;
 use std::alloc::{AllocError, Global};
+use std::collections::BTreeMap;
 
 // Where a name is looked for first, before it is cut to the number of slots.
 fn first_slot(name: &Name) -> usize {
@@ -38,7 +41,7 @@ fn slot_count(names: usize) -> usize {
 
 #[tactic(auto, using(crate::proofs::Kept::no_slot_yet, crate::proofs::Kept::one_slot_more))]
 fn no_slots(alloc: Global, count: usize) -> Result<Vec<Option<Entry>>, AllocError>
-    ensures { IfOk result (λ slots. (f : List ℕ → Places) → Remembers f slots.items) }
+    ensures { IfOk result (λ slots. (f : List ℕ → Option Places) → Remembers f slots.items) }
 {
     let mut slots = Vec::new(alloc);
     'slots: for _slot in 0..count {
@@ -47,83 +50,114 @@ fn no_slots(alloc: Global, count: usize) -> Result<Vec<Option<Entry>>, AllocErro
     Ok(slots)
 }
 
+// The places of a name, if it stands at this slot.
+#[tactic(auto, using(crate::proofs::Kept::kept_at))]
+fn at(slots: &[Option<Entry>], slot: usize, name: &Name) -> Option<Places>
+    ensures { IsRemembered slots.now name.now result }
+{
+    if slot >= slots.len() {
+        return None;
+    }
+    match &slots[slot] {
+        None => None,
+        Some(entry) => {
+            if entry.name == *name {
+                Some(entry.places)
+            } else {
+                None
+            }
+        }
+    }
+}
+
+// The places of a name, if it stands at one of its slots.
+fn at_its_slots(slots: &[Option<Entry>], name: &Name) -> Option<Places>
+    ensures { IsRemembered slots.now name.now result }
+{
+    let last = slots.len().saturating_sub(1);
+    let first = first_slot(name);
+    if let Some(places) = at(slots, first & last, name) {
+        return Some(places);
+    }
+    if let Some(places) = at(slots, first.wrapping_add(1) & last, name) {
+        return Some(places);
+    }
+    at(slots, first.wrapping_add(2) & last, name)
+}
+
+// Whether a slot is there and has no name.
+fn is_free(slots: &[Option<Entry>], slot: usize) -> bool
+    ensures { IsTrue result → slot < length slots.now }
+{
+    slot < slots.len() && slots[slot].is_none()
+}
+
+// A slot of a name that is free.
+fn free_slot(slots: &[Option<Entry>], name: &Name) -> Option<usize>
+    ensures { IfSome result (λ slot. slot < length slots.now) }
+{
+    let last = slots.len().saturating_sub(1);
+    let first = first_slot(name);
+    if is_free(slots, first & last) {
+        return Some(first & last);
+    }
+    if is_free(slots, first.wrapping_add(1) & last) {
+        return Some(first.wrapping_add(1) & last);
+    }
+    if is_free(slots, first.wrapping_add(2) & last) {
+        return Some(first.wrapping_add(2) & last);
+    }
+    None
+}
+
 impl Memo {
-    /// Nothing is noted yet; there is room for so many names.
+    /// Nothing is noted yet; the slots are for so many names.
     pub fn new(alloc: Global, names: usize) -> Result<Memo, AllocError>
-        ensures { IfOk result (λ memo. (f : List ℕ → Places) → Remembers f memo.slots.items) }
+        ensures { IfOk result (λ memo. (n : List ℕ) → value_of memo.table n ≡ None) }
     {
         Ok(Memo {
+            table: BTreeMap::new(alloc),
             slots: no_slots(alloc, slot_count(names))?,
         })
     }
 
-    // The places of a name, if it stands at this slot.
-    #[tactic(auto, using(crate::proofs::Kept::kept_at))]
-    fn at(&self, slot: usize, name: &Name) -> Option<Places>
-        ensures { (f : List ℕ → Places) → Remembers f self.now.slots.items → IfSome result (λ places. places ≡ f name.now) }
-    {
-        if slot >= self.slots.len() {
-            return None;
-        }
-        match &self.slots[slot] {
-            None => None,
-            Some(entry) => {
-                if entry.name == *name {
-                    Some(entry.places)
-                } else {
-                    None
-                }
-            }
-        }
-    }
-
     /// What is noted of a name.
     pub fn find(&self, name: &Name) -> Option<Places>
-        ensures { (f : List ℕ → Places) → Remembers f self.now.slots.items → IfSome result (λ places. places ≡ f name.now) }
+        ensures { result ≡ value_of self.now.table name.now }
     {
-        let last = self.slots.len().saturating_sub(1);
-        let first = first_slot(name);
-        if let Some(places) = self.at(first & last, name) {
+        if let Some(places) = at_its_slots(&self.slots, name) {
             return Some(places);
         }
-        if let Some(places) = self.at(first.wrapping_add(1) & last, name) {
-            return Some(places);
+        self.table.get(name).copied()
+    }
+
+    // Notes a name that isn't noted yet.
+    fn put(&mut self, name: &Name, places: Places) -> Result<(), AllocError>
+        requires { value_of self.old.table name.now ≡ None }
+        ensures ok { OnOk result (Adds self.old.table self.new.table name.now places) }
+        ensures err { OnErr result (IsSame self.old.table self.new.table) }
+    {
+        let key = name.clone()?;
+        let entry = Entry {
+            name: name.clone()?,
+            places,
+        };
+        self.table.insert(key, places)?;
+        if let Some(slot) = free_slot(&self.slots, name) {
+            self.slots[slot] = Some(entry);
         }
-        self.at(first.wrapping_add(2) & last, name)
-    }
-
-    // Whether a slot is there and has no name.
-    fn is_free(&self, slot: usize) -> bool
-        ensures { IsTrue result → slot < length self.now.slots.items }
-    {
-        slot < self.slots.len() && self.slots[slot].is_none()
-    }
-
-    #[tactic(auto, using(crate::proofs::Kept::kept_set))]
-    fn put(&mut self, slot: usize, name: &Name, places: Places) -> Result<(), AllocError>
-        requires { slot < length self.old.slots.items }
-        ensures { (f : List ℕ → Places) → places ≡ f name.now → Remembers f self.old.slots.items → Remembers f self.new.slots.items }
-    {
-        let name = name.clone()?;
-        self.slots[slot] = Some(Entry { name, places });
         Ok(())
     }
 
-    /// Notes a name with its places, if a slot is free for it.
+    /// Notes a name with its places. A name that is noted keeps those that it has.
     pub fn note(&mut self, name: &Name, places: Places) -> Result<(), AllocError>
-        ensures { (f : List ℕ → Places) → places ≡ f name.now → Remembers f self.old.slots.items → Remembers f self.new.slots.items }
+        ensures ok { OnOk result (Adds self.old.table self.new.table name.now places) }
+        ensures err { OnErr result (IsSame self.old.table self.new.table) }
     {
-        let last = self.slots.len().saturating_sub(1);
-        let first = first_slot(name);
-        if self.is_free(first & last) {
-            return self.put(first & last, name, places);
+        if self.find(name).is_some() {
+            return Ok(());
         }
-        if self.is_free(first.wrapping_add(1) & last) {
-            return self.put(first.wrapping_add(1) & last, name, places);
-        }
-        if self.is_free(first.wrapping_add(2) & last) {
-            return self.put(first.wrapping_add(2) & last, name, places);
-        }
+        self.put(name, places)?;
         Ok(())
     }
 }

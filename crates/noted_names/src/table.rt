@@ -1,9 +1,10 @@
-//! Tables of places with a memo.
+//! Tables of places.
 
-ghost use Rattle.std.specs.Prelude.{◌≡◌, ℕ, List, None, IfOk, OnOk};
+ghost use Rattle.std.specs.Prelude.{◌≡◌, ℕ, List, None, Some, IfOk, OnOk};
 ghost use Rattle.indexmap.specs.IndexMap.{get};
 ghost use Rattle.lisa_tree.specs.Same.{same_name};
-ghost use Rattle.noted_names.specs.Memos.{Remembers, places};
+ghost use Rattle.noted_names.specs.Memos.{Adds, places};
+ghost use Rattle.noted_names.specs.Places.{place_of};
 
 use crate::memo::Memo;
 use crate::places::Places;
@@ -11,63 +12,53 @@ use indexmap::IndexMap;
 use lisa_words::Name;
 use std::alloc::{AllocError, Global};
 
-/// A table of places by names, with a memo of all its names before it.
+/// Places by names. Each name is noted, so that none is hashed where it is looked up.
 #[derive(Drop)]
 pub struct PlaceTable {
-    pub(crate) table: IndexMap<Name, usize>,
-    memo: Memo,
-    ghost of_memo: { Remembers (λ n. places (get same_name table n) None) memo.slots.items },
+    pub memo: Memo,
 }
 
-// The place of a name in the table.
-fn place_in(table: &IndexMap<Name, usize>, name: &Name) -> Option<usize>
-    ensures { result ≡ get same_name table.now name.now }
-{
-    table.get(name).copied()
-}
-
-// Notes a name with its place in the table.
-fn note_place(table: &IndexMap<Name, usize>, name: &Name, memo: &mut Memo) -> Result<(), AllocError>
-    requires { Remembers (λ n. places (get same_name table.now n) None) memo.old.slots.items }
-    ensures { Remembers (λ n. places (get same_name table.now n) None) memo.new.slots.items }
+// Notes a name with its place.
+fn note_place(name: &Name, place: usize, memo: &mut Memo) -> Result<(), AllocError>
+    ensures { OnOk result (Adds memo.old.table memo.new.table name.now (places (Some place) None)) }
 {
     memo.note(
         name,
         Places {
-            first: place_in(table, name),
+            first: Some(place),
             second: None,
         },
     )
 }
 
 fn memo_of(alloc: Global, table: &IndexMap<Name, usize>) -> Result<Memo, AllocError>
-    ensures { IfOk result (λ memo. Remembers (λ n. places (get same_name table.now n) None) memo.slots.items) }
+    ensures { IfOk result (λ memo. (n : List ℕ) → place_of memo n ≡ get same_name table.now n) }
 {
     let mut memo = Memo::new(alloc, table.len())?;
     'each: for index in 0..table.len() {
-        if let Some((name, _place)) = table.get_index(index) {
-            note_place(table, name, &mut memo)?;
+        if let Some((name, place)) = table.get_index(index) {
+            note_place(name, *place, &mut memo)?;
         }
     }
     Ok(memo)
 }
 
 impl PlaceTable {
-    /// Notes each name of a table.
+    /// Notes each name of a table with its place there.
     pub fn make(alloc: Global, table: IndexMap<Name, usize>) -> Result<PlaceTable, AllocError>
-        ensures { IfOk result (λ made. (n : List ℕ) → get same_name made.table n ≡ get same_name table n) }
+        ensures { IfOk result (λ made. (n : List ℕ) → place_of made.memo n ≡ get same_name table n) }
     {
         let memo = memo_of(alloc, &table)?;
-        Ok(PlaceTable { table, memo })
+        Ok(PlaceTable { memo })
     }
 
     /// The place of a name.
     pub fn place(&self, name: &Name) -> Option<usize>
-        ensures { result ≡ get same_name self.now.table name.now }
+        ensures { result ≡ place_of self.now.memo name.now }
     {
         match self.memo.find(name) {
             Some(found) => found.first,
-            None => place_in(&self.table, name),
+            None => None,
         }
     }
 }

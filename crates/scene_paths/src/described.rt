@@ -24,13 +24,12 @@ pub struct Described<'a> {
 
 impl<'a> Model for Described<'a> {
     ghost use Rattle.std.specs.Coded.{codes};
-    ghost use Rattle.indexmap.specs.IndexMap.{get};
     ghost use Rattle.lisa_tree.specs.declared.descriptions.Description.{Description};
     ghost use Rattle.lisa_tree.specs.contracts.descriptions.Act as act;
     ghost use Rattle.lisa_tree.specs.contracts.expressions.Expr as expression;
     ghost use Rattle.lisa_tree.specs.contracts.statements.Stmt as statement;
-    ghost use Rattle.lisa_tree.specs.Descriptions.{description_tree};
-    ghost use Rattle.lisa_tree.specs.Same.{same_name};
+    ghost use Rattle.noted_names.specs.Noting.{description_of, tree_of};
+    ghost use Rattle.noted_names.specs.Places.{place_of};
     ghost use Rattle.scene_paths.specs.Conditions.{rows_of};
     ghost use Rattle.scene_paths.specs.Kept.{IsKept};
 
@@ -38,7 +37,7 @@ impl<'a> Model for Described<'a> {
 
     ghost coded = { Prim.hlevel (codes, act.the_row.coded, expression.the_row.coded, statement.the_row.coded) };
 
-    ghost view = { λ x. x.tables.tables.globals.description.now };
+    ghost view = { λ x. description_of x.tables };
 
-    ghost invariant = { λ x. IsKept (description_tree x.tables.tables.globals.description.now) x.forms.now x.coding.now x.places.items x.boundary.now (λ n. get same_name x.fields.table n) (rows_of x.conditions.items) x.root x.levels };
+    ghost invariant = { λ x. IsKept (tree_of x.tables) x.forms.now x.coding.now x.places.items x.boundary.now (λ n. place_of x.fields.memo n) (rows_of x.conditions.items) x.root x.levels };
 }
