@@ -15,6 +15,7 @@ A tool that isn't installed is named, and nothing is tried by it. The last line 
 counts once. The status is 0 where none failed."""
 
 import argparse
+import contextlib
 import json
 import os
 import re
@@ -167,6 +168,16 @@ def linted(made):
     return told.split("\n")[0] if done.returncode or told else None
 
 
+def keep_parts(built, shared):
+    """Keeps what all builds have in common; where several do so at once, one of them is as good as another."""
+    kept = built.parent / "kept"
+    kept.mkdir(exist_ok=True)
+    for part in built.glob("verilated*.o"):
+        shutil.copy2(part, kept)
+    with contextlib.suppress(OSError):
+        kept.rename(shared)
+
+
 def in_verilator(made):
     """What is built in a folder of its own, since a build reads what others leave in its folder; the parts that all have are built once."""
     built, shared = made.folder / "built", made.folder.parent / "shared"
@@ -178,9 +189,7 @@ def in_verilator(made):
     if done.returncode:
         return f"verilator: status {done.returncode}: {(done.stdout + done.stderr).strip()[-300:]}"
     if not shared.exists():
-        shared.mkdir()
-        for part in built.glob("verilated*.o"):
-            shutil.copy2(part, shared)
+        keep_parts(built, shared)
     done = run([str(built / "states")], made.folder)
     return f"what it built ended with {done.returncode}" if done.returncode else compared(states_of(done.stdout, True), made)
 
