@@ -24,6 +24,7 @@ use Rattle.lisa_outcomes.specs.Outcomes.{Outcome, Finished, After, passed}
 use Rattle.checked_descriptions.specs.Checked.{Checked, IsChecked, IsFaulty}
 use Rattle.checked_descriptions.specs.Descriptions.{IsUnread}
 use Rattle.checked_descriptions.specs.Checked.{AfterChecks}
+use Rattle.checked_descriptions.proofs.Listed.{sound_parts}
 use Rattle.source_promises.specs.Programs.{AreSources, AreObjects as AreMade, source_image, object_image}
 use Rattle.assembler_commands.specs.Assembled.{IsSource, IsNoSource, IsUnassembled, Assembles, AssemblesChecked, GivesObject}
 use Rattle.assembler_commands.specs.DescriptionObjects.{AreObjects, HaveDigest, AreObjectsFor, AreNoObjectsFor}
@@ -110,8 +111,8 @@ linked_text unique keeps words image description sources objects text given give
     let checked = found_by (IsChecked read.0) (IsFaulty read.0) (LinksChecked objects) text read.2 in
     let d : DescriptionTree = checked.0.tree in
     let spelled : SpellsText description d = subst (SpellsText description) (sym checked.1.tree) read.1 in
-    let accepted : IsAccepted d = subst IsAccepted (sym checked.1.tree) checked.1.accepted in
-    let has : HasForms d = subst HasForms (sym checked.1.tree) checked.1.instructions.0 in
+    let accepted : IsAccepted d = subst IsAccepted (sym checked.1.tree) (sound_parts read.0 checked.1.sound).0 in
+    let has : HasForms d = subst HasForms (sym checked.1.tree) (sound_parts read.0 checked.1.sound).1.0 in
     let known = found_by (AreObjectsFor (digest_of d) objects) (AreNoObjectsFor (digest_of d) objects) (Links d) text checked.2 in
     let linked = found_by (IsLinked d known.0) (IsUnlinked d known.0) (λ image outcome. outcome ≡ Finished (image_text (stamped d image))) text known.2 in
     let all = programs d unique (λ bytes lines o digest says is. keeps d bytes lines o accepted has (words d accepted has) digest says is) description spelled sources objects known.0 given known.1.0 known.1.1 in

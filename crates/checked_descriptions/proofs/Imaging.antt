@@ -1,5 +1,5 @@
 -- From what reading an image answers to what a command finds that is over a description.
-use Rattle.std.proofs.Common.{◌≡◌, ◌≢◌, ◌∙◌, sym, ap, refl, subst, List, ℕ, Option, Some, None, Result, Ok, Err, ◌⊎◌, inl, inr, ⊎_elim, IfOk}
+use Rattle.std.proofs.Common.{◌≡◌, ◌≢◌, ◌∙◌, sym, ap, refl, subst, List, ℕ, Option, Some, None, Result, Ok, Err, inl, inr, ⊎_elim, IfOk}
 use Rattle.lisa_tree.specs.Descriptions.{DescriptionTree}
 use Rattle.description_digest.specs.Digests.{digest_of}
 use Rattle.lisa_engine.specs.Images.{IsImage}

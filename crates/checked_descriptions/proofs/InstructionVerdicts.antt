@@ -1,5 +1,5 @@
 -- A description's instructions are as they must be, or have a first fault, not both.
-use Rattle.std.proofs.Common.{◌≡◌, ◌⊎◌, ℕ, Option, None, Some, Result, Ok, Err, IfOk, IfErr, option_map, sym, inl, inr, ⊎_elim}
+use Rattle.std.proofs.Common.{◌≡◌, ◌⊎◌, ℕ, Option, None, Some, option_map, refl, sym, inl, inr, ⊎_elim}
 use Rattle.lisa_tree.specs.declared.faults.DescFault.{DescFault}
 use Rattle.lisa_tree.specs.declared.faults.DescFault.TheVariants as faults
 use Rattle.lisa_tree.specs.Descriptions.{DescriptionTree}
@@ -12,10 +12,14 @@ use Rattle.lisa_forms.specs.Coverage.{overlap, not_an_alias, IsOverlapVerdict, I
 use Rattle.lisa_syntax.specs.Texts.{IsAmbiguityVerdict}
 use Rattle.checked_descriptions.specs.Instructions.{from_aliases, from_ambiguities, from_overlaps, HasInstructions, IsFirstInstructionFault}
 use Rattle.checked_descriptions.proofs.FormVerdicts.{no_fault_in_forms}
-use Rattle.lisa_forms.proofs.Walking.{Refusal}
+use Rattle.lisa_forms.proofs.Walking.{past, refused_here, refused_past, Refusal}
 
 none_is_no_some : {T : Type 0} (t : T) → None ≡ Some t → ⊥
 none_is_no_some t e = cc
+
+-- it is a fault of such a kind, or memory was wanted
+abbrev pub OrWanted : Type 0 → DescFault → Type 0
+OrWanted broken f = (f ≡ faults.NoMemory) ⊎ broken
 
 -- a condition isn't both broken and kept
 abbrev Decides : (Option DescFault → Type 0) → Type 0
@@ -69,16 +73,28 @@ overlaps_decide d =
 pub no_fault_in_instructions : (d : DescriptionTree) (f : DescFault) → HasInstructions d → IsFirstInstructionFault d f → ⊥
 no_fault_in_instructions d f well broken = ⊎_elim (λ (h : IsFirstFormFault d f). no_fault_in_forms d f well.0 h) (λ (h : HasForms d × from_overlaps d (Some f)). overlaps_decide d f well.1 h.1) broken
 
--- ---- of a description that has forms
+-- ---- the first fault, where what goes before it is kept
 
-pub ok_instructions : {X : Type 0} (d : DescriptionTree) (result : Result X DescFault) → HasForms d → IfOk result (λ _. from_overlaps d None) → IfOk result (λ _. HasInstructions d)
-ok_instructions d (Ok x) well h = (well, h)
-ok_instructions d (Err f) well h = h
+module _ (d : DescriptionTree) (f : DescFault) where
+  pub forms_refused : OrWanted (IsFirstFormFault d f) f → OrWanted (IsFirstInstructionFault d f) f
+  forms_refused h = ⊎_elim (λ p. inl p) (λ b. inr (inl b)) h
 
-pub refused_instructions : (d : DescriptionTree) (f : DescFault) → HasForms d → Refusal (from_overlaps d) f → (f ≡ faults.NoMemory) ⊎ IsFirstInstructionFault d f
-refused_instructions d f well h = ⊎_elim (λ p. inl p) (λ r. inr (inr (well, r))) h
+  coded : HasForms d → Refusal (from_overlaps d) f → OrWanted (IsFirstInstructionFault d f) f
+  coded well h = ⊎_elim (λ p. inl p) (λ r. inr (inr (well, r))) h
 
-pub err_instructions : {X : Type 0} (d : DescriptionTree) (result : Result X DescFault) → HasForms d → IfErr result (Refusal (from_overlaps d))
-    → IfErr result (λ f. (f ≡ faults.NoMemory) ⊎ IsFirstInstructionFault d f)
-err_instructions d (Ok x) well h = h
-err_instructions d (Err f) well h = refused_instructions d f well h
+  pub words_refused : HasForms d → Refusal (IsOverlapVerdict d) f → OrWanted (IsFirstInstructionFault d f) f
+  words_refused well h = coded well (refused_here (IsOverlapVerdict d) (from_ambiguities d) f h)
+
+  pub texts_refused : HasForms d → IsOverlapVerdict d None → Refusal (IsAmbiguityVerdict d) f → OrWanted (IsFirstInstructionFault d f) f
+  texts_refused well apart h =
+      coded well (refused_past (IsOverlapVerdict d) (from_ambiguities d) f apart (refused_here (IsAmbiguityVerdict d) (from_aliases d) f h))
+
+  pub aliases_refused : HasForms d → IsOverlapVerdict d None → IsAmbiguityVerdict d None → Refusal (IsUncoveredVerdict d) f → OrWanted (IsFirstInstructionFault d f) f
+  aliases_refused well apart plain h =
+      coded well (refused_past (IsOverlapVerdict d) (from_ambiguities d) f apart
+      (refused_past (IsAmbiguityVerdict d) (from_aliases d) f plain (refused_here (IsUncoveredVerdict d) nothing f h)))
+
+-- all of them are kept
+pub all_kept : (d : DescriptionTree) → HasForms d → IsOverlapVerdict d None → IsAmbiguityVerdict d None → IsUncoveredVerdict d None → HasInstructions d
+all_kept d well apart plain covered =
+    (well, past (IsOverlapVerdict d) (from_ambiguities d) None apart (past (IsAmbiguityVerdict d) (from_aliases d) None plain (past (IsUncoveredVerdict d) nothing None covered refl)))

@@ -1,7 +1,7 @@
 mod Faulty
 mod Settling
 mod FormVerdicts
-mod Steps
 mod InstructionVerdicts
+pub mod Listed
 mod Tooled
 mod Imaging

@@ -1,9 +1,8 @@
 -- From what making a description's tools answers to what a command finds.
-use Rattle.std.proofs.Common.{◌≡◌, ◌∙◌, sym, ap, refl, subst, length, Result, Ok, Err, IfOk, IfErr, ◌⊎◌, inl, inr, ⊎_elim}
+use Rattle.std.proofs.Common.{◌≡◌, ◌∙◌, sym, ap, refl, subst, length, Result, Ok, Err, IfErr, ◌⊎◌, inl, inr, ⊎_elim}
 use Rattle.std.proofs.lemmas.List.{length-map}
 use Rattle.lisa_tree.specs.declared.faults.DescFault.{DescFault}
 use Rattle.lisa_tree.specs.declared.faults.DescFault.TheVariants as faults
-use Rattle.lisa_tree.specs.declared.descriptions.Description.{Description}
 use Rattle.lisa_tree.specs.Descriptions.{DescriptionTree, description_tree}
 use Rattle.activation_trees.specs.Unfolding.{occurrences}
 use Rattle.coding_tables.specs.Instructions.{forms_of, form_count}
@@ -12,7 +11,8 @@ use Rattle.instruction_forms.specs.Described.{instruction_form}
 use Rattle.instruction_forms.specs.Trees.{form_tree}
 use Rattle.lisa_forms.specs.declared.forms.Forms.{Forms}
 use Rattle.lisa_forms.specs.Parts.{AreFormsOf}
-use Rattle.lisa_machine.specs.Verdicts.{IsAccepted}
+use Rattle.std.specs.Result.{IsErrAnd}
+use Rattle.lisa_machine.specs.Verdicts.{IsAccepted, IsFirstFault}
 use Rattle.lisa_machine.proofs.Verdicts.{no_fault_in_accepted}
 use Rattle.lisa_outcomes.specs.declared.status.End.{End}
 use Rattle.lisa_outcomes.specs.declared.status.End.TheVariants as ends
@@ -21,18 +21,22 @@ use Rattle.lisa_outcomes.specs.Stages.{Finds}
 use Rattle.lisa_outcomes.proofs.Finding.{found_ok, found_memory, found_refused}
 use Rattle.lisa_outcomes.proofs.Refusals.{description_refusal}
 use Rattle.checked_descriptions.specs.declared.tools.Tools.{Tools}
-use Rattle.checked_descriptions.specs.Checked.{Checked, IsChecked, IsFirstOfAll, IsFaulty}
+use Rattle.checked_descriptions.specs.Checked.{Checked, IsChecked, IsFaulty}
+use Rattle.checked_descriptions.specs.Conditions.{IsFirstOfAll}
 use Rattle.checked_descriptions.specs.Instructions.{IsFirstInstructionFault}
 use Rattle.checked_descriptions.specs.ToolViews.{checked_of, AreTools}
 use Rattle.checked_descriptions.specs.Unread.{unread_end}
 use Rattle.checked_descriptions.proofs.Faulty.{memory_is_no_refusal, unread_is}
 use Rattle.checked_descriptions.proofs.FormVerdicts.{one_width}
-use Rattle.checked_descriptions.proofs.InstructionVerdicts.{no_fault_in_instructions}
+use Rattle.checked_descriptions.proofs.InstructionVerdicts.{OrWanted, no_fault_in_instructions}
+use Rattle.checked_descriptions.proofs.Listed.{sound_parts, parts_sound, first_parts, parts_first}
 
 -- ---- a description is checked, or has a first fault, not both
 
 pub no_fault_in_checked : (d : DescriptionTree) (f : DescFault) (c : Checked) → IsChecked d c → IsFirstOfAll d f → ⊥
-no_fault_in_checked d f c is broken = ⊎_elim (λ h. no_fault_in_accepted d f is.accepted h) (λ h. no_fault_in_instructions d f is.instructions h.1) broken
+no_fault_in_checked d f c is broken =
+    let parts = sound_parts d is.sound in
+    ⊎_elim (λ h. no_fault_in_accepted d f parts.0 h) (λ h. no_fault_in_instructions d f parts.1 h.1) (first_parts d f broken)
 
 same_checked : (a b : Checked) → a.tree ≡ b.tree → a.width ≡ b.width → a ≡ b
 same_checked a b tree width = λ i. record { tree = tree i; width = width i }
@@ -44,7 +48,7 @@ one_checked d a b x y = same_checked a b (x.tree ∙ sym y.tree) (one_width d a.
 
 checked_tools : (d : DescriptionTree) (t : Tools) → description_tree t.machine ≡ d → AreTools t → IsChecked d (checked_of t)
 checked_tools d t same are = subst (λ (x : DescriptionTree). IsChecked x (checked_of t)) same
-    (record { tree = refl; accepted = are.accepted; instructions = are.instructions; width = are.forms.has_width })
+    (record { tree = refl; sound = parts_sound (description_tree t.machine) (are.accepted, are.instructions); width = are.forms.has_width })
 
 pub tools_find : (d : DescriptionTree) (t : Tools) → description_tree t.machine ≡ d → AreTools t → Finds {X = Tools} checked_of (IsChecked d) (IsFaulty d) (Ok t)
 tools_find d t same are =
@@ -63,16 +67,17 @@ faulty_finds d f broken = ⊎_elim
 
 -- ---- making them
 
-pub machine_kept : (machine description : Description) (result : Result Tools DescFault) → machine ≡ description → IfOk result (λ t. t.machine ≡ machine)
-    → IfOk result (λ t. description_tree t.machine ≡ description_tree description)
-machine_kept machine description (Ok t) same kept = ap description_tree (kept ∙ same)
-machine_kept machine description (Err f) same kept = tt
+-- a fault that is passed on
+pub told : {X : Type 0} {f : DescFault} (P : DescFault → Type 0) (result : Result X DescFault) → IsErrAnd result (λ e. e ≡ f) → P f → IfErr result P
+told P (Ok x) same p = absurd same
+told P (Err e) same p = subst P (sym same) p
 
-pub fault_of_all : (d e : DescriptionTree) (result : Result Tools DescFault) → e ≡ d → IsAccepted d → IfErr result (λ f. (f ≡ faults.NoMemory) ⊎ IsFirstInstructionFault e f)
-    → IfErr result (λ f. (f ≡ faults.NoMemory) ⊎ IsFirstOfAll d f)
-fault_of_all d e (Ok t) same accepted h = tt
-fault_of_all d e (Err f) same accepted h =
-    ⊎_elim (λ m. inl m) (λ b. inr (inr (accepted, subst (λ (x : DescriptionTree). IsFirstInstructionFault x f) same b))) h
+pub checks_refused : (d : DescriptionTree) (f : DescFault) → OrWanted (IsFirstFault d f) f → OrWanted (IsFirstOfAll d f) f
+checks_refused d f h = ⊎_elim (λ m. inl m) (λ b. inr (parts_first d f (inl b))) h
+
+pub instructions_refused : (d e : DescriptionTree) (f : DescFault) → e ≡ d → IsAccepted d → OrWanted (IsFirstInstructionFault e f) f → OrWanted (IsFirstOfAll d f) f
+instructions_refused d e f same accepted h =
+    ⊎_elim (λ m. inl m) (λ b. inr (parts_first d f (inr (accepted, subst (λ (x : DescriptionTree). IsFirstInstructionFault x f) same b)))) h
 
 -- ---- how much there is of it
 

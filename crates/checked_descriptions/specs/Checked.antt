@@ -1,13 +1,12 @@
--- Descriptions that are checked: no condition is broken in them or in their instructions.
-use Rattle.std.specs.Prelude.{ℕ, ◌≡◌, ◌⊎◌, Option}
+-- Descriptions that are checked: no condition is broken in them.
+use Rattle.std.specs.Prelude.{ℕ, ◌≡◌, Option}
 use Rattle.lisa_tree.specs.declared.faults.DescFault.{DescFault}
 use Rattle.lisa_tree.specs.Descriptions.{DescriptionTree}
 use Rattle.instruction_forms.specs.Widths.{HasWidth}
-use Rattle.lisa_machine.specs.Verdicts.{IsAccepted, IsFirstFault}
 use Rattle.lisa_outcomes.specs.declared.status.Refusal.{Refusal}
 use Rattle.lisa_outcomes.specs.declared.status.Refusal.TheVariants as refusals
 use Rattle.lisa_outcomes.specs.Outcomes.{Outcome, After}
-use Rattle.checked_descriptions.specs.Instructions.{HasInstructions, IsFirstInstructionFault}
+use Rattle.checked_descriptions.specs.Conditions.{IsSound, IsFirstOfAll}
 
 -- a description, and the width of its instructions where it has any
 pub record Checked : Type 0 where
@@ -17,14 +16,10 @@ pub record Checked : Type 0 where
 -- this description, in which no condition is broken
 pub record IsChecked (d : DescriptionTree) (c : Checked) : Type 0 where
   pub tree : c.tree ≡ d
-  pub accepted : IsAccepted d
-  pub instructions : HasInstructions d
+  pub sound : IsSound d
   pub width : HasWidth d c.width
 
--- the first fault of the first condition that is broken: those on its instructions count where all others are kept
-abbrev pub IsFirstOfAll : DescriptionTree → DescFault → Type 0
-IsFirstOfAll d fault = IsFirstFault d fault ⊎ (IsAccepted d × IsFirstInstructionFault d fault)
-
+-- it has a first fault
 abbrev pub IsFaulty : DescriptionTree → Refusal → Type 0
 IsFaulty d refusal = (fault : DescFault) × IsFirstOfAll d fault × (refusal ≡ refusals.Description fault)
 

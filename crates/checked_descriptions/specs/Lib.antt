@@ -1,5 +1,6 @@
 pub mod Descriptions
 pub mod Instructions
+pub mod Conditions
 pub mod Checked
 pub mod DescriptionImages
 pub mod ImageViews

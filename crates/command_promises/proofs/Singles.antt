@@ -10,6 +10,7 @@ use Rattle.lisa_assembler.specs.Objects.{IsObjectOf}
 use Rattle.lisa_assembler.specs.Faults.{IsSourceFault}
 use Rattle.lisa_outcomes.specs.declared.status.Refusal.TheVariants as refusals
 use Rattle.checked_descriptions.specs.Checked.{Checked, IsChecked}
+use Rattle.checked_descriptions.proofs.Listed.{sound_parts}
 use Rattle.assembler_commands.specs.Assembled.{IsUnassembled}
 use Rattle.verdict_promises.specs.Firsts.{IsAcceptedAs, IsRefusedFirst}
 use Rattle.verdict_promises.proofs.Firsts.{one_first, one_accepted, not_both}
@@ -28,7 +29,7 @@ module _ (object : (d : DescriptionTree) (ls : List PlainLine) (o p : PlainObjec
     (either : (d : DescriptionTree) (ls : List PlainLine) (o : PlainObject) (f : SourceFault) → IsObjectOf d ls o → IsSourceFault d None [] ls f → ⊥) where
   pub assemblies_single : (d : DescriptionTree) (c : Checked) (lines : List PlainLine) → IsChecked d c → IsSingle (IsObjectOf d lines) (IsUnassembled d lines)
   assemblies_single d c lines is = record {
-    one = λ o p x y. object d lines o p is.accepted is.instructions.0 x y;
+    one = λ o p x y. let parts = sound_parts d is.sound in object d lines o p parts.0 parts.1.0 x y;
     first = λ r s x y. alike r s (x.2 ∙ ap refusals.Source (fault d lines x.0 y.0 x.1 y.1) ∙ sym y.2);
     whole = λ o r x y. either d lines o y.0 x y.1;
   }

@@ -9,6 +9,7 @@ use Rattle.description_sizes.specs.Laws.{AreWithinLimits}
 use Rattle.lisa_forms.specs.Verdicts.{HasForms}
 use Rattle.lisa_outcomes.specs.RunFiles.{RunBytes}
 use Rattle.checked_descriptions.specs.Checked.{Checked}
+use Rattle.checked_descriptions.proofs.Listed.{sound_parts}
 use Rattle.module_commands.specs.Clocks.{module_limit}
 use Rattle.headline_laws.proofs.Written.{AreUnique, IsWritten}
 
@@ -22,22 +23,22 @@ bytes_fit bytes weight items arrays pins short light few_items few_arrays few_pi
 module _ (unique : AreUnique) (limited : AreLimited) (run : RunBytes) (text : List ℕ) (w : IsWritten run text) where
   few_items : length (items w.checked.tree w.checked.width) ≤ 8192
   few_items =
-      let limits = limited w.tree w.is.instructions.0 in
+      let limits = limited w.tree (sound_parts w.tree w.is.sound).1.0 in
       let other : Checked = record { tree = w.tree; width = limits.0 } in
-      let same : w.checked ≡ other = unique.one w.tree w.checked other w.is (record { tree = refl; accepted = w.is.accepted; instructions = w.is.instructions; width = limits.1 }) in
+      let same : w.checked ≡ other = unique.one w.tree w.checked other w.is (record { tree = refl; sound = w.is.sound; width = limits.1 }) in
       let few = limits.2.few_items in
       let e = ap (λ (c : Checked). length (items c.tree c.width)) same in
       omega (arith, few, e)
 
   few_arrays : length (arrays_of w.checked.tree) ≤ 1024
   few_arrays =
-      let few = (limited w.tree w.is.instructions.0).2.few_arrays in
+      let few = (limited w.tree (sound_parts w.tree w.is.sound).1.0).2.few_arrays in
       let e = ap (λ (d : DescriptionTree). length (arrays_of d)) w.is.tree in
       omega (arith, few, e)
 
   few_pins : length (pins_of w.checked.tree) ≤ 64
   few_pins =
-      let few = (limited w.tree w.is.instructions.0).2.few_pins in
+      let few = (limited w.tree (sound_parts w.tree w.is.sound).1.0).2.few_pins in
       let e = ap (λ (d : DescriptionTree). length (pins_of d)) w.is.tree in
       omega (arith, few, e)
 

@@ -23,6 +23,7 @@ use Rattle.checked_descriptions.specs.Instructions.{from_ambiguities, from_alias
 use Rattle.checked_descriptions.specs.Checked.{Checked, IsChecked, IsFaulty, AfterChecks}
 use Rattle.checked_descriptions.specs.Descriptions.{IsUnread}
 use Rattle.checked_descriptions.specs.DescriptionImages.{HasDigest, IsImageFor, IsNoImageFor}
+use Rattle.checked_descriptions.proofs.Listed.{sound_parts}
 use Rattle.assembler_commands.specs.Assembled.{GivesObject}
 use Rattle.assembler_commands.specs.Links.{stamped, GivesLink}
 use Rattle.assembler_commands.specs.Listed.{AreThere, IsListed, Lists, ListsChecked, GivesListing}
@@ -78,13 +79,13 @@ module _ (law : (d : DescriptionTree) (image : List Memory) (text : List ℕ) �
     d = checked.tree
 
     accepted : IsAccepted d
-    accepted = subst IsAccepted (sym is.tree) is.accepted
+    accepted = subst IsAccepted (sym is.tree) (sound_parts read is.sound).0
 
     spelled : IsSpelled d
     spelled = record { bytes = description; spells = subst (SpellsText description) (sym is.tree) spells }
 
     instructions : HasInstructions d
-    instructions = subst HasInstructions (sym is.tree) is.instructions
+    instructions = subst HasInstructions (sym is.tree) (sound_parts read is.sound).1
 
     module _ (memories : List Memory) (stamp : IsStampedFor d image memories) (none : missing_memory (memory_items d) memories ≡ None) (listed : IsListing d memories listing) where
       again : Reassembles d memories listing

@@ -33,6 +33,7 @@ use Rattle.lisa_outcomes.specs.Outcomes.{Outcome, Finished, After, passed, stopp
 use Rattle.lisa_engine.specs.Machines.{Machine, machine_of}
 use Rattle.checked_descriptions.specs.Checked.{Checked, IsChecked, AfterChecks}
 use Rattle.checked_descriptions.specs.Descriptions.{AfterSpelling}
+use Rattle.checked_descriptions.proofs.Listed.{sound_parts}
 use Rattle.description_commands.specs.Runs.{described_machine}
 use Rattle.module_commands.specs.Designs.{clock_machine}
 use Rattle.assembler_commands.specs.Assembled.{IsSource}
@@ -109,7 +110,7 @@ module _
       let w = written_so description verilog writes in
       let here : IsModuleOf c w.text.tree = subst (λ (x : Checked). IsModuleOf x w.text.tree) (one_checked w.tree d w.checked c (one_description description w.tree d w.spelled spelled) w.is is) w.text.is_module in
       let module_is : IsModuleOf c m = subst (IsModuleOf c) (one_spelled verilog w.text.tree m w.text.accepted.spelling accepted.spelling) here in
-      let good : IsAccepted c.tree = subst IsAccepted (sym is.tree) is.accepted in
-      let has : HasForms c.tree = subst HasForms (sym is.tree) is.instructions.0 in
+      let good : IsAccepted c.tree = subst IsAccepted (sym is.tree) (sound_parts d is.sound).0 in
+      let has : HasForms c.tree = subst HasForms (sym is.tree) (sound_parts d is.sound).1.0 in
       told c m image count edges text module_is (linked_image c.tree object image (memories_are c.tree good has) (keeps c.tree source lines object good has said assembled) linked)
       (linked_there c.tree (object ∷ []) image linked) soaks

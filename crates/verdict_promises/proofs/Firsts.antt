@@ -7,8 +7,10 @@ use Rattle.lisa_reader.proofs.ByteLaws.{one_description, spelled_unbroken, one_f
 use Rattle.lisa_machine.specs.Verdicts.{IsFirstFault, IsAccepted}
 use Rattle.lisa_machine.proofs.Verdicts.{one_verdict, no_fault_in_accepted}
 use Rattle.lisa_forms.specs.Verdicts.{HasForms, IsFirstFormFault}
-use Rattle.checked_descriptions.specs.Checked.{Checked, IsChecked, IsFirstOfAll}
+use Rattle.checked_descriptions.specs.Checked.{Checked, IsChecked}
+use Rattle.checked_descriptions.specs.Conditions.{IsFirstOfAll}
 use Rattle.checked_descriptions.specs.Instructions.{from_overlaps, HasInstructions, IsFirstInstructionFault}
+use Rattle.checked_descriptions.proofs.Listed.{sound_parts, first_parts}
 use Rattle.verdict_promises.specs.Firsts.{IsAcceptedAs, IsFirstFaultOf, unread, refused, IsSameFirst}
 use Rattle.verdict_promises.proofs.Same.{same, unread_same}
 use Rattle.verdict_promises.proofs.FormFirsts.{one_width, one_form_fault, no_fault_in_forms}
@@ -24,8 +26,8 @@ one_instruction_fault d f g x y = ⊎_elim
 
 pub one_of_all : (d : DescriptionTree) (f g : DescFault) → IsFirstOfAll d f → IsFirstOfAll d g → IsSameFirst f g
 one_of_all d f g x y = ⊎_elim
-    (λ (p : IsFirstFault d f). ⊎_elim (λ (q : IsFirstFault d g). same f g (one_checked_fault d f g p q)) (λ (q : IsAccepted d × IsFirstInstructionFault d g). absurd (no_fault_in_accepted d f q.0 p)) y)
-    (λ (p : IsAccepted d × IsFirstInstructionFault d f). ⊎_elim (λ (q : IsFirstFault d g). absurd (no_fault_in_accepted d g p.0 q)) (λ (q : IsAccepted d × IsFirstInstructionFault d g). one_instruction_fault d f g p.1 q.1) y) x
+    (λ (p : IsFirstFault d f). ⊎_elim (λ (q : IsFirstFault d g). same f g (one_checked_fault d f g p q)) (λ (q : IsAccepted d × IsFirstInstructionFault d g). absurd (no_fault_in_accepted d f q.0 p)) (first_parts d g y))
+    (λ (p : IsAccepted d × IsFirstInstructionFault d f). ⊎_elim (λ (q : IsFirstFault d g). absurd (no_fault_in_accepted d g p.0 q)) (λ (q : IsAccepted d × IsFirstInstructionFault d g). one_instruction_fault d f g p.1 q.1) (first_parts d g y)) (first_parts d f x)
 
 -- ---- bytes
 
@@ -48,7 +50,9 @@ no_fault_in_instructions : (d : DescriptionTree) (f : DescFault) → HasInstruct
 no_fault_in_instructions d f well broken = ⊎_elim (λ (h : IsFirstFormFault d f). no_fault_in_forms d f well.0 h) (λ (h : HasForms d × from_overlaps d (Some f)). coded_decide d f well.1 h.1) broken
 
 unfaulted : (d : DescriptionTree) (c : Checked) (f : DescFault) → IsChecked d c → IsFirstOfAll d f → ⊥
-unfaulted d c f is broken = ⊎_elim (λ (h : IsFirstFault d f). no_fault_in_accepted d f is.accepted h) (λ (h : IsAccepted d × IsFirstInstructionFault d f). no_fault_in_instructions d f is.instructions h.1) broken
+unfaulted d c f is broken =
+    let parts = sound_parts d is.sound in
+    ⊎_elim (λ (h : IsFirstFault d f). no_fault_in_accepted d f parts.0 h) (λ (h : IsAccepted d × IsFirstInstructionFault d f). no_fault_in_instructions d f parts.1 h.1) (first_parts d f broken)
 
 pub not_both : (bytes : List ℕ) (c : Checked) (f : DescFault) → IsAcceptedAs bytes c → IsFirstFaultOf bytes f → ⊥
 not_both bytes c f x (unread b) = spelled_unbroken bytes c.tree f x.spelled b

@@ -30,9 +30,11 @@ use Rattle.lisa_forms.specs.Verdicts.{root_twice, bad_text, IsRootVerdict, IsSiz
 use Rattle.lisa_forms.specs.Coverage.{overlap, not_an_alias, IsOverlapVerdict, IsUncoveredVerdict}
 use Rattle.lisa_syntax.specs.Texts.{IsAmbiguityVerdict}
 use Rattle.checked_descriptions.specs.Instructions.{from_aliases, from_ambiguities, from_overlaps, IsFirstInstructionFault}
-use Rattle.checked_descriptions.specs.Checked.{IsFirstOfAll}
+use Rattle.checked_descriptions.specs.Conditions.{IsFirstOfAll}
+use Rattle.checked_descriptions.specs.Conditions.{conditions as all_conditions}
+use Rattle.checked_descriptions.proofs.Listed.{first_parts}
 use Rattle.verdict_promises.specs.Firsts.{IsFirstFaultOf, unread, refused}
-use Rattle.verdict_promises.specs.Numbers.{fault_number, IsNumbered}
+use Rattle.verdict_promises.specs.Numbers.{fault_number, HaveNumbers, IsNumbered}
 use Rattle.verdict_promises.proofs.Same.{none_is_no_some}
 use Rattle.verdict_promises.proofs.Numbered.{Has, has_mapped, has_first, numbered, duplicates, unknowns, wrong_kinds, narrowings, bad_widths, bad_depths, open_loops, long_loops, backwards, controls, bad_mains, bad_resets, group_widths, writings}
 
@@ -133,6 +135,34 @@ module _ (d : DescriptionTree) where
       let rest25 = next_within 25 26 (IsAmbiguityVerdict d) (from_aliases d) (omega arith) ambiguities rest26 in
       next_within 24 26 (IsOverlapVerdict d) (from_ambiguities d) (omega arith) overlaps rest25
 
+-- each condition of the list
+next : {A B : Type 0} → A → B → A × B
+next a b = (a, b)
+
+pub listed_numbers : (d : DescriptionTree) → HaveNumbers all_conditions d
+listed_numbers d =
+    let from26 = next (aliases d) (tt {0}) in
+    let from25 = next (ambiguities d) from26 in
+    let from24 = next (overlaps d) from25 in
+    let from23 = next (texts d) from24 in
+    let from22 = next (sizes d) from23 in
+    let from21 = next (roots d) from22 in
+    let from20 = next (at_places_numbers d 20 (not_written d) (writings d)) from21 in
+    let from19 = next (widths d) from20 in
+    let from18 = next (at_places_numbers d 18 (bad_reset d) (bad_resets d)) from19 in
+    let from17 = next (mains d) from18 in
+    let from16 = next (at_places_numbers d 16 (control d) (controls d)) from17 in
+    let from15 = next (back d) from16 in
+    let from14 = next (circles d) from15 in
+    let from13 = next (at_places_numbers d 13 (too_long d) (long_loops d)) from14 in
+    let from12 = next (at_places_numbers d 12 (without_bound d) (open_loops d)) from13 in
+    let from11 = next (narrow d) from12 in
+    let from10 = next (at_places_numbers d 10 bad_depth bad_depths) from11 in
+    let from9 = next (at_places_numbers d 9 bad_width bad_widths) from10 in
+    let from8 = next (kinds d) from9 in
+    let from7 = next (at_places_numbers d 7 (unknown d) (unknowns d)) from8 in
+    (at_places_numbers d 6 (duplicate d) (duplicates d), from7)
+
 wider : (low high l h : ℕ) (f : DescFault) → low ≤ l → h ≤ high → IsNumbered l h f → IsNumbered low high f
 wider low high l h f le ge x =
     let from = x.from in
@@ -149,7 +179,7 @@ pub numbers_of_all : (d : DescriptionTree) (f : DescFault) → IsFirstOfAll d f 
 numbers_of_all d f x = ⊎_elim
     (λ (p : IsFirstFault d f). wider 6 26 6 18 f (omega arith) (omega arith) (checked_numbers d f p))
     (λ (q : IsAccepted d × IsFirstInstructionFault d f). wider 6 26 19 26 f (omega arith) (omega arith) (instruction_numbers d f q.1))
-    x
+    (first_parts d f x)
 
 -- ---- bytes that spell no description
 

@@ -9,8 +9,10 @@ use Rattle.coding_checks.specs.Uneven.{IsFirstGroupWidth}
 use Rattle.instruction_forms.specs.Widths.{HasWidth}
 use Rattle.lisa_machine.specs.Verdicts.{before, IsAccepted, conditions}
 use Rattle.lisa_forms.specs.Verdicts.{HasForms, from_writings, form_conditions}
-use Rattle.checked_descriptions.specs.Checked.{Checked, IsChecked, IsFirstOfAll}
+use Rattle.checked_descriptions.specs.Checked.{Checked, IsChecked}
+use Rattle.checked_descriptions.specs.Conditions.{IsFirstOfAll}
 use Rattle.checked_descriptions.specs.Instructions.{from_overlaps}
+use Rattle.checked_descriptions.proofs.Listed.{parts_sound, parts_first}
 use Rattle.verdict_promises.specs.Firsts.{IsAcceptedAs, IsFirstFaultOf, unread, refused}
 use Rattle.verdict_promises.proofs.Undenied.{Undenied, surely, then}
 use Rattle.verdict_promises.proofs.ConditionTotals.{conditions_given}
@@ -27,18 +29,18 @@ module _ (d : DescriptionTree) where
   Decided = ((c : Checked) × IsChecked d c) ⊎ ((f : DescFault) × IsFirstOfAll d f)
 
   by_codings : IsAccepted d → HasForms d → (width : Option ℕ) → HasWidth d width → (found : Option DescFault) → from_overlaps d found → Decided
-  by_codings accepted forms width has None apart = inl (record { tree = d; width = width }, record { tree = refl; accepted = accepted; instructions = (forms, apart); width = has })
-  by_codings accepted forms width has (Some f) v = inr (f, inr (accepted, inr (forms, v)))
+  by_codings accepted forms width has None apart = inl (record { tree = d; width = width }, record { tree = refl; sound = parts_sound d (accepted, (forms, apart)); width = has })
+  by_codings accepted forms width has (Some f) v = inr (f, parts_first d f (inr (accepted, inr (forms, v))))
 
   by_forms : IsAccepted d → (found : Option DescFault) → form_conditions d found → Undenied Decided
   by_forms accepted None forms =
       let w = some_width d accepted (kept (IsFirstGroupWidth d) (from_writings d) forms) in
       then (codings_given d w.0 w.1) (λ (x : (found : Option DescFault) × from_overlaps d found). surely (by_codings accepted forms w.0 w.1 x.0 x.1))
-  by_forms accepted (Some f) v = surely (inr (f, inr (accepted, inl v)))
+  by_forms accepted (Some f) v = surely (inr (f, parts_first d f (inr (accepted, inl v))))
 
   by_conditions : (found : Option DescFault) → conditions d found → Undenied Decided
   by_conditions None accepted = then (forms_given d accepted) (λ (x : (found : Option DescFault) × form_conditions d found). by_forms accepted x.0 x.1)
-  by_conditions (Some f) v = surely (inr (f, inl v))
+  by_conditions (Some f) v = surely (inr (f, parts_first d f (inl v)))
 
   decided : Undenied Decided
   decided = then (conditions_given d) (λ (x : (found : Option DescFault) × conditions d found). by_conditions x.0 x.1)

@@ -7,7 +7,8 @@ use Rattle.lisa_tree.specs.Texts.{SpellsText}
 use Rattle.lisa_reader.specs.Answers.{IsBroken, IsSameFault}
 use Rattle.lisa_outcomes.specs.declared.status.Refusal.{Refusal}
 use Rattle.lisa_outcomes.specs.declared.status.Refusal.TheVariants as refusals
-use Rattle.checked_descriptions.specs.Checked.{Checked, IsChecked, IsFirstOfAll}
+use Rattle.checked_descriptions.specs.Checked.{Checked, IsChecked}
+use Rattle.checked_descriptions.specs.Conditions.{IsFirstOfAll}
 
 -- the bytes spell this description, and no condition is broken in it
 pub record IsAcceptedAs (bytes : List ℕ) (c : Checked) : Type 0 where

@@ -1,7 +1,9 @@
 -- The numbers of a description's faults.
-use Rattle.std.specs.Prelude.{ℕ, ◌≤◌}
+use Rattle.std.specs.Prelude.{ℕ, ◌≡◌, ◌≤◌, List, [], ◌∷◌, Some}
 use Rattle.lisa_tree.specs.declared.faults.DescFault.{DescFault}
 use Rattle.lisa_tree.specs.declared.faults.DescFault.TheVariants as faults
+use Rattle.lisa_tree.specs.Descriptions.{DescriptionTree}
+use Rattle.checked_descriptions.specs.Conditions.{Condition}
 
 -- by which a fault is told; want of memory is none, and has 0
 abbrev pub fault_number : DescFault → ℕ
@@ -32,6 +34,11 @@ fault_number (faults.Overlap first second word) = 24
 fault_number (faults.Ambiguous first second text) = 25
 fault_number (faults.NotAnAlias form) = 26
 fault_number faults.NoMemory = 0
+
+-- the faults of each of these conditions have its number
+abbrev pub HaveNumbers : List Condition → DescriptionTree → Type 0
+HaveNumbers [] d = Unit {0}
+HaveNumbers (c ∷ rest) d = ((f : DescFault) → c.verdict d (Some f) → fault_number f ≡ c.number) × HaveNumbers rest d
 
 -- its number is one of these
 pub record IsNumbered (low high : ℕ) (fault : DescFault) : Type 0 where

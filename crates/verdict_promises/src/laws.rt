@@ -5,15 +5,14 @@ ghost use Rattle.lisa_tree.specs.declared.faults.DescFault.{DescFault};
 ghost use Rattle.lisa_tree.specs.Descriptions.{DescriptionTree};
 ghost use Rattle.lisa_machine.specs.Verdicts.{IsFirstFault};
 ghost use Rattle.lisa_forms.specs.Verdicts.{IsFirstFormFault};
-ghost use Rattle.lisa_forms.specs.Coverage.{IsOverlapVerdict, IsUncoveredVerdict};
-ghost use Rattle.lisa_syntax.specs.Texts.{IsAmbiguityVerdict};
 ghost use Rattle.lisa_reader.specs.Answers.{IsBroken};
 ghost use Rattle.lisa_tree.specs.Texts.{SpellsText};
 ghost use Rattle.lisa_outcomes.specs.declared.status.Refusal.{Refusal};
-ghost use Rattle.checked_descriptions.specs.Checked.{Checked, IsChecked, IsFirstOfAll, IsFaulty};
+ghost use Rattle.checked_descriptions.specs.Checked.{Checked, IsChecked, IsFaulty};
+ghost use Rattle.checked_descriptions.specs.Conditions.{conditions, IsFirstOfAll};
 ghost use Rattle.checked_descriptions.specs.Descriptions.{IsUnread};
 ghost use Rattle.verdict_promises.specs.Firsts.{IsAcceptedAs, IsFirstFaultOf, IsSameFirst, IsRefusedFirst};
-ghost use Rattle.verdict_promises.specs.Numbers.{fault_number, IsNumbered};
+ghost use Rattle.verdict_promises.specs.Numbers.{fault_number, HaveNumbers, IsNumbered};
 
 /// A description has one first fault at most, among the conditions 6 to 18, among 19 to 23, and among all. Bytes are accepted as one
 /// description at most, have one first fault at most, and not both.
@@ -38,16 +37,14 @@ pub fn no_bytes_are_undecided()
     ensures { (bytes : List ℕ) → ((c : Checked) → IsAcceptedAs bytes c → ⊥) → ((f : DescFault) → IsFirstFaultOf bytes f → ⊥) → ⊥ }
 {}
 
-/// The number of a first fault says which condition is broken: 1 to 5 where the bytes spell no description, and those alone have such a number;
-/// 6 to 18 of the conditions on the machine, 19 to 23 of those on forms, 24 to 26 of those on words, texts and aliases. So want of memory is
-/// never a first fault.
+/// The number of a first fault says which condition is broken: 1 to 5 where the bytes spell no description, and those alone have such a number,
+/// and else that of the condition in the list; 6 to 18 of those on the machine, 19 to 23 of those on forms. So want of memory is never a first
+/// fault.
 pub fn first_faults_have_numbers()
     ensures unread { (bytes : List ℕ) (f : DescFault) → IsBroken bytes f → IsNumbered 1 5 f }
     ensures checked { (d : DescriptionTree) (f : DescFault) → IsFirstFault d f → IsNumbered 6 18 f }
     ensures forms { (d : DescriptionTree) (f : DescFault) → IsFirstFormFault d f → IsNumbered 19 23 f }
-    ensures overlaps { (d : DescriptionTree) (f : DescFault) → IsOverlapVerdict d (Some f) → fault_number f ≡ 24 }
-    ensures ambiguities { (d : DescriptionTree) (f : DescFault) → IsAmbiguityVerdict d (Some f) → fault_number f ≡ 25 }
-    ensures aliases { (d : DescriptionTree) (f : DescFault) → IsUncoveredVerdict d (Some f) → fault_number f ≡ 26 }
+    ensures each { (d : DescriptionTree) → HaveNumbers conditions d }
     ensures all { (bytes : List ℕ) (f : DescFault) → IsFirstFaultOf bytes f → IsNumbered 1 26 f }
     ensures spelled { (bytes : List ℕ) (f : DescFault) → (IsFirstFaultOf bytes f × (fault_number f ≤ 5)) ↔ IsBroken bytes f }
 {}

@@ -1,18 +1,44 @@
-use Rattle.std.proofs.Common.{ap, sym, subst, inl, inr, ⊎_elim}
+use Rattle.std.proofs.Common.{ap, sym, subst}
 use Rattle.lisa_tree.specs.declared.descriptions.Description.{Description}
 use Rattle.lisa_tree.specs.Descriptions.{description_tree}
 use Rattle.lisa_machine.specs.Verdicts.{IsAccepted}
-use Rattle.checked_descriptions.proofs.Tooled.{machine_kept, fault_of_all}
+use Rattle.checked_descriptions.proofs.InstructionVerdicts.{forms_refused, words_refused, texts_refused, aliases_refused, all_kept}
+use Rattle.checked_descriptions.proofs.Tooled.{told, checks_refused, instructions_refused}
 use Rattle.checked_descriptions.proofs.tools.make.Goals as goal
 
-pub returns-in-Ok-clause-machine : goal.returns-in-Ok-clause-machine
-returns-in-Ok-clause-machine c = machine_kept c.in-Ok.machine c.args.description c.with_machine.result c.in-Ok.ensures.machine c.with_machine.ensures.machine
+pub returns-in_err-machine-clause-fault : goal.returns-in_err-machine-clause-fault
+returns-in_err-machine-clause-fault c = told _ _ c.from_residual.ensures.1 (checks_refused _ _ c.in_err-machine.ensures.fault)
 
-pub returns-in-Ok-clause-fault : goal.returns-in-Ok-clause-fault
-returns-in-Ok-clause-fault c = fault_of_all _ _ c.with_machine.result (ap description_tree c.in-Ok.ensures.machine) c.in-Ok.ensures.accepted c.with_machine.ensures.fault
+pub returns-in_err-forms-clause-fault : goal.returns-in_err-forms-clause-fault
+returns-in_err-forms-clause-fault c =
+    let same = ap description_tree c.in_ok-machine.ensures.machine in
+    told _ _ c.from_residual-in_err-forms.ensures.1 (instructions_refused _ _ _ same c.in_ok-machine.ensures.accepted (forms_refused _ _ c.in_err-forms.ensures.fault))
 
-pub with_machine-requires : goal.with_machine-requires
-with_machine-requires c = subst (λ (d : Description). IsAccepted (description_tree d)) (sym c.in-Ok.ensures.machine) c.in-Ok.ensures.accepted
+pub returns-in_err-coding-clause-fault : goal.returns-in_err-coding-clause-fault
+returns-in_err-coding-clause-fault c =
+    let same = ap description_tree c.in_ok-machine.ensures.machine in
+    told _ _ c.from_residual-in_err-coding.ensures.1 (instructions_refused _ _ _ same c.in_ok-machine.ensures.accepted (words_refused _ _ c.in_ok-forms.ensures.accepted c.in_err-coding.ensures.fault))
 
-pub returns-in-Err-clause-fault : goal.returns-in-Err-clause-fault
-returns-in-Err-clause-fault c = ⊎_elim (λ m. inl m) (λ b. inr (inl b)) c.in-Err.ensures.fault
+pub returns-in_err-syntax-clause-fault : goal.returns-in_err-syntax-clause-fault
+returns-in_err-syntax-clause-fault c =
+    let same = ap description_tree c.in_ok-machine.ensures.machine in
+    told _ _ c.from_residual-in_err-syntax.ensures.1 (instructions_refused _ _ _ same c.in_ok-machine.ensures.accepted
+    (texts_refused _ _ c.in_ok-forms.ensures.accepted c.in_ok-coding.ensures.apart c.in_err-syntax.ensures.fault))
+
+pub returns-in_err-aliases-clause-fault : goal.returns-in_err-aliases-clause-fault
+returns-in_err-aliases-clause-fault c =
+    let same = ap description_tree c.in_ok-machine.ensures.machine in
+    let d = description_tree c.in_ok-machine.machine in
+    told _ _ c.from_residual-in_err-aliases.ensures.1 (instructions_refused _ _ _ same c.in_ok-machine.ensures.accepted
+    (aliases_refused _ _ c.in_ok-forms.ensures.accepted c.in_ok-coding.ensures.apart c.in_ok-syntax.ensures.plain (c.in_err-aliases.ensures.fault d c.in_ok-coding.ensures.coding)))
+
+pub returns-clause-tools : goal.returns-clause-tools
+returns-clause-tools c =
+    let d = description_tree c.in_ok-machine.machine in
+    record {
+      accepted = subst (λ (x : Description). IsAccepted (description_tree x)) (sym c.in_ok-machine.ensures.machine) c.in_ok-machine.ensures.accepted;
+      instructions = all_kept d c.in_ok-forms.ensures.accepted c.in_ok-coding.ensures.apart c.in_ok-syntax.ensures.plain (c.in_ok-aliases.ensures.covered d c.in_ok-coding.ensures.coding);
+      forms = c.in_ok-forms.ensures.forms;
+      coding = c.in_ok-coding.ensures.coding;
+      syntax = c.in_ok-syntax.ensures.syntax;
+    }
