@@ -54,6 +54,40 @@ image_or_none bytes = by (image_of (slice_split (λ b. b == 10) bytes)) refl
     by (Some s) e = let f = image_found bytes s e in inl (s, (f.keeps, f.text))
     by None e = inr (λ s keeps text. no_value (image_of (slice_split (λ b. b == 10) bytes)) s e (reads_image bytes s (keeps, text)))
 
+plain_image : (bytes : List ℕ) (s : Stamped) → Spells bytes s → IsImageOf (Some bytes) (Some s)
+plain_image bytes s x = (s, refl, x.0, x.1)
+
+of_any_file : (bytes : List ℕ) → ((s : Stamped) × Spells bytes s) ⊎ ((s : Stamped) → IsStamped s → bytes ≢ image_text s)
+    → ((found : Option Stamped) × IsImageOf (Some bytes) found) ⊎ ((r : Refusal) × IsNoImage (Some bytes) r)
+of_any_file bytes (inl x) = inl (Some x.0, plain_image bytes x.0 x.1)
+of_any_file bytes (inr none) = inr (refusals.Image (images.NotAnImage 0), (none, (0, omega arith, refl)))
+
+any_image : (bytes : Option (List ℕ)) → ((found : Option Stamped) × IsImageOf bytes found) ⊎ ((r : Refusal) × IsNoImage bytes r)
+any_image None = inl (None, refl)
+any_image (Some bytes) = of_any_file bytes (image_or_none bytes)
+
+same_image : (bytes : Option (List ℕ)) (x y : Option Stamped) → IsImageOf bytes x → IsImageOf bytes y → x ≡ y
+same_image None x y a b = a ∙ sym b
+same_image (Some bytes) x y a b = a.1 ∙ ap (λ (s : Stamped). Some s) (one_image bytes a.0 b.0 (a.2, a.3) (b.2, b.3)) ∙ sym b.1
+
+read_or_not : (bytes : Option (List ℕ)) (x : Option Stamped) (r : Refusal) → IsImageOf bytes x → IsNoImage bytes r → ⊥
+read_or_not None x r a n = n
+read_or_not (Some bytes) x r a n = n.0 a.0 a.2 a.3
+
+both_none : (bytes : Option (List ℕ)) (r s : Refusal) → IsNoImage bytes r → IsNoImage bytes s → IsSameRefusal r s
+both_none None r s n m = absurd n
+both_none (Some bytes) r s n m = alike_by r s (refusals.Image (images.NotAnImage n.1.0)) (refusals.Image (images.NotAnImage m.1.0)) n.1.2 m.1.2 tt
+
+pub module_images_decided : (bytes : Option (List ℕ)) → IsDecided (IsImageOf bytes) (IsNoImage bytes)
+module_images_decided bytes = record {
+  some = any_image bytes;
+  single = record {
+    one = same_image bytes;
+    first = both_none bytes;
+    whole = read_or_not bytes;
+  };
+}
+
 module _ (d : DescriptionTree) where
   abbrev OneOrOther : Option (List ℕ) → Type 0
   OneOrOther bytes = ((memories : List Memory) × IsImageFor d bytes memories) ⊎ ((r : Refusal) × IsNoImageFor d bytes r)
@@ -69,18 +103,6 @@ module _ (d : DescriptionTree) where
   some_image : (bytes : Option (List ℕ)) → OneOrOther bytes
   some_image None = inl ([], record { image = None; spelled = refl; digest = tt; are = refl })
   some_image (Some bytes) = of_file bytes (image_or_none bytes)
-
-  same_image : (bytes : Option (List ℕ)) (x y : Option Stamped) → IsImageOf bytes x → IsImageOf bytes y → x ≡ y
-  same_image None x y a b = a ∙ sym b
-  same_image (Some bytes) x y a b = a.1 ∙ ap (λ (s : Stamped). Some s) (one_image bytes a.0 b.0 (a.2, a.3) (b.2, b.3)) ∙ sym b.1
-
-  read_or_not : (bytes : Option (List ℕ)) (x : Option Stamped) (r : Refusal) → IsImageOf bytes x → IsNoImage bytes r → ⊥
-  read_or_not None x r a n = n
-  read_or_not (Some bytes) x r a n = n.0 a.0 a.2 a.3
-
-  both_none : (bytes : Option (List ℕ)) (r s : Refusal) → IsNoImage bytes r → IsNoImage bytes s → IsSameRefusal r s
-  both_none None r s n m = absurd n
-  both_none (Some bytes) r s n m = alike_by r s (refusals.Image (images.NotAnImage n.1.0)) (refusals.Image (images.NotAnImage m.1.0)) n.1.2 m.1.2 tt
 
   both_other : (bytes : Option (List ℕ)) (r s : Refusal) → IsForAnother d bytes r → IsForAnother d bytes s → IsSameRefusal r s
   both_other bytes r s n m =

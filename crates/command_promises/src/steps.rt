@@ -9,7 +9,7 @@ ghost use Rattle.asm_source.specs.Plain.{PlainLine};
 ghost use Rattle.lisa_object.specs.Objects.{PlainObject};
 ghost use Rattle.lisa_assembler.specs.Objects.{IsObjectOf};
 ghost use Rattle.verilog_text.specs.Faults.{VAccepts};
-ghost use Rattle.engine_commands.specs.Images.{IsMissing};
+ghost use Rattle.engine_commands.specs.Images.{IsImageOf, IsMissing, IsNoImage};
 ghost use Rattle.lisa_engine.specs.Machines.{Machine};
 ghost use Rattle.engine_commands.specs.Schedules.{IsSchedule, IsNoSchedule};
 ghost use Rattle.engine_commands.specs.Making.{IsMade};
@@ -30,6 +30,7 @@ pub fn steps_are_decided()
     ensures descriptions { (bytes : List ℕ) → IsSingle (IsAcceptedAs bytes) (IsRefusedFirst bytes) }
     ensures modules { (bytes : List ℕ) → IsDecided (VAccepts bytes) (IsUnreadModule bytes) }
     ensures images { (d : DescriptionTree) (bytes : Option (List ℕ)) → IsDecided (IsImageFor d bytes) (IsNoImageFor d bytes) }
+    ensures module_images { (bytes : Option (List ℕ)) → IsDecided (IsImageOf bytes) (IsNoImage bytes) }
     ensures objects { (d : DescriptionTree) (files : List (List ℕ)) → IsDecided (AreObjectsFor (digest_of d) files) (AreNoObjectsFor (digest_of d) files) }
     ensures links { (d : DescriptionTree) (objects : List PlainObject) → IsDecided (IsLinked d objects) (IsUnlinked d objects) }
     ensures sources { (bytes : List ℕ) → IsDecided (IsSource bytes) (IsNoSource bytes) }

@@ -1,5 +1,5 @@
 use Rattle.command_promises.proofs.Decided.{modules_decided, links_decided, sources_decided, schedules_decided, memories_decided}
-use Rattle.command_promises.proofs.DecidedFiles.{images_decided, objects_decided}
+use Rattle.command_promises.proofs.DecidedFiles.{images_decided, module_images_decided, objects_decided}
 use Rattle.command_promises.proofs.Singles.{descriptions_single, assemblies_single}
 use Rattle.description_digest.specs.Digests.{digest_of}
 use Rattle.command_promises.proofs.steps.steps_are_decided.Goals as goal
@@ -12,6 +12,9 @@ returns-clause-modules c = modules_decided
 
 pub returns-clause-images : goal.returns-clause-images
 returns-clause-images c = images_decided
+
+pub returns-clause-module_images : goal.returns-clause-module_images
+returns-clause-module_images c = module_images_decided
 
 pub returns-clause-objects : goal.returns-clause-objects
 returns-clause-objects c = λ d files. objects_decided (digest_of d) files
