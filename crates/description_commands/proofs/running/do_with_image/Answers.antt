@@ -1,8 +1,9 @@
-use Rattle.std.proofs.Common.{◌∙◌}
-use Rattle.engine_commands.proofs.Made.{is_made, made_so, made_first}
+use Rattle.std.proofs.Common.{refl}
 use Rattle.lisa_engine.specs.Machines.{machine_of}
-use Rattle.description_commands.specs.Runs.{described_machine}
+use Rattle.engine_commands.proofs.Made.{is_made, made_first}
 use Rattle.checked_descriptions.specs.ToolViews.{checked_of}
+use Rattle.description_commands.specs.Runs.{described_machine}
+use Rattle.description_commands.proofs.Wanted.{made_wanted}
 use Rattle.description_commands.proofs.running.do_with_image.Goals as goal
 
 pub do_made-requires-clause-first : goal.do_made-requires-clause-first
@@ -13,6 +14,5 @@ do_made-requires-clause-first g c =
 pub returns-clause-ends : goal.returns-clause-ends
 returns-clause-ends g c =
     let m = described_machine (checked_of c.args.tools.now) c.args.image.now in
-    c.do_made.ensures.ends m c.args.image.now
-    (is_made _ m c.args.image.now c.make-made.result (made_so _ _ c.make-made.result (λ s is. is ∙ (λ i. machine_of m.pins (c.requires.tools.forms.all_items i) m.arrays m.defined)) c.make-made.ensures.machine)
-    c.make-made.ensures.found c.make-made.ensures.missing)
+    c.do_made.ensures.ends m c.args.image.now (is_made _ m c.args.image.now c.make-made.result
+    (made_wanted _ _ _ _ _ m c.make-made.result c.make-made.ensures.machine refl c.requires.tools.forms.all_items refl refl) c.make-made.ensures.found c.make-made.ensures.missing)

@@ -1,9 +1,10 @@
-use Rattle.std.proofs.Common.{◌∙◌, sym}
+use Rattle.std.proofs.Common.{◌∙◌, refl, sym}
 use Rattle.lisa_engine.specs.Machines.{machine_of}
 use Rattle.lisa_outcomes.proofs.Told.{none_is_no_some}
-use Rattle.engine_commands.proofs.Made.{made_so, made_first}
+use Rattle.engine_commands.proofs.Made.{made_first}
 use Rattle.checked_descriptions.specs.ToolViews.{checked_of}
 use Rattle.description_commands.specs.Runs.{described_machine}
+use Rattle.description_commands.proofs.Wanted.{made_wanted}
 use Rattle.generator_commands.proofs.soaking.described_digest.Goals as goal
 
 pub made_digest-requires-clause-first : goal.made_digest-requires-clause-first
@@ -17,4 +18,4 @@ made_digest-requires-clause-there c = λ name is. none_is_no_some name (sym c.re
 pub returns : goal.returns
 returns c =
     let m = described_machine (checked_of c.args.tools.now) c.args.image.now in
-    c.made_digest.ensures m (made_so _ _ c.make-made.result (λ s is. is ∙ (λ i. machine_of m.pins (c.requires.tools.forms.all_items i) m.arrays m.defined)) c.make-made.ensures.machine)
+    c.made_digest.ensures m (made_wanted _ _ _ _ _ m c.make-made.result c.make-made.ensures.machine refl c.requires.tools.forms.all_items refl refl)
