@@ -1,8 +1,11 @@
 //! What a form writes, symbol by symbol.
 
+ghost use Rattle.std.specs.Prelude.{◌≡◌};
+ghost use Rattle.form_texts.specs.Strings.{field_number, strings_number};
+
 use lisa_tree::Format;
 
-/// A byte of a text, a place where runs part, or the number of a field.
+/// A byte of a text, a place where runs part, the number of a field, or what an operation writes that is kept for it.
 #[derive(Clone, Copy)]
 pub(crate) enum Symbol {
     Byte(u8),
@@ -13,4 +16,26 @@ pub(crate) enum Symbol {
         width: u32,
         field: u32,
     },
+    /// The strings of this operation.
+    Strings(usize),
+}
+
+/// The operation whose strings they are, where they are kept.
+pub(crate) fn strings_number(symbol: Symbol) -> Option<usize>
+    ensures { result ≡ strings_number symbol }
+{
+    match symbol {
+        Symbol::Strings(operation) => Some(operation),
+        _ => None,
+    }
+}
+
+/// The field whose number it is, where it is one.
+pub(crate) fn field_number(symbol: Symbol) -> Option<u32>
+    ensures { result ≡ field_number symbol }
+{
+    match symbol {
+        Symbol::Number { field, .. } => Some(field),
+        _ => None,
+    }
 }
