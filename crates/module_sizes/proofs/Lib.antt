@@ -1,0 +1,14 @@
+pub mod Operands
+pub mod Templates
+pub mod Adding
+pub mod Values
+pub mod Statements
+pub mod Names
+pub mod Reading
+pub mod Placing
+pub mod Behaving
+pub mod Pairs
+pub mod Activating
+pub mod Rows
+pub mod Among
+pub mod Tables

@@ -1,0 +1,6 @@
+pub mod Costs
+pub mod Worths
+pub mod Standing
+pub mod Unfolded
+pub mod Activating
+pub mod Rows

@@ -1,0 +1,46 @@
+//! Steps cost no more than what they are made of is worth. Each law is the contract of a function that does nothing.
+ghost use Rattle.std.specs.Prelude.{ℕ, ◌+◌, ◌*◌, ◌≤◌, List, []};
+ghost use Rattle.lisa_tree.specs.Expressions.{ExprTree};
+ghost use Rattle.lisa_tree.specs.Descriptions.{DescriptionTree};
+ghost use Rattle.lisa_machine.specs.Verdicts.{IsAccepted};
+ghost use Rattle.lisa_meaning.specs.Cores.{core_of};
+ghost use Rattle.step_program.specs.Programs.{Program, Expr, Move};
+ghost use Rattle.netlist_rules.specs.Sizes.{pair_most, moves_most};
+ghost use Rattle.lowered_statements.specs.Scopes.{Scope};
+ghost use Rattle.lowered_time.specs.Pieces.{chain};
+ghost use Rattle.lowered_time.specs.Building.{Operations, Layout, main_run, turns};
+ghost use Rattle.lowered_words.specs.Loading.{load};
+ghost use Rattle.lowered_behaviors.specs.Standpoints.{Standpoint, running};
+ghost use Rattle.lowered_behaviors.specs.Values.{Ground, value_within};
+ghost use Rattle.lowered_behaviors.specs.Behaviors.{behavior_within};
+ghost use Rattle.module_sizes.specs.Costs.{Rates, IsLongest, IsFree, moves_accesses, moves_cost, pair_rates, write_rates};
+ghost use Rattle.module_sizes.specs.Worths.{value_worth};
+ghost use Rattle.module_sizes.specs.Standing.{IsStood};
+ghost use Rattle.module_sizes.specs.Unfolded.{names_of, worth_of};
+ghost use Rattle.module_sizes.specs.Activating.{IsQuiet, Prices, ArePriced, edge_worth};
+ghost use Rattle.module_sizes.specs.Rows.{row_worth};
+
+/// Behind writes of cells steps are charged with no more than they cost where a read of an array costs a pair for each of its writes.
+pub fn pairs_are_paid_by_reads()
+    ensures { (p : Program) (most : ℕ) (moves : List Move) (writes : ℕ → ℕ) → ((a : ℕ) → moves_accesses (write_rates a 1) moves ≤ writes a) → moves_most p most [] moves ≤ moves_cost p most (pair_rates (λ a. writes a * pair_most most)) moves }
+{}
+
+/// In an accepted description the steps of an expression cost no more than it is worth, with all that the children in it may choose.
+pub fn expressions_are_paid_by_their_nodes()
+    ensures { (p : Program) (most : ℕ) (rates : Rates) (g : Ground) → IsLongest most → IsAccepted g.description → (more : ℕ) (at : Standpoint) (scope : Scope) (from : ℕ) (e : ExprTree) → IsStood g.description at → moves_cost p most rates (value_within more g at scope from e).piece.moves ≤ value_worth (names_of g.description rates (running at)) e }
+{}
+
+/// In an accepted description the steps of a behaviour cost no more than it is worth, with all that it may call.
+pub fn behaviors_are_paid_by_their_statements()
+    ensures { (p : Program) (most : ℕ) (rates : Rates) (g : Ground) → IsLongest most → IsAccepted g.description → (more : ℕ) (at : Standpoint) (guard : Expr) (from : ℕ) → IsStood g.description at → IsFree p most rates guard → moves_cost p most rates (behavior_within more g at guard from).moves ≤ (worth_of g.description rates (running at)).run }
+{}
+
+/// Loading a word costs a test for each plain form and a flag for each operation in it.
+pub fn rows_are_paid_by_forms()
+    ensures { (p : Program) (most : ℕ) (rates : Rates) (d : DescriptionTree) (width base : ℕ) (e : Expr) (from : ℕ) → IsLongest most → IsFree p most rates e → moves_cost p most rates (load d width base e from).moves ≤ row_worth d }
+{}
+
+/// The steps of `main` and of all stages cost no more than the activations are worth, each occurrence once, and the stages.
+pub fn turns_are_paid_by_activations()
+    ensures { (p : Program) (most : ℕ) (rates : Rates) (d : DescriptionTree) (ops : Operations) (layout : Layout) (prices : Prices) → IsLongest most → ArePriced p most rates ops prices → IsQuiet layout 0 (core_of d).acts → (from : ℕ) → moves_cost p most rates (chain (main_run (core_of d) ops layout) (turns (core_of d) ops layout (core_of d).stages) from).moves ≤ edge_worth (core_of d) prices (core_of d).stages }
+{}
