@@ -12,3 +12,4 @@ pub mod Activating
 pub mod Rows
 pub mod Among
 pub mod Tables
+pub mod Weighed

@@ -4,3 +4,4 @@ pub mod Standing
 pub mod Unfolded
 pub mod Activating
 pub mod Rows
+pub mod Weighed
