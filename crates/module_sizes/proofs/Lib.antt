@@ -13,3 +13,4 @@ pub mod Rows
 pub mod Among
 pub mod Tables
 pub mod Weighed
+pub mod Accessed

@@ -2,7 +2,12 @@
 ghost use Rattle.std.specs.Prelude.{◌≡◌, ℕ, ◌+◌, ◌-◌, ◌*◌, ◌^◌, ◌<◌, ◌≤◌, List, [], Some, length};
 ghost use Rattle.lisa_tree.specs.Expressions.{ExprTree};
 ghost use Rattle.lisa_tree.specs.Descriptions.{DescriptionTree};
+ghost use Rattle.description_places.specs.declared.sites.Region.{Region};
+ghost use Rattle.description_places.specs.Scopes as sites;
+ghost use Rattle.description_places.specs.Places.{uses};
+ghost use Rattle.lisa_machine.specs.Freedom.{AllStand};
 ghost use Rattle.lisa_machine.specs.Verdicts.{IsAccepted};
+ghost use Rattle.access_counts.specs.Accesses.{value_accesses};
 ghost use Rattle.text_counts.specs.Expressions.{expression_nodes};
 ghost use Rattle.description_sizes.specs.Texts.{expression_counts, texts};
 ghost use Rattle.lisa_meaning.specs.Cores.{core_of};
@@ -17,7 +22,7 @@ ghost use Rattle.lowered_behaviors.specs.Values.{Ground, value_within};
 ghost use Rattle.lowered_behaviors.specs.Behaviors.{behavior_within};
 ghost use Rattle.module_sizes.specs.Costs.{Rates, IsLongest, IsFree, moves_accesses, moves_cost, pair_rates, write_rates};
 ghost use Rattle.module_sizes.specs.Worths.{unit, value_worth};
-ghost use Rattle.module_sizes.specs.Weighed.{no_rates};
+ghost use Rattle.module_sizes.specs.Weighed.{array_rates, counted_names, behavior_accesses};
 ghost use Rattle.module_sizes.specs.Standing.{IsStood};
 ghost use Rattle.module_sizes.specs.Unfolded.{names_of, worth_of};
 ghost use Rattle.module_sizes.specs.Activating.{IsQuiet, Prices, ArePriced, edge_worth};
@@ -48,14 +53,14 @@ pub fn turns_are_paid_by_activations()
     ensures { (p : Program) (most : ℕ) (rates : Rates) (d : DescriptionTree) (ops : Operations) (layout : Layout) (prices : Prices) → IsLongest most → ArePriced p most rates ops prices → IsQuiet layout 0 (core_of d).acts → (from : ℕ) → moves_cost p most rates (chain (main_run (core_of d) ops layout) (turns (core_of d) ops layout (core_of d).stages) from).moves ≤ edge_worth (core_of d) prices (core_of d).stages }
 {}
 
-/// In an accepted description the steps of an expression are charged with no more than 2,048 bytes for each node and alternative that is counted
-/// of it, beside what reads of cells behind writes are charged with.
+/// In an accepted description the steps of an expression that stands there cost no more than 2,048 for each node and alternative that is counted
+/// of it, and the reads of arrays that are.
 pub fn expressions_are_paid_by_their_weight()
-    ensures { (p : Program) (most : ℕ) (g : Ground) → IsLongest most → IsAccepted g.description → (more count : ℕ) (at : Standpoint) (scope : Scope) (from : ℕ) (e : ExprTree) → IsStood g.description at → expression_nodes (expression_counts g.description) g.description (running at) e ≡ Some count → count < 2 ^ 64 - 1 → moves_cost p most no_rates (value_within more g at scope from e).piece.moves ≤ unit * count }
+    ensures { (p : Program) (most : ℕ) (rates : Rates) (g : Ground) → IsLongest most → IsAccepted g.description → (more count : ℕ) (at : Standpoint) (scope : Scope) (from : ℕ) (region : Region) (standing : sites.Scope) (e : ExprTree) → IsStood g.description at → AllStand g.description (uses (running at) region standing e) → expression_nodes (expression_counts g.description) g.description (running at) e ≡ Some count → count < 2 ^ 64 - 1 → moves_cost p most rates (value_within more g at scope from e).piece.moves ≤ unit * count + value_accesses (array_rates g.description rates) (counted_names g.description rates (running at)) e }
 {}
 
-/// In an accepted description the steps of a behaviour are charged with no more than 2,048 bytes for each node, statement and alternative that
-/// is counted of it, beside what reads of cells behind writes are charged with.
+/// In an accepted description the steps of a behaviour cost no more than 2,048 for each node, statement and alternative that is counted of it,
+/// and the reads and writes of arrays that are.
 pub fn behaviors_are_paid_by_their_weight()
-    ensures { (p : Program) (most : ℕ) (g : Ground) → IsLongest most → IsAccepted g.description → (more count : ℕ) (at : Standpoint) (guard : Expr) (from : ℕ) → IsStood g.description at → running at < length g.description.operations → (texts g.description).behaviors (running at) ≡ Some count → count < 2 ^ 64 - 1 → IsFree p most no_rates guard → moves_cost p most no_rates (behavior_within more g at guard from).moves ≤ unit * count }
+    ensures { (p : Program) (most : ℕ) (rates : Rates) (g : Ground) → IsLongest most → IsAccepted g.description → (more count : ℕ) (at : Standpoint) (guard : Expr) (from : ℕ) → IsStood g.description at → running at < length g.description.operations → (texts g.description).behaviors (running at) ≡ Some count → count < 2 ^ 64 - 1 → IsFree p most rates guard → moves_cost p most rates (behavior_within more g at guard from).moves ≤ unit * count + behavior_accesses g.description rates (running at) }
 {}
