@@ -207,24 +207,29 @@ module _ (d : DescriptionTree) (s : IsSound d) (f : ℕ → ℕ) where
 
 -- ---- standpoints that operations have
 
-abbrev link_of : Level → Link
+abbrev pub link_of : Level → Link
 link_of l = record { operation = l.operation; part = None }
 
-abbrev path_of : Standpoint → List Link
+abbrev pub path_of : Standpoint → List Link
 path_of at = map link_of at
 
 module _ (d : DescriptionTree) where
-  to_path : (at : Standpoint) → IsStood d at → IsPath d (path_of at)
-  to_path [] path = path
-  to_path (here ∷ []) path = path
-  to_path (here ∷ next ∷ above) path = (path.0, to_path (next ∷ above) path.1)
+  to_path : (here : Level) (above : Standpoint) → IsStood d (here ∷ above) → IsPath d (path_of (here ∷ above))
+  to_path here [] path = path
+  to_path here (next ∷ above) path = (path.0, to_path next above path.1)
 
   from_path : (at : Standpoint) → IsPath d (path_of at) → IsStood d at
-  from_path [] path = path
+  from_path [] path = absurd path
   from_path (here ∷ []) path = path
   from_path (here ∷ next ∷ above) path = (path.0, from_path (next ∷ above) path.1)
 
-module _ (d : DescriptionTree) where
+  -- one whose operations are those of a path
+  pub from_links : (at : Standpoint) (here : Link) (above : List Link) → path_of at ≡ here ∷ above → IsPath d (here ∷ above) → IsStood d at × (running at ≡ here.operation)
+  from_links [] here above same path = absurd (cc same)
+  from_links (l ∷ ls) here above same path =
+      let first : link_of l ≡ here = cc same in
+      (from_path (l ∷ ls) (subst (IsPath d) (sym same) path), ap (λ (k : Link). k.operation) first)
+
   home_same : (n : List ℕ) (at : Standpoint) → scenes.home d n (path_of at) ≡ path_of (home d n at)
   home_same n [] = refl
   home_same n (here ∷ above) = by (is_reference (declared d here.operation n)) (home_same n above)
@@ -278,12 +283,11 @@ module _ (d : DescriptionTree) where
       pub declared : declared_at d here.operation n ≡ Some number
       pub means : meant.MayMean d i number
 
-    homed : (at : Standpoint) (i : ℕ) → IsStood d at → declared_at d (running at) n ≡ Some i → Homed at i
-    homed [] i path there = absurd path
-    homed (l ∷ ls) i path there = by (home d n (l ∷ ls)) refl
+    homed : (l : Level) (ls : Standpoint) (i : ℕ) → IsStood d (l ∷ ls) → declared_at d l.operation n ≡ Some i → Homed (l ∷ ls) i
+    homed l ls i path there = by (home d n (l ∷ ls)) refl
       where
         h : Home d s n (path_of (l ∷ ls)) i
-        h = home_of d s n (link_of l) (path_of ls) i (to_path d (l ∷ ls) path) there
+        h = home_of d s n (link_of l) (path_of ls) i (to_path l ls path) there
 
         by : (r : Standpoint) → home d n (l ∷ ls) ≡ r → Homed (l ∷ ls) i
         by [] is = absurd (cc (sym (home_same n (l ∷ ls) ∙ ap path_of is) ∙ h.is))
@@ -295,7 +299,7 @@ module _ (d : DescriptionTree) where
               here = here;
               above = above;
               is = is;
-              stood = from_path d (here ∷ above) (subst (IsPath d) (sym same) h.path_is);
+              stood = from_path (here ∷ above) (subst (IsPath d) (sym same) h.path_is);
               number = h.number;
               declared = ap (λ (o : ℕ). declared_at d o n) operation ∙ h.declared;
               means = h.means;
@@ -309,13 +313,13 @@ module _ (d : DescriptionTree) where
     -- ---- at a standpoint
 
     pub stood_below : (at : Standpoint) → IsStood d at → AllByRecursion (IsStood d) (alternatives d n at)
-    stood_below [] path = absurd path
+    stood_below [] path = tt
     stood_below (here ∷ above) path = by (declared_at d here.operation n) refl
       where
         by : (r : Option ℕ) → declared_at d here.operation n ≡ r → AllByRecursion (IsStood d) (alternatives d n (here ∷ above))
         by None none = subst (λ (h : Standpoint). AllByRecursion (IsStood d) (alternatives_at d n h)) (sym (undeclared here above none)) (at_stood n here above path)
         by (Some i) there =
-            let h = homed (here ∷ above) i path there in
+            let h = homed here above i path there in
             subst (λ (x : Standpoint). AllByRecursion (IsStood d) (alternatives_at d n x)) (sym h.is) (at_stood n h.here h.above h.stood)
 
     module _ (f : ℕ → ℕ) where
@@ -325,7 +329,7 @@ module _ (d : DescriptionTree) where
       chosen_sum (Some i) = sum_by f (chosen_by d i)
 
       pub alternatives_within : (at : Standpoint) → IsStood d at → sum_by (λ (a : Standpoint). f (running a)) (alternatives d n at) ≤ chosen_sum (declared_at d (running at) n)
-      alternatives_within [] path = absurd path
+      alternatives_within [] path = omega arith
       alternatives_within (here ∷ above) path = by (declared_at d here.operation n) refl
         where
           by : (r : Option ℕ) → declared_at d here.operation n ≡ r → sum_by (λ (a : Standpoint). f (running a)) (alternatives d n (here ∷ above)) ≤ chosen_sum r
@@ -336,7 +340,7 @@ module _ (d : DescriptionTree) where
               let same = ap (λ (x : Standpoint). sum_by (λ (a : Standpoint). f (running a)) (alternatives_at d n x)) (undeclared here above none) in
               omega (arith, low, zero', same)
           by (Some i) there =
-              let h = homed (here ∷ above) i path there in
+              let h = homed here above i path there in
               let x = found d here.operation n i there in
               let low = at_low d s f n h.here h.above in
               let within = named_within d s f n i h.here.operation h.number h.declared h.means x.e x.at in

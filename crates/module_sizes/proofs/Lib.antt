@@ -14,3 +14,4 @@ pub mod Among
 pub mod Tables
 pub mod Weighed
 pub mod Accessed
+pub mod Priced

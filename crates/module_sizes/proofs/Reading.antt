@@ -71,7 +71,7 @@ module _ (p : Program) (most : ℕ) (longest : IsLongest most) (rates : Rates) w
   meant_free d known n (meanings.Declared i) h = h
 
   module _ (g : Ground) (names : ℕ → Naming) (Stood : Standpoint → Type 0) (named : AreNamed g.description names rates Stood) where
-    sources_free : (known : Known) (o : ℕ) (scope : Scope) → ((n : List ℕ) → Free (known.named n).at) → Free known.decoded.at → AreFree p most longest rates (names o) (sources g.description g.places known o scope)
+    pub sources_free : (known : Known) (o : ℕ) (scope : Scope) → ((n : List ℕ) → Free (known.named n).at) → Free known.decoded.at → AreFree p most longest rates (names o) (sources g.description g.places known o scope)
     sources_free known o scope each decoded = record {
       named = λ n. name_free p most longest rates (lookup (same_name n) scope) (meant_operand g.description known n (meaning g.description o n)) (meant_free g.description known n (meaning g.description o n) (each n));
       element = λ n. named.element o n;

@@ -5,3 +5,4 @@ pub mod Unfolded
 pub mod Activating
 pub mod Rows
 pub mod Weighed
+pub mod Priced

@@ -14,9 +14,10 @@ use Rattle.lowered_behaviors.specs.Standpoints.{Standpoint, running, alternative
 use Rattle.module_sizes.specs.Costs.{Rates}
 use Rattle.module_sizes.specs.Worths.{unit, Naming, value_worth, place_worth, statements_worth}
 
--- a standpoint that an operation has: from it up to `main`, each an alternative, and no alias, of a name that the next one declares
+-- A standpoint that an operation has: from it up to `main`, each an alternative, and no alias, of a name that the next one declares. What isn't
+-- there stands nowhere.
 abbrev pub IsStood : DescriptionTree → Standpoint → Type 0
-IsStood d [] = ⊥
+IsStood d [] = Unit {0}
 IsStood d (here ∷ []) = number_of d main_name ≡ Some here.operation
 IsStood d (here ∷ next ∷ above) = ((n : List ℕ) × (is_in here.operation (plain_named d next.operation n) ≡ true)) × IsStood d (next ∷ above)
 

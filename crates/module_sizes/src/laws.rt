@@ -15,7 +15,9 @@ ghost use Rattle.step_program.specs.Programs.{Program, Expr, Move};
 ghost use Rattle.netlist_rules.specs.Sizes.{pair_most, moves_most};
 ghost use Rattle.lowered_statements.specs.Scopes.{Scope};
 ghost use Rattle.lowered_time.specs.Pieces.{chain};
-ghost use Rattle.lowered_time.specs.Building.{Operations, Layout, main_run, turns};
+ghost use Rattle.lowered_time.specs.Building.{Layout, main_run, turns};
+ghost use Rattle.lowered_edges.specs.Parts.{operations};
+ghost use Rattle.description_types.specs.Types.{Types};
 ghost use Rattle.lowered_words.specs.Loading.{load};
 ghost use Rattle.lowered_behaviors.specs.Standpoints.{Standpoint, running};
 ghost use Rattle.lowered_behaviors.specs.Values.{Ground, value_within};
@@ -25,7 +27,8 @@ ghost use Rattle.module_sizes.specs.Worths.{unit, value_worth};
 ghost use Rattle.module_sizes.specs.Weighed.{array_rates, counted_names, behavior_accesses};
 ghost use Rattle.module_sizes.specs.Standing.{IsStood};
 ghost use Rattle.module_sizes.specs.Unfolded.{names_of, worth_of};
-ghost use Rattle.module_sizes.specs.Activating.{IsQuiet, Prices, ArePriced, edge_worth};
+ghost use Rattle.module_sizes.specs.Activating.{IsQuiet, edge_worth};
+ghost use Rattle.module_sizes.specs.Priced.{prices_of};
 ghost use Rattle.module_sizes.specs.Rows.{row_worth};
 
 /// Behind writes of cells steps are charged with no more than they cost where a read of an array costs a pair for each of its writes.
@@ -48,9 +51,10 @@ pub fn rows_are_paid_by_forms()
     ensures { (p : Program) (most : ℕ) (rates : Rates) (d : DescriptionTree) (width base : ℕ) (e : Expr) (from : ℕ) → IsLongest most → IsFree p most rates e → moves_cost p most rates (load d width base e from).moves ≤ row_worth d }
 {}
 
-/// The steps of `main` and of all stages cost no more than the activations are worth, each occurrence once, and the stages.
+/// In an accepted description the steps of `main` and of all stages cost no more than the activations are worth, each occurrence once, and the
+/// stages.
 pub fn turns_are_paid_by_activations()
-    ensures { (p : Program) (most : ℕ) (rates : Rates) (d : DescriptionTree) (ops : Operations) (layout : Layout) (prices : Prices) → IsLongest most → ArePriced p most rates ops prices → IsQuiet layout 0 (core_of d).acts → (from : ℕ) → moves_cost p most rates (chain (main_run (core_of d) ops layout) (turns (core_of d) ops layout (core_of d).stages) from).moves ≤ edge_worth (core_of d) prices (core_of d).stages }
+    ensures { (p : Program) (most : ℕ) (rates : Rates) (d : DescriptionTree) (types : Types) (width : ℕ) (layout : Layout) → IsLongest most → IsAccepted d → IsQuiet layout 0 (core_of d).acts → (from : ℕ) → moves_cost p most rates (chain (main_run (core_of d) (operations d types width) layout) (turns (core_of d) (operations d types width) layout (core_of d).stages) from).moves ≤ edge_worth (core_of d) (prices_of d rates) (core_of d).stages }
 {}
 
 /// In an accepted description the steps of an expression that stands there cost no more than 2,048 for each node and alternative that is counted
