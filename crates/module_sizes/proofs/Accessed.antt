@@ -1,5 +1,5 @@
 -- What reads and writes of arrays add to the worth of texts: no more than is counted of them.
-use Rattle.std.proofs.Common.{◌≡◌, ◌≤◌, ◌+◌, ◌*◌, ◌++◌, ◌∙◌, max, ℕ, zero, suc, List, [], ◌∷◌, Option, None, Some, refl, sym, ap, arith, inl, inr}
+use Rattle.std.proofs.Common.{◌≡◌, ◌≤◌, ◌+◌, ◌*◌, ◌++◌, max, ℕ, zero, suc, List, [], ◌∷◌, Option, None, Some, refl, ap, arith, inl, inr}
 use Rattle.std.specs.Prelude.{slice_get, sum_by}
 use Rattle.std.specs.Option.{option_map_or}
 use Rattle.std.proofs.lemmas.List.Sums.{sum_by-cons}
@@ -27,7 +27,7 @@ use Rattle.lisa_machine.proofs.Standing.{behavior_stand, expression_stand}
 use Rattle.lisa_machine.proofs.Resolved.{read_element}
 use Rattle.access_counts.specs.Accesses.{Access, value_accesses, place_accesses, statement_accesses, statements_accesses}
 use Rattle.access_counts.specs.Accesses as counting
-use Rattle.access_counts.specs.Unfolded.{Counted, naming, sections_accesses, counted_within}
+use Rattle.access_counts.specs.Unfolded.{Counted, naming, counted_within}
 use Rattle.description_weight.specs.Unfolded.{chosen_by}
 use Rattle.lisa_meaning.specs.Values.{Array, array_place, array_of, meant_array, named_array}
 use Rattle.lowered_resources.specs.Reading.{cells_of}
@@ -35,7 +35,7 @@ use Rattle.lowered_behaviors.proofs.Sources.{element_there}
 use Rattle.module_sizes.specs.Costs.{Rates}
 use Rattle.module_sizes.specs.Worths.{unit, Naming, value_worth, place_worth, statement_worth, statements_worth}
 use Rattle.module_sizes.specs.Standing.{read_worth, assigned_worth, run_worth}
-use Rattle.module_sizes.specs.Unfolded.{Worth, chosen_worth, named, worth_by, worths_within}
+use Rattle.module_sizes.specs.Unfolded.{Worth, chosen_worth, named, worths_within}
 use Rattle.module_sizes.specs.Weighed.{no_rates, array_rates}
 
 scaled : (k w v a : ℕ) → w ≤ v + a → k * w ≤ k * v + k * a

@@ -15,3 +15,5 @@ pub mod Tables
 pub mod Weighed
 pub mod Accessed
 pub mod Priced
+pub mod Quiet
+pub mod Ends

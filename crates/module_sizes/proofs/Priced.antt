@@ -1,7 +1,6 @@
 -- The parts of an accepted description cost no more than their prices.
-use Rattle.std.proofs.Common.{◌≡◌, ◌<◌, ◌≤◌, ◌+◌, ◌∙◌, ℕ, zero, suc, List, [], ◌∷◌, Option, None, Some, map, refl, sym, ap, subst, arith}
-use Rattle.std.specs.Prelude.{slice_get, filter_map, option_map}
-use Rattle.std.specs.Option.{option_and_then, option_map_or}
+use Rattle.std.proofs.Common.{◌≡◌, ◌≤◌, ◌∙◌, ℕ, zero, suc, List, [], ◌∷◌, Option, None, Some, refl, sym, ap, subst, arith}
+use Rattle.std.specs.Prelude.{slice_get, filter_map}
 use Rattle.lisa_tree.specs.Expressions.{ExprTree}
 use Rattle.lisa_tree.specs.Descriptions.{DescriptionTree}
 use Rattle.lisa_tree.specs.Operations.{sections_at, coding_in}
@@ -11,20 +10,19 @@ use Rattle.activation_trees.specs.declared.parts.Occurrence.{Occurrence}
 use Rattle.activation_trees.specs.Unfolding.{occurrences}
 use Rattle.coding_tables.specs.Instructions.{Root, first_root}
 use Rattle.lisa_machine.specs.Soundness.{IsSound}
-use Rattle.step_program.specs.Programs.{Program, Expr, Const, Temp}
-use Rattle.step_pieces.specs.Pieces.{held, nothing, always}
+use Rattle.step_program.specs.Programs.{Program, Expr, Const}
+use Rattle.step_pieces.specs.Pieces.{always}
 use Rattle.lisa_meaning.specs.Scenes.{Link, line, line_within, occurrence_link}
 use Rattle.lisa_meaning.specs.Cores.{condition, root_place}
-use Rattle.lisa_meaning.proofs.Paths.{Line, line_of}
+use Rattle.lisa_meaning.proofs.Paths.{line_of}
 use Rattle.lowered_values.specs.Templates.{fitted}
 use Rattle.lowered_values.specs.Sources.{bare}
-use Rattle.lowered_values.specs.Computed.{Computed, leaf, computed}
-use Rattle.lowered_time.specs.Pieces.{Made}
+use Rattle.lowered_values.specs.Computed.{Computed, computed}
 use Rattle.lowered_resources.specs.Reading.{absent, sources}
-use Rattle.lowered_words.specs.Ways.{Way, way_place}
+use Rattle.lowered_words.specs.Ways.{way_place}
 use Rattle.lowered_words.specs.Choosing.{Choice, choice}
 use Rattle.lowered_words.specs.Rows.{flag_in, choice_flag}
-use Rattle.lowered_behaviors.specs.Standpoints.{Level, Standpoint, running}
+use Rattle.lowered_behaviors.specs.Standpoints.{Level, running}
 use Rattle.lowered_behaviors.specs.Values.{Ground}
 use Rattle.lowered_layouts.specs.Items.{places_of}
 use Rattle.lowered_edges.specs.Parts.{level_at, standpoint_of, ground_at, value_at, no_names, word_read, fetch_at, operations}
@@ -40,7 +38,7 @@ use Rattle.module_sizes.proofs.Names.{leaf_costs}
 use Rattle.module_sizes.proofs.Reading.{sources_free, within_costs}
 use Rattle.module_sizes.proofs.Behaving.{behavior_cost}
 use Rattle.module_sizes.proofs.Rows.{load_cost}
-use Rattle.module_sizes.proofs.Among.{link_of, path_of, from_links}
+use Rattle.module_sizes.proofs.Among.{path_of, from_links}
 use Rattle.module_sizes.proofs.Tables.{are_named}
 
 module _ (d : DescriptionTree) (s : IsSound d) (types : Types) (width : ℕ) where

@@ -1,6 +1,5 @@
 -- What the parts of a description cost.
 use Rattle.std.specs.Prelude.{ℕ, ◌+◌, Option, None, Some, slice_get}
-use Rattle.lisa_tree.specs.Expressions.{ExprTree}
 use Rattle.lisa_tree.specs.Descriptions.{DescriptionTree}
 use Rattle.lisa_tree.specs.Operations.{sections_at, coding_in}
 use Rattle.activation_trees.specs.declared.parts.Occurrence.{Occurrence}

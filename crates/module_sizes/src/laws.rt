@@ -15,7 +15,9 @@ ghost use Rattle.step_program.specs.Programs.{Program, Expr, Move};
 ghost use Rattle.netlist_rules.specs.Sizes.{pair_most, moves_most};
 ghost use Rattle.lowered_statements.specs.Scopes.{Scope};
 ghost use Rattle.lowered_time.specs.Pieces.{chain};
-ghost use Rattle.lowered_time.specs.Building.{Layout, main_run, turns};
+ghost use Rattle.lowered_time.specs.Building.{Layout, ends, main_run, turns};
+ghost use Rattle.lowered_time.specs.Lowering.{IsLaidOut};
+ghost use Rattle.lisa_forms.specs.Verdicts.{HasForms};
 ghost use Rattle.lowered_edges.specs.Parts.{operations};
 ghost use Rattle.description_types.specs.Types.{Types};
 ghost use Rattle.lowered_words.specs.Loading.{load};
@@ -27,9 +29,11 @@ ghost use Rattle.module_sizes.specs.Worths.{unit, value_worth};
 ghost use Rattle.module_sizes.specs.Weighed.{array_rates, counted_names, behavior_accesses};
 ghost use Rattle.module_sizes.specs.Standing.{IsStood};
 ghost use Rattle.module_sizes.specs.Unfolded.{names_of, worth_of};
-ghost use Rattle.module_sizes.specs.Activating.{IsQuiet, edge_worth};
+ghost use Rattle.module_sizes.specs.Activating.{edge_worth};
 ghost use Rattle.module_sizes.specs.Priced.{prices_of};
 ghost use Rattle.module_sizes.specs.Rows.{row_worth};
+
+use lisa_meaning::laws::cores_are_sound;
 
 /// Behind writes of cells steps are charged with no more than they cost where a read of an array costs a pair for each of its writes.
 pub fn pairs_are_paid_by_reads()
@@ -51,10 +55,17 @@ pub fn rows_are_paid_by_forms()
     ensures { (p : Program) (most : ℕ) (rates : Rates) (d : DescriptionTree) (width base : ℕ) (e : Expr) (from : ℕ) → IsLongest most → IsFree p most rates e → moves_cost p most rates (load d width base e from).moves ≤ row_worth d }
 {}
 
-/// In an accepted description the steps of `main` and of all stages cost no more than the activations are worth, each occurrence once, and the
-/// stages.
+/// In an accepted description with forms the steps of `main` and of all stages cost no more than the activations are worth, each occurrence
+/// once, and the stages.
 pub fn turns_are_paid_by_activations()
-    ensures { (p : Program) (most : ℕ) (rates : Rates) (d : DescriptionTree) (types : Types) (width : ℕ) (layout : Layout) → IsLongest most → IsAccepted d → IsQuiet layout 0 (core_of d).acts → (from : ℕ) → moves_cost p most rates (chain (main_run (core_of d) (operations d types width) layout) (turns (core_of d) (operations d types width) layout (core_of d).stages) from).moves ≤ edge_worth (core_of d) (prices_of d rates) (core_of d).stages }
+    ensures { (p : Program) (most : ℕ) (rates : Rates) (d : DescriptionTree) (types : Types) (width : ℕ) (layout : Layout) → IsLongest most → IsAccepted d → HasForms d → IsLaidOut (core_of d) layout p → (from : ℕ) → moves_cost p most rates (chain (main_run (core_of d) (operations d types width) layout) (turns (core_of d) (operations d types width) layout (core_of d).stages) from).moves ≤ edge_worth (core_of d) (prices_of d rates) (core_of d).stages }
+{
+    cores_are_sound();
+}
+
+/// The next value of a bit and of the word of a stage costs at most 856.
+pub fn ends_are_paid_by_items()
+    ensures { (p : Program) (most : ℕ) (rates : Rates) (d : DescriptionTree) (types : Types) (width : ℕ) (layout : Layout) (level : ℕ) → IsLongest most → moves_cost p most rates (ends (core_of d) (operations d types width) layout level) ≤ 856 * length (ends (core_of d) (operations d types width) layout level) }
 {}
 
 /// In an accepted description the steps of an expression that stands there cost no more than 2,048 for each node and alternative that is counted

@@ -1,0 +1,87 @@
+-- What the ends of an edge cost: the next values of bits, words and fields, each with its item no more than a unit.
+use Rattle.std.proofs.Common.{◌≤◌, ◌*◌, ◌++◌, ℕ, zero, suc, Bool, true, false, List, Option, None, Some, length, cond, nat_eq, refl, arith, length-append}
+use Rattle.step_program.specs.Programs.{Program, Expr, Before, Temp, Move}
+use Rattle.pipeline_time.specs.Acts.{size}
+use Rattle.pipeline_time.specs.Cores.{Core, above_of, slot_level}
+use Rattle.netlist_rules.specs.Sizes.{operand_most}
+use Rattle.lowered_time.specs.Building.{Operations, Layout, slot_at, recorded_at, place_word, stage_word, stood, came, next_bit, next_word, set_place, bit_ends, ends}
+use Rattle.module_sizes.specs.Costs.{Rates, IsLongest, expr_cost, IsFree, moves_cost}
+use Rattle.module_sizes.proofs.Operands.{operand_low}
+use Rattle.module_sizes.proofs.Adding.{moves_append}
+
+module _ (p : Program) (most : ℕ) (longest : IsLongest most) (rates : Rates) where
+  abbrev Free : Expr → Type 0
+  Free e = IsFree p most rates e
+
+  abbrev cost : List Move → ℕ
+  cost moves = moves_cost p most rates moves
+
+  -- ---- bits and words
+
+  module _ {R M : Type 0} (core : Core R M) (ops : Operations) (layout : Layout) (flushed : (level : ℕ) → Free (ops.flushed level)) (short : (level : ℕ) → operand_most p most (ops.flushed level) ≤ 27) where
+    stood_free : (r : Option ℕ) → Free (stood core ops layout r)
+    stood_free None = refl
+    stood_free (Some place) = refl
+
+    came_free : (level number : ℕ) → Free (came core ops layout level number)
+    came_free level number = by (nat_eq level (above_of core number)) (stood_free (layout.bit level number))
+      where
+        by : (b : Bool) → Free (stood core ops layout (layout.bit level number)) → Free (cond b (Temp (recorded_at core.stages number)) (stood core ops layout (layout.bit level number)))
+        by true h = refl
+        by false h = h
+
+    word_free : (level : ℕ) → Free (stage_word core ops layout level)
+    word_free level = by (nat_eq level (slot_level core)) (placed (layout.word level))
+      where
+        placed : (r : Option ℕ) → Free (place_word core ops layout r)
+        placed None = refl
+        placed (Some place) = refl
+
+        by : (b : Bool) → Free (place_word core ops layout (layout.word level)) → Free (cond b (Temp slot_at) (place_word core ops layout (layout.word level)))
+        by true h = refl
+        by false h = h
+
+    bit_cost : (level number place : ℕ) → expr_cost p most rates (next_bit core ops layout level number place) ≤ 856
+    bit_cost level number place =
+        let before = operand_low p most longest (Before place) in
+        let c = operand_low p most longest (came core ops layout level number) in
+        let free = came_free level number in
+        let f = flushed (suc level) in
+        let s = short (suc level) in
+        omega (arith, before, c, free, f, s)
+
+    word_cost : (level place : ℕ) → expr_cost p most rates (next_word core ops layout level place) ≤ 856
+    word_cost level place =
+        let before = operand_low p most longest (Before place) in
+        let w = operand_low p most longest (stage_word core ops layout level) in
+        let free = word_free level in
+        let f = flushed (suc level) in
+        let s = short (suc level) in
+        omega (arith, before, w, free, f, s)
+
+    bit_move : (level number : ℕ) (r : Option ℕ) → cost (set_place core ops layout r (next_bit core ops layout level number)) ≤ 856 * length (set_place core ops layout r (next_bit core ops layout level number))
+    bit_move level number None = omega arith
+    bit_move level number (Some place) = let h = bit_cost level number place in omega (arith, h)
+
+    word_move : (level : ℕ) (r : Option ℕ) → cost (set_place core ops layout r (next_word core ops layout level)) ≤ 856 * length (set_place core ops layout r (next_word core ops layout level))
+    word_move level None = omega arith
+    word_move level (Some place) = let h = word_cost level place in omega (arith, h)
+
+    both_cost : (xs ys : List Move) → cost xs ≤ 856 * length xs → cost ys ≤ 856 * length ys → cost (xs ++ ys) ≤ 856 * length (xs ++ ys)
+    both_cost xs ys h k =
+        let all = moves_append p most rates xs ys in
+        let many = length-append xs ys in
+        omega (arith, all, many, h, k)
+
+    bits_cost : (level number : ℕ) → cost (bit_ends core ops layout level number) ≤ 856 * length (bit_ends core ops layout level number)
+    bits_cost level zero = omega arith
+    bits_cost level (suc number) =
+        both_cost (bit_ends core ops layout level number) (set_place core ops layout (layout.bit (suc level) number) (next_bit core ops layout level number)) (bits_cost level number)
+        (bit_move level number (layout.bit (suc level) number))
+
+    pub ends_cost : (level : ℕ) → cost (ends core ops layout level) ≤ 856 * length (ends core ops layout level)
+    ends_cost zero = omega arith
+    ends_cost (suc level) =
+        let bits = bit_ends core ops layout level (suc (size core.acts)) in
+        let word = set_place core ops layout (layout.word (suc level)) (next_word core ops layout level) in
+        both_cost (ends core ops layout level) (bits ++ word) (ends_cost level) (both_cost bits word (bits_cost level (suc (size core.acts))) (word_move level (layout.word (suc level))))
