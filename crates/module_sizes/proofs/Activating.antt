@@ -361,3 +361,13 @@ module _ (p : Program) (most : ℕ) (longest : IsLongest most) (rates : Rates) w
           let m = sum_main core.stages in
           let all = chain_few (main_run core ops layout) (turns core ops layout core.stages) (worth.own 0 + active_worth 0 core.acts) (core.stages * (1768 + prices.load) + sum_turns core.stages 0 (Act 0 0 false core.acts Done)) main_few (turns_few core.stages) from in
           omega (arith, o, m, all)
+
+      -- with what is done behind them
+      pub edge_then : IsQuiet layout 0 core.acts → (rest : Builder) (n : ℕ) → Few n rest → Few (edge_worth core prices core.stages + n) (chain (main_run core ops layout) (chain (turns core ops layout core.stages) rest))
+      edge_then quiet rest n few from =
+          let o = once core.acts 0 core.stages quiet in
+          let m = sum_main core.stages in
+          let behind = chain_few (turns core ops layout core.stages) rest (core.stages * (1768 + prices.load) + sum_turns core.stages 0 (Act 0 0 false core.acts Done)) n (turns_few core.stages) few in
+          let all = chain_few (main_run core ops layout) (chain (turns core ops layout core.stages) rest) (worth.own 0 + active_worth 0 core.acts)
+          ((core.stages * (1768 + prices.load) + sum_turns core.stages 0 (Act 0 0 false core.acts Done)) + n) main_few behind from in
+          omega (arith, o, m, all)

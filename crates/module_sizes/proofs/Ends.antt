@@ -1,10 +1,18 @@
 -- What the ends of an edge cost: the next values of bits, words and fields, each with its item no more than a unit.
-use Rattle.std.proofs.Common.{◌≤◌, ◌*◌, ◌++◌, ℕ, zero, suc, Bool, true, false, List, Option, None, Some, length, cond, nat_eq, refl, arith, length-append}
+use Rattle.std.proofs.Common.{◌≤◌, ◌*◌, ◌++◌, ℕ, zero, suc, Bool, true, false, List, [], ◌∷◌, Option, None, Some, length, map, cond, nat_eq, refl, ap, arith, length-append}
 use Rattle.step_program.specs.Programs.{Program, Expr, Before, Temp, Move}
 use Rattle.pipeline_time.specs.Acts.{size}
 use Rattle.pipeline_time.specs.Cores.{Core, above_of, slot_level}
 use Rattle.netlist_rules.specs.Sizes.{operand_most}
 use Rattle.lowered_time.specs.Building.{Operations, Layout, slot_at, recorded_at, place_word, stage_word, stood, came, next_bit, next_word, set_place, bit_ends, ends}
+use Rattle.lisa_tree.specs.Descriptions.{DescriptionTree}
+use Rattle.lisa_tree.specs.Resources.{fields}
+use Rattle.std.specs.List.{flat_map, range_with_len}
+use Rattle.std.proofs.lemmas.List.Concat.{flat_map-cons}
+use Rattle.lowered_layouts.specs.Temps.{boundary_count}
+use Rattle.lowered_layouts.specs.Items.{field_place}
+use Rattle.lowered_layouts.specs.Ends as closing
+use Rattle.lowered_layouts.specs.Ends.{before_field, next_field, field_end, boundary_ends}
 use Rattle.module_sizes.specs.Costs.{Rates, IsLongest, expr_cost, IsFree, moves_cost}
 use Rattle.module_sizes.proofs.Operands.{operand_low}
 use Rattle.module_sizes.proofs.Adding.{moves_append}
@@ -85,3 +93,42 @@ module _ (p : Program) (most : ℕ) (longest : IsLongest most) (rates : Rates) w
         let bits = bit_ends core ops layout level (suc (size core.acts)) in
         let word = set_place core ops layout (layout.word (suc level)) (next_word core ops layout level) in
         both_cost (ends core ops layout level) (bits ++ word) (ends_cost level) (both_cost bits word (bits_cost level (suc (size core.acts))) (word_move level (layout.word (suc level))))
+
+  -- ---- fields
+
+  module _ (d : DescriptionTree) (held free : ℕ → Expr) (held_free : (level : ℕ) → Free (held level)) (free_free : (level : ℕ) → Free (free level))
+      (held_short : (level : ℕ) → operand_most p most (held level) ≤ 27) (free_short : (level : ℕ) → operand_most p most (free level) ≤ 27) where
+    before_free : (s f : ℕ) → Free (before_field d s f)
+    before_free zero f = refl
+    before_free (suc s) f = refl
+
+    field_cost : (s f : ℕ) → expr_cost p most rates (next_field d held free s f) ≤ 856
+    field_cost s f =
+        let own = operand_low p most longest (Before (field_place d s f)) in
+        let old = operand_low p most longest (before_field d s f) in
+        let b = before_free s f in
+        let h = held_free (suc (suc s)) in
+        let g = free_free (suc s) in
+        let i = held_short (suc (suc s)) in
+        let j = free_short (suc s) in
+        omega (arith, own, old, b, h, g, i, j)
+
+    boundary_cost : (s : ℕ) (fs : List ℕ) → cost (map (field_end d held free s) fs) ≤ 856 * length (map (field_end d held free s) fs)
+    boundary_cost s [] = omega arith
+    boundary_cost s (f ∷ fs) = let one = field_cost s f in let more = boundary_cost s fs in omega (arith, one, more)
+
+    boundaries_cost : (ss : List ℕ) → cost (flat_map (boundary_ends d held free) ss) ≤ 856 * length (flat_map (boundary_ends d held free) ss)
+    boundaries_cost [] = omega arith
+    boundaries_cost (s ∷ ss) =
+        let fs = range_with_len 0 (length (fields d)) in
+        let all = flat_map-cons (boundary_ends d held free) s ss in
+        let both = moves_append p most rates (map (field_end d held free s) fs) (flat_map (boundary_ends d held free) ss) in
+        let many = length-append (map (field_end d held free s) fs) (flat_map (boundary_ends d held free) ss) in
+        let one = boundary_cost s fs in
+        let more = boundaries_cost ss in
+        let same = ap cost all in
+        let count = ap (λ (xs : List Move). length xs) all in
+        omega (arith, both, many, one, more, same, count)
+
+    pub fields_cost : (from : ℕ) → cost (closing.ends d held free from).moves ≤ 856 * length (closing.ends d held free from).moves
+    fields_cost from = boundaries_cost (range_with_len 0 (boundary_count d))

@@ -17,3 +17,4 @@ pub mod Accessed
 pub mod Priced
 pub mod Quiet
 pub mod Ends
+pub mod Whole

@@ -6,3 +6,4 @@ pub mod Activating
 pub mod Rows
 pub mod Weighed
 pub mod Priced
+pub mod Whole

@@ -1,5 +1,5 @@
 //! Steps cost no more than what they are made of is worth. Each law is the contract of a function that does nothing.
-ghost use Rattle.std.specs.Prelude.{◌≡◌, ℕ, ◌+◌, ◌-◌, ◌*◌, ◌^◌, ◌<◌, ◌≤◌, List, [], Some, length};
+ghost use Rattle.std.specs.Prelude.{◌≡◌, ℕ, ◌+◌, ◌-◌, ◌*◌, ◌^◌, ◌<◌, ◌≤◌, List, [], Option, Some, length};
 ghost use Rattle.lisa_tree.specs.Expressions.{ExprTree};
 ghost use Rattle.lisa_tree.specs.Descriptions.{DescriptionTree};
 ghost use Rattle.description_places.specs.declared.sites.Region.{Region};
@@ -12,13 +12,17 @@ ghost use Rattle.text_counts.specs.Expressions.{expression_nodes};
 ghost use Rattle.description_sizes.specs.Texts.{expression_counts, texts};
 ghost use Rattle.lisa_meaning.specs.Cores.{core_of};
 ghost use Rattle.step_program.specs.Programs.{Program, Expr, Move};
-ghost use Rattle.netlist_rules.specs.Sizes.{pair_most, moves_most};
+ghost use Rattle.netlist_rules.specs.Sizes.{longest, module_most, moves_most, pair_most};
+ghost use Rattle.netlist_wires.specs.Tables.{program_names};
 ghost use Rattle.lowered_statements.specs.Scopes.{Scope};
 ghost use Rattle.lowered_time.specs.Pieces.{chain};
 ghost use Rattle.lowered_time.specs.Building.{Layout, ends, main_run, turns};
 ghost use Rattle.lowered_time.specs.Lowering.{IsLaidOut};
 ghost use Rattle.lisa_forms.specs.Verdicts.{HasForms};
 ghost use Rattle.lowered_edges.specs.Parts.{operations};
+ghost use Rattle.lowered_edges.specs.Programs.{edge_program, word_width};
+ghost use Rattle.lowered_layouts.specs.Items.{time_layout};
+ghost use Rattle.module_sizes.specs.Whole.{program_worth};
 ghost use Rattle.description_types.specs.Types.{Types};
 ghost use Rattle.lowered_words.specs.Loading.{load};
 ghost use Rattle.lowered_behaviors.specs.Standpoints.{Standpoint, running};
@@ -79,3 +83,11 @@ pub fn expressions_are_paid_by_their_weight()
 pub fn behaviors_are_paid_by_their_weight()
     ensures { (p : Program) (most : ℕ) (rates : Rates) (g : Ground) → IsLongest most → IsAccepted g.description → (more count : ℕ) (at : Standpoint) (guard : Expr) (from : ℕ) → IsStood g.description at → running at < length g.description.operations → (texts g.description).behaviors (running at) ≡ Some count → count < 2 ^ 64 - 1 → IsFree p most rates guard → moves_cost p most rates (behavior_within more g at guard from).moves ≤ unit * count + behavior_accesses g.description rates (running at) }
 {}
+
+/// The module of a description's program is charged with no more than its items, arrays and pins, what its activations are worth where a read of
+/// an array costs a pair for each of its writes, and the next values of items.
+pub fn modules_are_paid_by_their_parts()
+    ensures { (d : DescriptionTree) (types : Types) (declared : Option ℕ) (q : Program) (writes : ℕ → ℕ) → IsAccepted d → HasForms d → IsLaidOut (core_of d) (time_layout d (word_width declared)) q → IsLongest (longest (program_names (edge_program d types declared))) → ((a : ℕ) → moves_accesses (write_rates a 1) (edge_program d types declared).moves ≤ writes a) → module_most (edge_program d types declared) ≤ program_worth d types (word_width declared) (pair_rates (λ a. writes a * pair_most (longest (program_names (edge_program d types declared))))) (edge_program d types declared) }
+{
+    cores_are_sound();
+}
