@@ -17,4 +17,5 @@ pub mod Accessed
 pub mod Priced
 pub mod Quiet
 pub mod Ends
+pub mod Summed
 pub mod Whole

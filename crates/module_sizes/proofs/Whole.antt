@@ -9,6 +9,7 @@ use Rattle.step_pieces.specs.Pieces.{Builder}
 use Rattle.netlist_wires.specs.Tables.{program_names}
 use Rattle.netlist_rules.specs.Sizes.{pair_most, name_most, longest, module_most}
 use Rattle.lisa_meaning.specs.Cores.{core_of}
+use Rattle.lisa_meaning.specs.Laws.{TreesAreOccurrences}
 use Rattle.lowered_time.specs.Pieces.{steps, chain}
 use Rattle.lowered_time.specs.Building.{held_at, open_at, ends}
 use Rattle.lowered_time.specs.Lowering.{IsLaidOut}
@@ -25,6 +26,7 @@ use Rattle.module_sizes.proofs.Adding.{total}
 use Rattle.module_sizes.proofs.Pairs.{pairs_low}
 use Rattle.module_sizes.proofs.Activating.{chain_few, edge_then}
 use Rattle.module_sizes.proofs.Priced.{are_priced}
+use Rattle.module_sizes.proofs.Summed.{edge_summed}
 use Rattle.module_sizes.proofs.Quiet.{is_quiet}
 use Rattle.module_sizes.proofs.Ends.{ends_cost, fields_cost}
 
@@ -48,7 +50,7 @@ module _ (d : DescriptionTree) (s : IsSound d) (types : Types) (width : ℕ) (so
       let all = edge_then p most low rates core ops layout (prices_of d rates) (are_priced d s types width p most low rates) (is_quiet core layout q laid sound) (chain last close) (856 * bits + 856 * closed) both (length (lasting_widths d width)) in
       omega (arith, all)
 
-module _ (d : DescriptionTree) (s : IsSound d) (types : Types) (declared : Option ℕ) (sound : time.IsSound (core_of d)) (q : Program) (laid : IsLaidOut (core_of d) (time_layout d (word_width declared)) q) where
+module _ (d : DescriptionTree) (s : IsSound d) (types : Types) (declared : Option ℕ) (sound : time.IsSound (core_of d)) (trees : TreesAreOccurrences d) (q : Program) (laid : IsLaidOut (core_of d) (time_layout d (word_width declared)) q) where
   abbrev p : Program
   p = edge_program d types declared
 
@@ -65,4 +67,5 @@ module _ (d : DescriptionTree) (s : IsSound d) (types : Types) (declared : Optio
       let pins = rises (length p.pins) (19 + name_most most) 215 (omega (arith, greatest)) in
       let steps' = pairs_low p most p.moves writes few in
       let edge' = edge_cost d s types (word_width declared) sound q laid p most low (pair_rates (λ a. writes a * pair_most most)) in
-      omega (arith, items, arrays, pins, steps', edge')
+      let sum = edge_summed d (pair_rates (λ a. writes a * pair_most most)) trees (core_of d).stages in
+      omega (arith, items, arrays, pins, steps', edge', sum)

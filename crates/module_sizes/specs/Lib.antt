@@ -6,4 +6,5 @@ pub mod Activating
 pub mod Rows
 pub mod Weighed
 pub mod Priced
+pub mod Summed
 pub mod Whole

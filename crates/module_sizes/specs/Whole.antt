@@ -9,8 +9,7 @@ use Rattle.lowered_layouts.specs.Items.{time_layout}
 use Rattle.lowered_layouts.specs.Ends as closing
 use Rattle.lowered_edges.specs.Parts.{operations}
 use Rattle.module_sizes.specs.Costs.{Rates}
-use Rattle.module_sizes.specs.Activating.{edge_worth}
-use Rattle.module_sizes.specs.Priced.{prices_of}
+use Rattle.module_sizes.specs.Summed.{occurrences_worth}
 
 -- how many bits, words and fields are given their next values
 abbrev pub end_count : DescriptionTree → Types → (width : ℕ) → ℕ
@@ -22,4 +21,4 @@ end_count d types width =
 abbrev pub program_worth : DescriptionTree → Types → (width : ℕ) → Rates → Program → ℕ
 program_worth d types width rates p =
     111 + (835 * length p.items + 229 * length p.arrays + 215 * length p.pins)
-    + (edge_worth (core_of d) (prices_of d rates) (core_of d).stages + 856 * end_count d types width)
+    + (occurrences_worth d rates (core_of d).stages + 856 * end_count d types width)

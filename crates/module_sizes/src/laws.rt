@@ -37,7 +37,7 @@ ghost use Rattle.module_sizes.specs.Activating.{edge_worth};
 ghost use Rattle.module_sizes.specs.Priced.{prices_of};
 ghost use Rattle.module_sizes.specs.Rows.{row_worth};
 
-use lisa_meaning::laws::cores_are_sound;
+use lisa_meaning::laws::{cores_are_sound, trees_are_occurrences};
 
 /// Behind writes of cells steps are charged with no more than they cost where a read of an array costs a pair for each of its writes.
 pub fn pairs_are_paid_by_reads()
@@ -84,10 +84,11 @@ pub fn behaviors_are_paid_by_their_weight()
     ensures { (p : Program) (most : ℕ) (rates : Rates) (g : Ground) → IsLongest most → IsAccepted g.description → (more count : ℕ) (at : Standpoint) (guard : Expr) (from : ℕ) → IsStood g.description at → running at < length g.description.operations → (texts g.description).behaviors (running at) ≡ Some count → count < 2 ^ 64 - 1 → IsFree p most rates guard → moves_cost p most rates (behavior_within more g at guard from).moves ≤ unit * count + behavior_accesses g.description rates (running at) }
 {}
 
-/// The module of a description's program is charged with no more than its items, arrays and pins, what its activations are worth where a read of
-/// an array costs a pair for each of its writes, and the next values of items.
+/// The module of a description's program is charged with no more than its items, arrays and pins, the stages, each occurrence with its behaviour,
+/// where a read of an array costs a pair for each of its writes, the conditions, the root's word, and the next values of items.
 pub fn modules_are_paid_by_their_parts()
     ensures { (d : DescriptionTree) (types : Types) (declared : Option ℕ) (q : Program) (writes : ℕ → ℕ) → IsAccepted d → HasForms d → IsLaidOut (core_of d) (time_layout d (word_width declared)) q → IsLongest (longest (program_names (edge_program d types declared))) → ((a : ℕ) → moves_accesses (write_rates a 1) (edge_program d types declared).moves ≤ writes a) → module_most (edge_program d types declared) ≤ program_worth d types (word_width declared) (pair_rates (λ a. writes a * pair_most (longest (program_names (edge_program d types declared))))) (edge_program d types declared) }
 {
     cores_are_sound();
+    trees_are_occurrences();
 }
