@@ -7,8 +7,9 @@ use Rattle.coding_tables.specs.Instructions.{forms_of}
 use Rattle.instruction_texts.specs.declared.shapes.Shape.{Shape}
 use Rattle.instruction_texts.specs.Symbols.{Sym, gather, shown_values, is_instruction_text}
 use Rattle.instruction_texts.specs.Texts.{form_symbols}
+use Rattle.text_tables.specs.Parts.{all_pieces}
 use Rattle.form_texts.specs.Syntaxes.{syntax_table}
-use Rattle.form_texts.specs.declared.writing.FormText.{FormText}
+use Rattle.form_texts.specs.declared.writing.FormTexts.{FormTexts}
 
 -- what an instruction writes, with the number of each field, in preorder, in place of its value
 abbrev pub instruction_symbols : DescriptionTree → Form → List (Sym ℕ)
@@ -24,9 +25,9 @@ abbrev pub instruction_order : DescriptionTree → Form → List ℕ
 instruction_order d f = shown_values (instruction_symbols d f)
 
 -- these are the texts of all instructions, in order
-pub record AreTexts (d : DescriptionTree) (all : List FormText) : Type 0 where
-  pub shapes : map (λ t. t.shapes.items) all ≡ map (instruction_shapes d) (forms_of d)
-  pub orders : map (λ t. t.order.items) all ≡ map (instruction_order d) (forms_of d)
+pub record AreTexts (d : DescriptionTree) (all : FormTexts) : Type 0 where
+  pub shapes : all_pieces all.texts ≡ map (instruction_shapes d) (forms_of d)
+  pub orders : map (λ v. v.items) all.orders.items ≡ map (instruction_order d) (forms_of d)
 
 -- the number of the first of these forms that may not have its text, where they are numbered from a number on
 abbrev pub first_bad_from : DescriptionTree → ℕ → List Form → Option ℕ

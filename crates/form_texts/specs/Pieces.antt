@@ -1,10 +1,11 @@
 -- The pieces of a text, symbol by symbol.
-use Rattle.std.specs.Prelude.{ℕ, Bool, true, false, not, if◌then◌else◌, List, [], ◌∷◌, ◌++◌}
+use Rattle.std.specs.Prelude.{ℕ, Bool, if◌then◌else◌, List, [], ◌∷◌, ◌++◌, Option, None, Some}
 use Rattle.lisa_tree.specs.declared.descriptions.Format.{Format}
 use Rattle.lisa_tree.specs.declared.descriptions.Format.TheVariants as formats
 use Rattle.asm_source.specs.Bytes.{is_word}
 use Rattle.instruction_texts.specs.declared.shapes.Shape.{Shape}
 use Rattle.instruction_texts.specs.declared.shapes.Shape.TheVariants.{Other, Literal, Unsigned, Signed}
+use Rattle.instruction_texts.specs.Symbols.{starts_dot}
 use Rattle.form_texts.specs.declared.symbols.Symbol.{Symbol}
 use Rattle.form_texts.specs.declared.symbols.Symbol.TheVariants as symbols
 
@@ -24,21 +25,18 @@ abbrev pub pieces_at : List ℕ → Symbol → List Shape
 pieces_at p symbols.Gap = ended p
 pieces_at p (symbols.Byte c) = if is_word c then [] else ended p ++ Other c ∷ []
 pieces_at p (symbols.Number format width field) = number_shape format p width ∷ []
+pieces_at p (symbols.Strings o) = []
 
 -- the run that goes on behind it
 abbrev pub run_at : List ℕ → Symbol → List ℕ
 run_at p (symbols.Byte c) = if is_word c then p ++ c ∷ [] else []
+run_at p (symbols.Strings o) = p
 run_at p _ = []
 
--- ---- runs behind numbers
-
--- whether it is a number
-abbrev pub is_number : Symbol → Bool
-is_number (symbols.Number format width field) = true
-is_number _ = false
-
--- no run goes on with it
-abbrev pub parts_runs : Symbol → Bool
-parts_runs symbols.Gap = true
-parts_runs (symbols.Byte c) = not (is_word c)
-parts_runs (symbols.Number format width field) = false
+-- whether the first run of these pieces begins with `.`, if they have one
+abbrev pub dotted : List Shape → Option Bool
+dotted [] = None
+dotted (Other c ∷ ss) = dotted ss
+dotted (Literal p ∷ ss) = Some (starts_dot p)
+dotted (Unsigned hex p n ∷ ss) = Some (starts_dot p)
+dotted (Signed p n ∷ ss) = Some (starts_dot p)

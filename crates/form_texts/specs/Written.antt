@@ -1,24 +1,11 @@
 -- What a form writes, by its plain tree.
 use Rattle.std.specs.Prelude.{ℕ, suc, ◌+◌, List, [], ◌∷◌, Option, None, Some, map, length}
-use Rattle.std.specs.Global.{Vec}
 use Rattle.lisa_tree.specs.declared.descriptions.SyntaxItem.{SyntaxItem}
 use Rattle.lisa_tree.specs.Descriptions.{DescriptionTree}
 use Rattle.instruction_forms.specs.declared.form.Field.{Field}
 use Rattle.instruction_forms.specs.Trees.{FormTree, FormTrees, Node, End, Then}
-use Rattle.instruction_texts.specs.Symbols.{Sym, Byte, Gap, Shown, assemble}
-use Rattle.form_texts.specs.Syntaxes.{kind_of, elements_at}
-use Rattle.form_texts.specs.declared.symbols.Symbol.{Symbol}
-use Rattle.form_texts.specs.declared.symbols.Symbol.TheVariants as symbols
-
--- the symbol that the code's one stands for
-abbrev pub symbol_of : Symbol → Sym ℕ
-symbol_of (symbols.Byte b) = Byte b
-symbol_of symbols.Gap = Gap
-symbol_of (symbols.Number format width field) = Shown (kind_of format) width field
-
--- what a child writes
-abbrev pub part_of : Vec Symbol → List (Sym ℕ)
-part_of part = map symbol_of part.items
+use Rattle.instruction_texts.specs.Symbols.{Sym, assemble}
+use Rattle.form_texts.specs.Syntaxes.{elements_at}
 
 -- the items of a syntax, none without one
 abbrev pub shown_items : Option (List SyntaxItem) → List SyntaxItem

@@ -1,43 +1,59 @@
 //! What a form's text may be.
 
-ghost use Rattle.std.specs.Prelude.{◌≡◌, map, IfOk};
-ghost use Rattle.instruction_texts.specs.Symbols.{is_clean, starts_dot, is_dotted, is_instruction_text};
-ghost use Rattle.form_texts.specs.Written.{symbol_of};
-ghost use Rattle.form_texts.specs.Pieces.{is_number, parts_runs};
+ghost use Rattle.std.specs.Prelude.{◌≡◌, ◌++◌, ◌&&◌, ℕ, List, Option, None, Some, IfOk, cond, map, nat_eq, not};
+ghost use Rattle.std.specs.List.{flat_map};
+ghost use Rattle.instruction_texts.specs.Symbols.{Sym, text_sym, parts_from, is_clean, starts_dot, is_dotted, has_pieces, is_instruction_text};
+ghost use Rattle.text_tables.specs.Parts.{text_pieces};
+ghost use Rattle.form_texts.specs.Pieces.{dotted};
+ghost use Rattle.form_texts.specs.Strings.{strings_at, symbols_of, clean_behind, clean_after, AreOpened};
+ghost use Rattle.form_texts.specs.declared.strings.Strings.{Strings as AnyStrings};
 
-use crate::gathering::{is_word, shapes};
+use crate::gathering::{is_word, parts};
+use crate::strings::{StringTable, Strings};
 use crate::symbols::Symbol;
 use instruction_texts::Shape;
 use lisa_words::NoMemory;
 use std::alloc::Global;
+use text_tables::{Part, pieces};
 
-// Whether no run goes on with a symbol.
-fn parts_runs(symbol: Symbol) -> bool
-    ensures { result ≡ parts_runs symbol }
+// Whether what follows stands behind a number, where something that parts runs or not may stand here.
+fn may_stand(behind_number: bool, parts: bool, number: bool) -> Option<bool>
+    ensures { result ≡ cond (behind_number && not parts) None (Some number) }
 {
-    match symbol {
-        Symbol::Gap => true,
-        Symbol::Byte(byte) => !is_word(byte),
-        Symbol::Number { .. } => false,
+    if behind_number && !parts {
+        None
+    } else {
+        Some(number)
     }
 }
 
-fn is_number(symbol: Symbol) -> bool
-    ensures { result ≡ is_number symbol }
+// Whether what follows the symbol stands behind a number, where the symbol may stand, else none.
+fn behind(strings: &[Option<Strings>], behind_number: bool, symbol: Symbol) -> Option<bool>
+    requires parts { (o : ℕ) (s : AnyStrings) → strings_at strings.now o ≡ Some s → (rest : List (Sym ℕ)) → parts_from (map text_sym s.text.items ++ rest) ≡ nat_eq s.head 0 }
+    ensures { (rest : List (Sym ℕ)) → clean_behind behind_number (symbols_of strings.now symbol ++ rest) ≡ clean_after result rest }
 {
-    matches!(symbol, Symbol::Number { .. })
+    match symbol {
+        Symbol::Gap => Some(false),
+        Symbol::Byte(byte) => may_stand(behind_number, !is_word(byte), false),
+        Symbol::Number { .. } => may_stand(behind_number, false, true),
+        Symbol::Strings(operation) => match strings.get(operation) {
+            Some(Some(strings)) => may_stand(behind_number, strings.head == 0, false),
+            _ => Some(behind_number),
+        },
+    }
 }
 
 // Whether each number is the last thing in its run.
-fn is_clean(symbols: &[Symbol]) -> bool
-    ensures { result ≡ is_clean (map symbol_of symbols.now) }
+fn is_clean(strings: &[Option<Strings>], symbols: &[Symbol]) -> bool
+    requires parts { (o : ℕ) (s : AnyStrings) → strings_at strings.now o ≡ Some s → (rest : List (Sym ℕ)) → parts_from (map text_sym s.text.items ++ rest) ≡ nat_eq s.head 0 }
+    ensures { result ≡ is_clean (flat_map (symbols_of strings.now) symbols.now) }
 {
     let mut behind_number = false;
     for &symbol in symbols {
-        if behind_number && !parts_runs(symbol) {
-            return false;
+        match behind(strings, behind_number, symbol) {
+            None => return false,
+            Some(next) => behind_number = next,
         }
-        behind_number = is_number(symbol);
     }
     true
 }
@@ -48,25 +64,57 @@ fn starts_dot(run: &[u8]) -> bool
     matches!(run, [b'.', ..])
 }
 
-// Whether the first run begins with `.`, as a directive does.
-fn is_dotted(shapes: &[Shape]) -> bool
-    ensures { result ≡ is_dotted shapes.now }
+// Whether the first run begins with `.`, as a directive does; none, where there is no run.
+fn dotted(shapes: &[Shape]) -> Option<bool>
+    ensures { result ≡ dotted shapes.now }
 {
     for shape in shapes {
         match shape {
             Shape::Other(_) => {}
-            Shape::Literal(run) => return starts_dot(run.as_bytes()),
-            Shape::Unsigned { prefix, .. } => return starts_dot(prefix.as_bytes()),
-            Shape::Signed { prefix, .. } => return starts_dot(prefix.as_bytes()),
+            Shape::Literal(run) => return Some(starts_dot(run.as_bytes())),
+            Shape::Unsigned { prefix, .. } => return Some(starts_dot(prefix.as_bytes())),
+            Shape::Signed { prefix, .. } => return Some(starts_dot(prefix.as_bytes())),
+        }
+    }
+    None
+}
+
+// Whether the first run of a text begins so.
+fn is_dotted(shared: &[Vec<Shape>], parts: &[Part]) -> bool
+    ensures { result ≡ is_dotted (text_pieces shared.now parts.now) }
+{
+    for part in parts {
+        if let Some(found) = dotted(pieces(shared, part)) {
+            return found;
+        }
+    }
+    false
+}
+
+fn has_pieces(shared: &[Vec<Shape>], parts: &[Part]) -> bool
+    ensures { result ≡ has_pieces (text_pieces shared.now parts.now) }
+{
+    for part in parts {
+        if !pieces(shared, part).is_empty() {
+            return true;
         }
     }
     false
 }
 
 /// Whether these symbols may be the text of an instruction.
-pub(crate) fn is_instruction_text(alloc: Global, symbols: &[Symbol]) -> Result<bool, NoMemory>
-    ensures { IfOk result (λ good. good ≡ is_instruction_text (map symbol_of symbols.now)) }
+pub(crate) fn is_instruction_text(
+    alloc: Global,
+    table: &StringTable,
+    symbols: &[Symbol],
+) -> Result<bool, NoMemory>
+    requires opened { AreOpened table.now }
+    ensures { IfOk result (λ good. good ≡ is_instruction_text (flat_map (symbols_of table.now.strings.items) symbols.now)) }
 {
-    let shapes = shapes(alloc, symbols)?;
-    Ok(is_clean(symbols) && !shapes.is_empty() && !is_dotted(&shapes))
+    let parts = parts(alloc, table, symbols)?;
+    Ok(
+        is_clean(&table.strings, symbols)
+            && has_pieces(&table.shared, &parts)
+            && !is_dotted(&table.shared, &parts),
+    )
 }

@@ -1,24 +1,32 @@
 //! The pieces of a text and the order of its numbers, from its symbols.
 
-ghost use Rattle.std.specs.Prelude.{◌≡◌, ◌++◌, ◌∷◌, [], map, if◌then◌else◌, IfOk, OnOk};
+ghost use Rattle.std.specs.Prelude.{◌≡◌, ◌<◌, ◌++◌, ◌∷◌, ℕ, List, [], Option, length, map, take, if◌then◌else◌, IfOk, OnOk};
+ghost use Rattle.std.specs.Global.{Vec};
+ghost use Rattle.std.specs.List.{flat_map};
 ghost use Rattle.asm_source.specs.Bytes.{is_word};
 ghost use Rattle.instruction_texts.specs.declared.shapes.Shape.TheVariants.{Other};
-ghost use Rattle.instruction_texts.specs.Symbols.{gather, shown_values};
-ghost use Rattle.form_texts.specs.Written.{symbol_of};
+ghost use Rattle.instruction_texts.specs.declared.shapes.Shape.{Shape as AnyShape};
+ghost use Rattle.instruction_texts.specs.Symbols.{Sym, gather, shown_values};
+ghost use Rattle.text_tables.specs.Parts.{text_pieces};
+ghost use Rattle.text_tables.specs.Shared.{shapes_at};
+ghost use Rattle.form_texts.specs.Strings.{symbols_of, AreOpened};
+ghost use Rattle.form_texts.specs.declared.strings.Strings.{Strings as AnyStrings};
 ghost use Rattle.form_texts.specs.Pieces.{ended, number_shape, pieces_at, run_at};
 
+use crate::strings::{StringTable, Strings};
 use crate::symbols::Symbol;
 use instruction_texts::Shape;
 use lisa_tree::Format;
 use lisa_words::{Name, NoMemory};
 use std::alloc::Global;
 use std::mem;
+use text_tables::Part;
 
 // The pieces so far, and the run behind them, which may go on.
 #[derive(Drop)]
-struct Pieces {
-    shapes: Vec<Shape>,
-    run: Vec<u8>,
+pub(crate) struct Pieces {
+    pub shapes: Vec<Shape>,
+    pub run: Vec<u8>,
 }
 
 /// Whether a byte is a word character: a letter, a digit, `_` or `.`.
@@ -83,7 +91,7 @@ fn number_shape(format: Format, prefix: Name, width: u32) -> Shape
     }
 }
 
-fn add_symbol(alloc: Global, pieces: &mut Pieces, symbol: Symbol) -> Result<(), NoMemory>
+pub(crate) fn add_symbol(alloc: Global, pieces: &mut Pieces, symbol: Symbol) -> Result<(), NoMemory>
     ensures run { OnOk result (pieces.new.run.items ≡ run_at pieces.old.run.items symbol) }
     ensures shapes { OnOk result (pieces.new.shapes.items ≡ pieces.old.shapes.items ++ pieces_at pieces.old.run.items symbol) }
 {
@@ -95,27 +103,96 @@ fn add_symbol(alloc: Global, pieces: &mut Pieces, symbol: Symbol) -> Result<(), 
             pieces.shapes.push(number_shape(format, prefix, width))?;
             Ok(())
         }
+        Symbol::Strings(_) => Ok(()),
     }
 }
 
-/// The pieces of a text.
-pub(crate) fn shapes(alloc: Global, symbols: &[Symbol]) -> Result<Vec<Shape>, NoMemory>
-    ensures { IfOk result (λ shapes. shapes.items ≡ gather [] (map symbol_of symbols.now)) }
+// The parts of a text so far, and the pieces behind them.
+#[derive(Drop)]
+struct Growing {
+    parts: Vec<Part>,
+    pieces: Pieces,
+}
+
+// Makes a part of the pieces so far, but for the run.
+fn end_part(alloc: Global, growing: &mut Growing) -> Result<(), NoMemory>
+    ensures parts { OnOk result ((shared : List (Vec AnyShape)) → text_pieces shared growing.new.parts.items ≡ text_pieces shared growing.old.parts.items ++ growing.old.pieces.shapes.items) }
+    ensures shapes { OnOk result (growing.new.pieces.shapes.items ≡ []) }
+    ensures run { OnOk result (growing.new.pieces.run.items ≡ growing.old.pieces.run.items) }
 {
-    let mut pieces = Pieces {
-        shapes: Vec::new(alloc),
-        run: Vec::new(alloc),
+    let own = mem::replace(&mut growing.pieces.shapes, Vec::new(alloc));
+    growing.parts.push(Part::Own(own))?;
+    Ok(())
+}
+
+// Adds the strings of an operation.
+fn add_strings(
+    alloc: Global,
+    growing: &mut Growing,
+    strings: &Strings,
+    operation: usize,
+) -> Result<(), NoMemory>
+    requires head { strings.now.head < length strings.now.text.items }
+    ensures parts { OnOk result ((shared : List (Vec AnyShape)) → text_pieces shared growing.new.parts.items ≡ text_pieces shared growing.old.parts.items ++ (growing.old.pieces.shapes.items ++ (ended (growing.old.pieces.run.items ++ take strings.now.head strings.now.text.items) ++ shapes_at (map (λ v. v.items) shared) operation))) }
+    ensures shapes { OnOk result (growing.new.pieces.shapes.items ≡ []) }
+    ensures run { OnOk result (growing.new.pieces.run.items ≡ strings.now.run.items) }
+{
+    growing
+        .pieces
+        .run
+        .extend_from_slice(&strings.text[..strings.head])?;
+    end_run(alloc, &mut growing.pieces)?;
+    end_part(alloc, growing)?;
+    growing.parts.push(Part::Shared(operation))?;
+    growing.pieces.run.extend_from_slice(&strings.run)?;
+    Ok(())
+}
+
+fn grow(
+    alloc: Global,
+    table: &StringTable,
+    growing: &mut Growing,
+    symbol: Symbol,
+) -> Result<(), NoMemory>
+    requires opened { AreOpened table.now }
+    ensures { OnOk result ((rest : List (Sym ℕ)) → text_pieces table.now.shared.items growing.new.parts.items ++ (growing.new.pieces.shapes.items ++ gather growing.new.pieces.run.items rest) ≡ text_pieces table.now.shared.items growing.old.parts.items ++ (growing.old.pieces.shapes.items ++ gather growing.old.pieces.run.items (symbols_of table.now.strings.items symbol ++ rest))) }
+{
+    match symbol {
+        Symbol::Strings(operation) => match table.strings.get(operation) {
+            Some(Some(strings)) => add_strings(alloc, growing, strings, operation),
+            _ => Ok(()),
+        },
+        _ => add_symbol(alloc, &mut growing.pieces, symbol),
+    }
+}
+
+/// The pieces of a text in parts.
+pub(crate) fn parts(
+    alloc: Global,
+    table: &StringTable,
+    symbols: &[Symbol],
+) -> Result<Vec<Part>, NoMemory>
+    requires opened { AreOpened table.now }
+    ensures { IfOk result (λ parts. text_pieces table.now.shared.items parts.items ≡ gather [] (flat_map (symbols_of table.now.strings.items) symbols.now)) }
+{
+    let mut growing = Growing {
+        parts: Vec::new(alloc),
+        pieces: Pieces {
+            shapes: Vec::new(alloc),
+            run: Vec::new(alloc),
+        },
     };
     for &symbol in symbols {
-        add_symbol(alloc, &mut pieces, symbol)?;
+        grow(alloc, table, &mut growing, symbol)?;
     }
-    end_run(alloc, &mut pieces)?;
-    Ok(pieces.shapes)
+    end_run(alloc, &mut growing.pieces)?;
+    end_part(alloc, &mut growing)?;
+    Ok(growing.parts)
 }
 
 /// The fields in the order of the text.
 pub(crate) fn order(alloc: Global, symbols: &[Symbol]) -> Result<Vec<u32>, NoMemory>
-    ensures { IfOk result (λ order. order.items ≡ shown_values (map symbol_of symbols.now)) }
+    ensures { IfOk result (λ order. (strings : List (Option AnyStrings)) → order.items ≡ shown_values (flat_map (symbols_of strings) symbols.now)) }
 {
     let mut order = Vec::new(alloc);
     for symbol in symbols {

@@ -6,7 +6,8 @@ mod conditions;
 mod form_symbols;
 mod gathering;
 mod places;
+mod strings;
 mod symbols;
 mod writing;
 
-pub use writing::{FormText, first_bad_text, texts};
+pub use writing::{FormTexts, first_bad_text, texts};

@@ -2,7 +2,7 @@
 
 use lisa_tree::Format;
 
-/// A byte of a text, a place where runs part, or the number of a field.
+/// A byte of a text, a place where runs part, the number of a field, or what an operation writes that is kept for it.
 #[derive(Clone, Copy)]
 pub(crate) enum Symbol {
     Byte(u8),
@@ -13,4 +13,6 @@ pub(crate) enum Symbol {
         width: u32,
         field: u32,
     },
+    /// The strings of this operation.
+    Strings(usize),
 }

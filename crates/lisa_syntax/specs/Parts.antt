@@ -5,14 +5,8 @@ use Rattle.lisa_machine.specs.Verdicts.{IsAccepted}
 use Rattle.coding_tables.specs.Instructions.{forms_of}
 use Rattle.form_texts.specs.Instructions.{instruction_shapes, instruction_order}
 use Rattle.lisa_forms.specs.Verdicts.{HasForms}
-use Rattle.lisa_syntax.specs.declared.parts.TextParts.{TextParts}
 use Rattle.lisa_syntax.specs.declared.syntax.Syntax.{Syntax}
 use Rattle.lisa_syntax.specs.Texts.{IsAmbiguityVerdict}
-
--- these are the texts of all instructions in parts
-pub record ArePartsOf (d : DescriptionTree) (parts : TextParts) : Type 0 where
-  pub shapes : map (λ v. v.items) parts.shapes.items ≡ map (instruction_shapes d) (forms_of d)
-  pub orders : map (λ v. v.items) parts.orders.items ≡ map (instruction_order d) (forms_of d)
 
 -- the description is accepted with its forms, no two of which have a text in common; these are the pieces of all texts, and the orders
 -- of their fields

@@ -5,31 +5,22 @@ ghost use Rattle.std.specs.List.{All};
 ghost use Rattle.lisa_tree.specs.declared.faults.DescFault.TheVariants as faults;
 ghost use Rattle.lisa_tree.specs.Descriptions.{description_tree};
 ghost use Rattle.instruction_texts.specs.Shapes.{IsSized};
-ghost use Rattle.text_tables.specs.Shared.{AnswersShared};
+ghost use Rattle.text_tables.specs.Parts.{all_pieces};
 ghost use Rattle.lisa_forms.specs.Parts.{AreFormsOf};
 ghost use Rattle.lisa_forms.specs.Verdicts.{HasForms, form_name_at};
 ghost use Rattle.lisa_syntax.specs.Texts.{IsAmbiguityVerdict};
 ghost use Rattle.lisa_syntax.specs.Orders.{AreOrdersOf};
 ghost use Rattle.lisa_syntax.specs.Parts.{IsSyntaxOf};
 
-use crate::parts::{TextParts, slices, text_parts};
+use crate::parts::text_parts;
 use crate::syntax::Syntax;
-use instruction_texts::Shape;
+use form_texts::FormTexts;
 use lisa_forms::{Forms, form_name};
 use lisa_machine::Machine;
 use lisa_tree::DescFault;
 use lisa_words::{Name, NoMemory};
 use std::alloc::Global;
 use text_tables::{Shared, TextTable, first_shared};
-
-// The first two forms that have a text in common.
-fn first_ambiguity(alloc: Global, texts: &[Vec<Shape>]) -> Result<Option<Shared>, NoMemory>
-    requires { All (All IsSized) (map (λ v. v.items) texts.now) }
-    ensures { IfOk result (AnswersShared (map (λ v. v.items) texts.now)) }
-{
-    let slices = slices(alloc, texts)?;
-    first_shared(alloc, &slices)
-}
 
 // What is told of two forms that share a text.
 fn ambiguity(
@@ -55,17 +46,17 @@ fn ambiguity(
     })
 }
 
-// The syntax of these parts.
-fn kept(alloc: Global, parts: TextParts) -> Result<Syntax, NoMemory>
-    requires sized { All (All IsSized) (map (λ v. v.items) parts.shapes.items) }
-    requires level { length parts.orders.items ≡ length parts.shapes.items }
-    requires few { length parts.shapes.items ≤ 1024 }
-    requires ordered { AreOrdersOf (map (λ v. v.items) parts.shapes.items) (map (λ v. v.items) parts.orders.items) }
-    ensures shapes { IfOk result (λ syntax. syntax.table ≡ map (λ v. v.items) parts.shapes.items) }
-    ensures orders { IfOk result (λ syntax. syntax.orders ≡ parts.orders) }
+// The syntax of these texts.
+fn kept(alloc: Global, texts: FormTexts) -> Result<Syntax, NoMemory>
+    requires sized { All (All IsSized) (all_pieces texts.texts) }
+    requires level { length texts.orders.items ≡ length (all_pieces texts.texts) }
+    requires few { length (all_pieces texts.texts) ≤ 1024 }
+    requires ordered { AreOrdersOf (all_pieces texts.texts) (map (λ v. v.items) texts.orders.items) }
+    ensures shapes { IfOk result (λ syntax. syntax.table ≡ all_pieces texts.texts) }
+    ensures orders { IfOk result (λ syntax. syntax.orders ≡ texts.orders) }
 {
-    let TextParts { shapes, orders } = parts;
-    let table = TextTable::make(alloc, shapes)?;
+    let FormTexts { texts, orders } = texts;
+    let table = TextTable::make(alloc, texts)?;
     Ok(Syntax {
         alloc,
         table,
@@ -89,10 +80,10 @@ impl Syntax {
         ensures fault { IfErr result (λ f. (f ≡ faults.NoMemory) ⊎ IsAmbiguityVerdict (description_tree machine.now) (Some f)) }
     {
         machine.accepted();
-        let parts = text_parts(alloc, machine.description(), forms.forms())?;
-        match first_ambiguity(alloc, &parts.shapes)? {
+        let texts = text_parts(alloc, machine.description(), forms.forms())?;
+        match first_shared(alloc, &texts.texts)? {
             Some(shared) => Err(ambiguity(alloc, machine, forms, shared)?),
-            None => Ok(kept(alloc, parts)?),
+            None => Ok(kept(alloc, texts)?),
         }
     }
 }

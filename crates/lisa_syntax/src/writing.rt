@@ -10,7 +10,6 @@ ghost use Rattle.lisa_syntax.specs.Parts.{IsSyntaxOf};
 ghost use Rattle.lisa_syntax.specs.Trees.{AreFields, instruction_text};
 
 use crate::syntax::Syntax;
-use instruction_texts::text_of;
 use lisa_words::NoMemory;
 use std::alloc::Global;
 
@@ -34,6 +33,6 @@ impl Syntax {
         ensures text { IfOk result (λ bytes. (d : DescriptionTree) (t : Tree ℕ) → IsSyntaxOf d self.now → IsInstruction d form fields.now t → bytes.items ≡ text_bytes (instruction_text d t)) }
     {
         let values = in_text_order(self.alloc, &self.orders[form as usize], fields)?;
-        text_of(self.alloc, self.table.shapes(form as usize), &values)
+        self.table.text_of(self.alloc, form as usize, &values)
     }
 }

@@ -16,9 +16,9 @@ use Rattle.text_tables.specs.declared.misfits.Misfit.{Misfit}
 
 -- ---- one piece more
 
-pub one_more : (one other : List Shape) (i : ℕ) (a b : Shape) → i < length one → i < length other → a ≡ get_or one i a → b ≡ get_or other i b → a ≡ b → take i one ≡ take i other
+pub one_more : {A : Type 0} (one other : List A) (i : ℕ) (a b : A) → i < length one → i < length other → a ≡ get_or one i a → b ≡ get_or other i b → a ≡ b → take i one ≡ take i other
     → take (i + 1) one ≡ take (i + 1) other
-one_more one other i a b inside there is are e front = take_more_same one other i a inside there front (sym is ∙ e ∙ are ∙ ap (λ (d : Shape). get_or other i d) (sym e))
+one_more one other i a b inside there is are e front = take_more_same one other i a inside there front (sym is ∙ e ∙ are ∙ ap (λ (d : _). get_or other i d) (sym e))
 
 -- ---- counting
 

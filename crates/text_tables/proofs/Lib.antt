@@ -4,3 +4,4 @@ pub mod Keeping
 pub mod Tried
 pub mod Opened
 pub mod Aliking
+pub mod Parted

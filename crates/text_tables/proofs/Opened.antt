@@ -209,7 +209,7 @@ share_whole (s ∷ ss) (u ∷ us) h = (λ e. absurd (omega arith), λ e. absurd 
 
 -- ---- the loop over the pieces
 
-rest_is : (i : ℕ) (ss : List Shape) → take (length ss - i) (drop i ss) ≡ drop i ss
+pub rest_is : {A : Type 0} (i : ℕ) (ss : List A) → take (length ss - i) (drop i ss) ≡ drop i ss
 rest_is i ss = take_all (length ss - i) (drop i ss) (omega (arith, length-drop i ss))
 
 -- the pieces from the i-th on, as a slice gives them
@@ -235,3 +235,75 @@ module _ (ss us : List Shape) (i : ℕ) (on : Share ss us → Share (drop i ss) 
       let m = length-drop i ss in
       let n = length-drop i us in
       elim (cases_lt (length ss) (length us)) [ inl l ↦ (let e = w.0 (omega arith) in omega arith) | inr l ↦ (let e = w.1 (omega arith) in omega arith) ]
+
+-- ---- pieces behind which more follows
+
+same_first : (s : Shape) (ss us : List Shape) → first_start (s ∷ ss) ≡ first_start (s ∷ us)
+same_first (Other c) ss us = refl
+same_first (Literal p) ss us = refl
+same_first (Unsigned hex p n) ss us = refl
+same_first (Signed p n) ss us = refl
+
+same_negative : (s : Shape) (ss us : List Shape) → negative_start (s ∷ ss) ≡ negative_start (s ∷ us)
+same_negative (Other c) ss us = refl
+same_negative (Literal p) ss us = refl
+same_negative (Unsigned hex p n) ss us = refl
+same_negative (Signed p n) ss us = refl
+
+-- whether texts begin with one token, by their beginnings
+by_starts : Option Beginning → Option Beginning → Option Beginning → Option Beginning → Bool
+by_starts a b c d = (meet_if_any a c || meet_if_any a d) || (meet_if_any b c || meet_if_any b d)
+
+alike_heads : (s u : Shape) (ss us vs ws : List Shape) → begin_alike (s ∷ ss) (u ∷ us) ≡ begin_alike (s ∷ vs) (u ∷ ws)
+unfolding by_starts
+alike_heads s u ss us vs ws =
+    ap (λ (a : Option Beginning). by_starts a (negative_start (s ∷ ss)) (first_start (u ∷ us)) (negative_start (u ∷ us))) (same_first s ss vs)
+    ∙ ap (λ (b : Option Beginning). by_starts (first_start (s ∷ vs)) b (first_start (u ∷ us)) (negative_start (u ∷ us))) (same_negative s ss vs)
+    ∙ ap (λ (c : Option Beginning). by_starts (first_start (s ∷ vs)) (negative_start (s ∷ vs)) c (negative_start (u ∷ us))) (same_first u us ws)
+    ∙ ap (λ (d : Option Beginning). by_starts (first_start (s ∷ vs)) (negative_start (s ∷ vs)) (first_start (u ∷ ws)) d) (same_negative u us ws)
+
+level_heads : (s u : Shape) (ss us vs ws : List Shape) → stay_level (s ∷ ss) (u ∷ us) ≡ stay_level (s ∷ vs) (u ∷ ws)
+level_heads s u ss us vs ws =
+    ap (λ (a : Option Beginning). are_level a (negative_start (u ∷ us))) (same_negative s ss vs)
+    ∙ ap (λ (b : Option Beginning). are_level (negative_start (s ∷ vs)) b) (same_negative u us ws)
+
+unlike_heads : (ss us vs ws : List Shape) → 0 < length ss → 0 < length us → begin_alike ss us ≡ false → Share (ss ++ vs) (us ++ ws) → ⊥
+unlike_heads [] us vs ws p q e h = absurd (omega arith)
+unlike_heads (s ∷ ss) [] vs ws p q e h = absurd (omega arith)
+unlike_heads (s ∷ ss) (u ∷ us) vs ws p q e h =
+    true≢false (sym (share_alike (s ∷ (ss ++ vs)) (u ∷ (us ++ ws)) (omega arith) (omega arith) h) ∙ alike_heads s u (ss ++ vs) (us ++ ws) ss us ∙ e)
+
+level_behind : (ss us vs ws : List Shape) → 0 < length ss → 0 < length us → stay_level ss us ≡ true → Share (ss ++ vs) (us ++ ws) → Share (drop 1 ss ++ vs) (drop 1 us ++ ws)
+level_behind [] us vs ws p q e h = absurd (omega arith)
+level_behind (s ∷ ss) [] vs ws p q e h = absurd (omega arith)
+level_behind (s ∷ ss) (u ∷ us) vs ws p q e h = share_level (s ∷ (ss ++ vs)) (u ∷ (us ++ ws)) (omega arith) (omega arith) (level_heads s u (ss ++ vs) (us ++ ws) ss us ∙ e) h
+
+module _ (ss us vs ws : List Shape) (i : ℕ) (on : Share (ss ++ vs) (us ++ ws) → Share (drop i ss ++ vs) (drop i us ++ ws)) where
+  pub unlike_before : i < length ss → i < length us → begin_alike (rest i ss) (rest i us) ≡ false → Share (ss ++ vs) (us ++ ws) → ⊥
+  unlike_before p q e h =
+      unlike_heads (drop i ss) (drop i us) vs ws (omega (arith, length-drop i ss)) (omega (arith, length-drop i us)) (rw (rest_is i ss, rest_is i us) at e) (on h)
+
+  pub alike_before : i < length ss → i < length us → stay_level (rest i ss) (rest i us) ≡ true → Share (ss ++ vs) (us ++ ws) → Share (drop (i + 1) ss ++ vs) (drop (i + 1) us ++ ws)
+  alike_before p q e h =
+      subst (λ (xs : List Shape). Share (xs ++ vs) (drop (i + 1) us ++ ws)) (drop-drop 1 i ss)
+      (subst (λ (xs : List Shape). Share (drop 1 (drop i ss) ++ vs) (xs ++ ws)) (drop-drop 1 i us)
+      (level_behind (drop i ss) (drop i us) vs ws (omega (arith, length-drop i ss)) (omega (arith, length-drop i us)) (rw (rest_is i ss, rest_is i us) at e) (on h)))
+
+-- ---- the same pieces before others
+
+same_run : (w : List ℕ) → pointwise nat_eq w w ≡ true
+same_run w = (bytes_eq-Decides w w).1 refl
+
+same_minus_start : (p : List ℕ) → meet (minus_start p) (minus_start p) ≡ true
+same_minus_start [] = refl
+same_minus_start (c ∷ p) = same_run (c ∷ p)
+
+level_with_itself : (s : Shape) (ss us : List Shape) → stay_level (s ∷ ss) (s ∷ us) ≡ true
+level_with_itself (Other c) ss us = refl
+level_with_itself (Literal p) ss us = refl
+level_with_itself (Unsigned hex p n) ss us = refl
+level_with_itself (Signed p n) ss us = same_minus_start p
+
+pub share_past : (same ss us : List Shape) → Share (same ++ ss) (same ++ us) → Share ss us
+share_past [] ss us h = h
+share_past (s ∷ same) ss us h = share_past same ss us (share_level (s ∷ (same ++ ss)) (s ∷ (same ++ us)) (omega arith) (omega arith) (level_with_itself s (same ++ ss) (same ++ us)) h)

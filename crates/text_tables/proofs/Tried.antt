@@ -1,7 +1,7 @@
 -- One form of a table against a line.
 use Rattle.std.proofs.Common.{◌≡◌, ◌↔◌, ℕ, ◌+◌, ◌<◌, ◌≤◌, List, [], ◌∷◌, ◌++◌, length, map, take, get_or, Vec, Global, Option, Some, None, option_map, sym, ap, ◌∙◌, subst, arith}
 use Rattle.std.specs.List.{All}
-use Rattle.std.proofs.lemmas.List.{get_or-map, length-map, take_all, take_more}
+use Rattle.std.proofs.lemmas.List.{take_all, take_more}
 use Rattle.asm_source.specs.Plain.{PlainToken}
 use Rattle.instruction_trees.specs.Trees.{In}
 use Rattle.instruction_texts.specs.declared.shapes.Shape.{Shape}
@@ -10,29 +10,27 @@ use Rattle.instruction_texts.specs.Lines.{Plain, Matches, given}
 use Rattle.instruction_texts.specs.Shapes.{IsSized}
 use Rattle.instruction_texts.specs.Starts.{line_starts}
 use Rattle.text_tables.specs.Beginnings.{begun}
+use Rattle.text_tables.specs.Parts.{all_pieces}
 use Rattle.text_tables.specs.Reading.{IsMatch, IsFound, IsFoundAmong, AreKept}
 use Rattle.text_tables.specs.Shared.{shapes_at}
 use Rattle.text_tables.specs.declared.beginnings.Beginnings.{Beginnings}
 use Rattle.text_tables.specs.declared.table.Found.{Found}
+use Rattle.text_tables.specs.declared.texts.Part.{Part}
+use Rattle.text_tables.specs.declared.texts.Texts.{Texts}
 use Rattle.text_tables.proofs.Keeping.{matches_begin, tried_within}
 use Rattle.text_tables.proofs.OneMore.{all_tried}
-
-abbrev pub pieces : List (Vec Shape Global) → List (List Shape)
-pieces texts = map (λ v. v.items) texts
-
-pub pieces_are : (texts : List (Vec Shape Global)) (k : ℕ) (v : Vec Shape Global) (ss : List Shape) → k < length texts → v ≡ get_or texts k v → ss ≡ v.items → ss ≡ shapes_at (pieces texts) k
-pieces_are texts k v ss inside is e = e ∙ ap (λ (w : Vec Shape Global). w.items) is ∙ sym (get_or-map (λ (w : Vec Shape Global). w.items) texts k v [] inside)
+use Rattle.text_tables.proofs.Parted.{pieces_in, text_is, texts_count}
 
 -- ---- one form
 
-module _ (all : List (List Shape)) (line : List PlainToken) (texts : List (Vec Shape Global)) (view : pieces texts ≡ all) (k : ℕ) (inside : k < length all)
-    (v : Vec Shape Global) (ss : List Shape) (at : v ≡ get_or texts k v) (items : ss ≡ v.items) where
+module _ (all : List (List Shape)) (line : List PlainToken) (t : Texts) (view : all_pieces t ≡ all) (k : ℕ) (inside : k < length all)
+    (v : Vec Part Global) (ss : List Shape) (at : v ≡ get_or t.texts.items k v) (pieces : ss ≡ pieces_in t v) where
   pub shapes_are : ss ≡ shapes_at all k
   shapes_are =
-      let level : length (pieces texts) ≡ length all = ap length view in
-      pieces_are texts k v ss (omega (arith, length-map texts (λ (w : Vec Shape Global). w.items))) at items ∙ ap (λ (us : List (List Shape)). shapes_at us k) view
+      let level : length (all_pieces t) ≡ length all = ap length view in
+      pieces ∙ text_is t k v (omega (arith, texts_count t)) at ∙ ap (λ (us : List (List Shape)). shapes_at us k) view
 
-  pub sized_pieces : All (All IsSized) (pieces texts) → All IsSized ss
+  pub sized_pieces : All (All IsSized) (all_pieces t) → All IsSized ss
   sized_pieces sized = subst (All IsSized) (sym shapes_are) (subst (λ (us : List (List Shape)). All (All IsSized) us) view sized k [] inside)
 
   module _ (found : Option (Vec Operand Global)) (exact : (gs : List Plain) → (option_map (λ operands. map given operands.items) found ≡ Some gs) ↔ Matches ss gs line) where
@@ -55,16 +53,16 @@ module _ (all : List (List Shape)) (line : List PlainToken) (t : Beginnings) (fo
       → IsFoundAmong all line (take i forms) old → IsFoundAmong all line (take (i + 1) forms) new
   goes_on i old new inside step h = subst (λ (ks : List ℕ). IsFoundAmong all line ks new) (sym (take_more forms i 0 inside)) (step (take i forms) h)
 
-  module _ (texts : List (Vec Shape Global)) (view : pieces texts ≡ all) (kept : AreKept (pieces texts) (length texts) t) where
+  module _ (texts : Texts) (view : all_pieces texts ≡ all) (kept : AreKept (all_pieces texts) (length texts.texts.items) t) where
     kept_all : AreKept all (length all) t
     kept_all =
-        let level : length texts ≡ length all = sym (length-map texts (λ (w : Vec Shape Global). w.items)) ∙ ap length view in
-        subst (λ (n : ℕ). AreKept all n t) level (subst (λ (us : List (List Shape)). AreKept us (length texts) t) view kept)
+        let level : length texts.texts.items ≡ length all = sym (texts_count texts) ∙ ap length view in
+        subst (λ (n : ℕ). AreKept all n t) level (subst (λ (us : List (List Shape)). AreKept us (length texts.texts.items) t) view kept)
 
     pub is_form : (i : ℕ) → i < length forms → get_or forms i 0 < length all
     is_form i inside = tried_within all t kept_all (line_starts line) forms i are inside
 
-    pub all_looked_at : (i : ℕ) (found : Found) → All (All IsSized) (pieces texts) → length forms ≤ i → IsFoundAmong all line (take i forms) found → IsFound all line found
+    pub all_looked_at : (i : ℕ) (found : Found) → All (All IsSized) (all_pieces texts) → length forms ≤ i → IsFoundAmong all line (take i forms) found → IsFound all line found
     all_looked_at i found sized le h =
         let whole : IsFoundAmong all line forms found = subst (λ (ks : List ℕ). IsFoundAmong all line ks found) (take_all i forms le) h in
         all_tried all line forms found

@@ -1,4 +1,5 @@
 pub mod Shared
+pub mod Parts
 pub mod Reading
 pub mod Beginnings
 pub mod Openings

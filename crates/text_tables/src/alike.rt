@@ -1,8 +1,10 @@
 //! How far forms have the same pieces.
 
-ghost use Rattle.std.specs.Prelude.{◌≡◌, ◌<◌, IfOk, IsTrue, length, map, take};
+ghost use Rattle.std.specs.Prelude.{◌≡◌, ◌<◌, IfOk, IsTrue, length, take};
 ghost use Rattle.text_tables.specs.Alike.{IsAlikeToBefore, AreAlike};
+ghost use Rattle.text_tables.specs.Parts.{all_pieces, text_pieces};
 
+use crate::texts::{Part, Texts, only_part};
 use instruction_texts::Shape;
 use lisa_words::NoMemory;
 use std::alloc::Global;
@@ -27,23 +29,33 @@ fn alike(one: &[Shape], other: &[Shape]) -> usize
     most
 }
 
-// How many pieces at the front of a form are those of the form before it; 0 for the first one.
-fn alike_to_before(texts: &[Vec<Shape>], form: usize) -> usize
-    requires { form < length texts.now }
-    ensures { IsAlikeToBefore (map (λ v. v.items) texts.now) form result }
+// How many pieces at the front of two texts are the same, where each has one part; else none are counted.
+fn alike_texts(shared: &[Vec<Shape>], one: &[Part], other: &[Part]) -> usize
+    ensures { take result (text_pieces shared.now one.now) ≡ take result (text_pieces shared.now other.now) }
+{
+    match (only_part(shared, one), only_part(shared, other)) {
+        (Some(one), Some(other)) => alike(one, other),
+        _ => 0,
+    }
+}
+
+// How many pieces at the front of a form are those of the form before it; 0 for the first one, and where either has more parts than one.
+fn alike_to_before(texts: &Texts, form: usize) -> usize
+    requires { form < length texts.now.texts.items }
+    ensures { IsAlikeToBefore (all_pieces texts.now) form result }
 {
     if form == 0 {
         return 0;
     }
-    alike(&texts[form - 1], &texts[form])
+    alike_texts(&texts.shared, &texts.texts[form - 1], &texts.texts[form])
 }
 
 /// The same for each form.
-pub(crate) fn alike_counts(alloc: Global, texts: &[Vec<Shape>]) -> Result<Vec<usize>, NoMemory>
-    ensures { IfOk result (λ counts. AreAlike (map (λ v. v.items) texts.now) counts.items) }
+pub(crate) fn alike_counts(alloc: Global, texts: &Texts) -> Result<Vec<usize>, NoMemory>
+    ensures { IfOk result (λ counts. AreAlike (all_pieces texts.now) counts.items) }
 {
     let mut counts = Vec::new(alloc);
-    'forms: for form in 0..texts.len() {
+    'forms: for form in 0..texts.texts.len() {
         counts.push(alike_to_before(texts, form))?;
     }
     Ok(counts)

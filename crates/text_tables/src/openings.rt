@@ -1,11 +1,14 @@
 //! Forms that can't share a text, since their texts begin in different ways.
 
-ghost use Rattle.std.specs.Prelude.{◌≡◌, List, IsTrue, option_map};
+ghost use Rattle.std.specs.Prelude.{◌≡◌, ◌≤◌, ◌++◌, List, IsTrue, length, option_map, take};
+ghost use Rattle.instruction_texts.specs.declared.shapes.Shape.{Shape as AnyShape};
 ghost use Rattle.instruction_texts.specs.declared.shapes.Token.{Token};
 ghost use Rattle.instruction_texts.specs.Shapes.{IsText};
 ghost use Rattle.instruction_texts.specs.Starts.{start_of};
+ghost use Rattle.text_tables.specs.Parts.{text_pieces};
 ghost use Rattle.text_tables.specs.Openings.{meet, meet_if_any, begins_so, begin_alike, stay_level};
 
+use crate::texts::{Part, pieces};
 use instruction_texts::{Shape, Start, first_start, negative_start};
 
 // Whether a token may begin in both ways.
@@ -58,9 +61,9 @@ fn stay_level(first: &[Shape], second: &[Shape]) -> bool
     }
 }
 
-/// Whether the two forms may have a text in common. It compares them piece by piece, as long as a text of both must go on behind the same
-/// token, and takes no memory.
-pub(crate) fn may_share(first: &[Shape], second: &[Shape]) -> bool
+// Whether the two forms may have a text in common. It compares them piece by piece, as long as a text of both must go on behind the same
+// token.
+fn may_share(first: &[Shape], second: &[Shape]) -> bool
     ensures { (ts : List Token) → IsText first.now ts → IsText second.now ts → IsTrue result }
 {
     'pieces: for i in 0..first.len().min(second.len()) {
@@ -72,4 +75,60 @@ pub(crate) fn may_share(first: &[Shape], second: &[Shape]) -> bool
         }
     }
     first.len() == second.len()
+}
+
+// The same of two forms whose texts go on behind these pieces.
+fn may_go_on(first: &[Shape], second: &[Shape]) -> bool
+    ensures { (ss us : List AnyShape) (ts : List Token) → IsText (first.now ++ ss) ts → IsText (second.now ++ us) ts → IsTrue result }
+{
+    'pieces: for i in 0..first.len().min(second.len()) {
+        if !begin_alike(&first[i..], &second[i..]) {
+            return false;
+        }
+        if !stay_level(&first[i..], &second[i..]) {
+            return true;
+        }
+    }
+    true
+}
+
+fn is_same(one: &Part, other: &Part) -> bool
+    ensures { IsTrue result → one.now ≡ other.now }
+{
+    one == other
+}
+
+// How many parts at the front of both are the same, without the last one of either.
+fn same_parts(first: &[Part], second: &[Part]) -> usize
+    ensures same { take result first.now ≡ take result second.now }
+    ensures first { result ≤ length first.now }
+    ensures second { result ≤ length second.now }
+{
+    let most = first.len().min(second.len()).saturating_sub(1);
+    'parts: for i in 0..most {
+        if !is_same(&first[i], &second[i]) {
+            return i;
+        }
+    }
+    most
+}
+
+// Whether forms of these parts may have a text in common, by the first part of each.
+fn may_share_behind(shared: &[Vec<Shape>], first: &[Part], second: &[Part]) -> bool
+    ensures { (ts : List Token) → IsText (text_pieces shared.now first.now) ts → IsText (text_pieces shared.now second.now) ts → IsTrue result }
+{
+    match (first, second) {
+        ([one], [other]) => may_share(pieces(shared, one), pieces(shared, other)),
+        ([one, ..], [other, ..]) => may_go_on(pieces(shared, one), pieces(shared, other)),
+        _ => true,
+    }
+}
+
+/// Whether the two forms may have a text in common. Parts that stand at the front of both are passed over, and the next ones compared piece
+/// by piece. It takes no memory.
+pub(crate) fn may_share_text(shared: &[Vec<Shape>], first: &[Part], second: &[Part]) -> bool
+    ensures { (ts : List Token) → IsText (text_pieces shared.now first.now) ts → IsText (text_pieces shared.now second.now) ts → IsTrue result }
+{
+    let same = same_parts(first, second);
+    may_share_behind(shared, &first[same..], &second[same..])
 }

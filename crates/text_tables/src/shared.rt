@@ -1,13 +1,15 @@
 //! Texts that two forms share.
 
-ghost use Rattle.std.specs.Prelude.{◌≡◌, ◌<◌, List, IfOk, IfSome, IfNone, length, map};
+ghost use Rattle.std.specs.Prelude.{◌≡◌, ◌<◌, List, IfOk, IfSome, IfNone, length};
 ghost use Rattle.std.specs.List.{All};
 ghost use Rattle.instruction_texts.specs.declared.shapes.Token.{Token};
 ghost use Rattle.instruction_texts.specs.Shapes.{IsSized, IsText};
 ghost use Rattle.instruction_texts.specs.Written.{text_bytes};
+ghost use Rattle.text_tables.specs.Parts.{all_pieces, text_pieces};
 ghost use Rattle.text_tables.specs.Shared.{AnswersShared, AnswersWith};
 
-use crate::openings::may_share;
+use crate::openings::may_share_text;
+use crate::texts::{Part, Texts, only_part, whole_text};
 use instruction_texts::{Shape, common_text};
 use lisa_words::NoMemory;
 use std::alloc::Global;
@@ -21,31 +23,53 @@ pub struct Shared {
 }
 
 // A text of both forms, where there is one.
+fn common_of(
+    alloc: Global,
+    shared: &[Vec<Shape>],
+    first: &[Part],
+    second: &[Part],
+) -> Result<Option<Vec<u8>>, NoMemory>
+    requires first { All IsSized (text_pieces shared.now first.now) }
+    requires second { All IsSized (text_pieces shared.now second.now) }
+    ensures found { IfOk result (λ found. IfSome found (λ bytes. (ts : List Token) × IsText (text_pieces shared.now first.now) ts × IsText (text_pieces shared.now second.now) ts × (bytes.items ≡ text_bytes ts))) }
+    ensures none { IfOk result (λ found. IfNone found ((ts : List Token) → IsText (text_pieces shared.now first.now) ts → IsText (text_pieces shared.now second.now) ts → ⊥)) }
+{
+    if let (Some(one), Some(other)) = (only_part(shared, first), only_part(shared, second)) {
+        return common_text(alloc, one, other);
+    }
+    let one = whole_text(alloc, shared, first)?;
+    let other = whole_text(alloc, shared, second)?;
+    common_text(alloc, &one, &other)
+}
+
+// The same, where texts of both may begin alike.
 fn shared_text(
     alloc: Global,
-    first: &[Shape],
-    second: &[Shape],
+    shared: &[Vec<Shape>],
+    first: &[Part],
+    second: &[Part],
 ) -> Result<Option<Vec<u8>>, NoMemory>
-    requires first { All IsSized first.now }
-    requires second { All IsSized second.now }
-    ensures found { IfOk result (λ found. IfSome found (λ bytes. (ts : List Token) × IsText first.now ts × IsText second.now ts × (bytes.items ≡ text_bytes ts))) }
-    ensures none { IfOk result (λ found. IfNone found ((ts : List Token) → IsText first.now ts → IsText second.now ts → ⊥)) }
+    requires first { All IsSized (text_pieces shared.now first.now) }
+    requires second { All IsSized (text_pieces shared.now second.now) }
+    ensures found { IfOk result (λ found. IfSome found (λ bytes. (ts : List Token) × IsText (text_pieces shared.now first.now) ts × IsText (text_pieces shared.now second.now) ts × (bytes.items ≡ text_bytes ts))) }
+    ensures none { IfOk result (λ found. IfNone found ((ts : List Token) → IsText (text_pieces shared.now first.now) ts → IsText (text_pieces shared.now second.now) ts → ⊥)) }
 {
-    if may_share(first, second) {
-        common_text(alloc, first, second)
+    if may_share_text(shared, first, second) {
+        common_of(alloc, shared, first, second)
     } else {
         Ok(None)
     }
 }
 
 // The first later form that shares a text with this one.
-fn shared_with(alloc: Global, texts: &[&[Shape]], first: usize) -> Result<Option<Shared>, NoMemory>
-    requires within { first < length texts.now }
-    requires sized { All (All IsSized) (map (λ t. t.now) texts.now) }
-    ensures { IfOk result (AnswersWith (map (λ t. t.now) texts.now) first) }
+fn shared_with(alloc: Global, texts: &Texts, first: usize) -> Result<Option<Shared>, NoMemory>
+    requires within { first < length texts.now.texts.items }
+    requires sized { All (All IsSized) (all_pieces texts.now) }
+    ensures { IfOk result (AnswersWith (all_pieces texts.now) first) }
 {
-    'later: for second in first + 1..texts.len() {
-        if let Some(text) = shared_text(alloc, texts[first], texts[second])? {
+    'later: for second in first + 1..texts.texts.len() {
+        let (one, other) = (&texts.texts[first], &texts.texts[second]);
+        if let Some(text) = shared_text(alloc, &texts.shared, one, other)? {
             return Ok(Some(Shared {
                 first,
                 second,
@@ -57,11 +81,11 @@ fn shared_with(alloc: Global, texts: &[&[Shape]], first: usize) -> Result<Option
 }
 
 /// The first two different forms that have a text in common: the least first one, and with it the least second one.
-pub fn first_shared(alloc: Global, texts: &[&[Shape]]) -> Result<Option<Shared>, NoMemory>
-    requires { All (All IsSized) (map (λ t. t.now) texts.now) }
-    ensures { IfOk result (AnswersShared (map (λ t. t.now) texts.now)) }
+pub fn first_shared(alloc: Global, texts: &Texts) -> Result<Option<Shared>, NoMemory>
+    requires { All (All IsSized) (all_pieces texts.now) }
+    ensures { IfOk result (AnswersShared (all_pieces texts.now)) }
 {
-    'forms: for first in 0..texts.len() {
+    'forms: for first in 0..texts.texts.len() {
         if let Some(shared) = shared_with(alloc, texts, first)? {
             return Ok(Some(shared));
         }

@@ -1,6 +1,6 @@
-use Rattle.std.proofs.Common.{map}
+use Rattle.text_tables.specs.Parts.{all_pieces}
 use Rattle.text_tables.proofs.Aliking.{one_counted}
 use Rattle.text_tables.proofs.alike.alike_counts.Goals as goal
 
 pub forms-preserved : goal.forms-preserved
-forms-preserved c = one_counted (map (λ v. v.items) c.args.texts.now) c.forms.form c.alike_to_before.result c.forms.counts.items c.push.new.self.items c.in_ok-push.ensures.items c.alike_to_before.ensures c.forms.invariant
+forms-preserved c = one_counted (all_pieces c.args.texts.now) c.forms.form c.alike_to_before.result c.forms.counts.items c.push.new.self.items c.in_ok-push.ensures.items c.alike_to_before.ensures c.forms.invariant
