@@ -4,3 +4,5 @@ pub mod Numbered
 pub mod Pieces
 pub mod Trees
 pub mod Listed
+pub mod Stringed
+pub mod Tabled

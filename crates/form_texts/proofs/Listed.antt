@@ -7,7 +7,8 @@ use Rattle.instruction_forms.specs.declared.form.Form.{Form}
 use Rattle.instruction_forms.specs.Trees.{FormTree, form_tree}
 use Rattle.instruction_forms.specs.Described.{AreForms}
 use Rattle.instruction_texts.specs.Symbols.{Sym, gather, shown_values, is_instruction_text}
-use Rattle.form_texts.specs.declared.writing.FormText.{FormText}
+use Rattle.text_tables.specs.Parts.{all_pieces}
+use Rattle.form_texts.specs.declared.writing.FormTexts.{FormTexts}
 use Rattle.form_texts.specs.Instructions.{AreTexts, first_bad_text}
 use Rattle.form_texts.specs.Written.{written}
 use Rattle.form_texts.proofs.Numbered.{first_bad, of_all, first_bad_is}
@@ -19,9 +20,8 @@ take_whole (x ∷ xs) zero h = absurd (omega arith)
 take_whole {X = X} (x ∷ xs) (suc n) h = ap (λ (l : List X). x ∷ l) (take_whole xs n (omega arith))
 
 module _ (d : DescriptionTree) (forms : List Form) (are : AreForms d forms) where
-  pub texts_are : (all : List FormText) (n : ℕ) → length forms ≤ n
-      → map (λ (t : FormText). t.shapes.items) all ≡ map (λ (f : FormTree). gather [] (written d f)) (map form_tree (take n forms))
-      → map (λ (t : FormText). t.order.items) all ≡ map (λ (f : FormTree). shown_values (written d f)) (map form_tree (take n forms)) → AreTexts d all
+  pub texts_are : (all : FormTexts) (n : ℕ) → length forms ≤ n → all_pieces all.texts ≡ map (λ (f : FormTree). gather [] (written d f)) (map form_tree (take n forms))
+      → map (λ v. v.items) all.orders.items ≡ map (λ (f : FormTree). shown_values (written d f)) (map form_tree (take n forms)) → AreTexts d all
   texts_are all n past shapes orders =
       let whole : map form_tree (take n forms) ≡ map form_tree forms = ap (map form_tree) (take_whole forms n past) in
       record {

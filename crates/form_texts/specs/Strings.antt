@@ -29,6 +29,10 @@ symbols_of all symbols.Gap = Gap ∷ []
 symbols_of all (symbols.Number format width field) = Shown (kind_of format) width field ∷ []
 symbols_of all (symbols.Strings o) = map text_sym (bytes_of (strings_at all o))
 
+abbrev pub strings_number : Symbol → Option ℕ
+strings_number (symbols.Strings o) = Some o
+strings_number _ = None
+
 -- what a child writes
 abbrev pub part_of : List (Option Strings) → Vec Symbol → List (Sym ℕ)
 part_of all part = flat_map (symbols_of all) part.items

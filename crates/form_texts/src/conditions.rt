@@ -9,7 +9,7 @@ ghost use Rattle.form_texts.specs.Strings.{strings_at, symbols_of, clean_behind,
 ghost use Rattle.form_texts.specs.declared.strings.Strings.{Strings as AnyStrings};
 
 use crate::gathering::{is_word, parts};
-use crate::strings::{StringTable, Strings};
+use crate::strings::{StringTable, Strings, kept};
 use crate::symbols::Symbol;
 use instruction_texts::Shape;
 use lisa_words::NoMemory;
@@ -36,9 +36,9 @@ fn behind(strings: &[Option<Strings>], behind_number: bool, symbol: Symbol) -> O
         Symbol::Gap => Some(false),
         Symbol::Byte(byte) => may_stand(behind_number, !is_word(byte), false),
         Symbol::Number { .. } => may_stand(behind_number, false, true),
-        Symbol::Strings(operation) => match strings.get(operation) {
-            Some(Some(strings)) => may_stand(behind_number, strings.head == 0, false),
-            _ => Some(behind_number),
+        Symbol::Strings(operation) => match kept(strings, operation) {
+            Some(strings) => may_stand(behind_number, strings.head == 0, false),
+            None => Some(behind_number),
         },
     }
 }

@@ -11,7 +11,7 @@ ghost use Rattle.form_texts.specs.Written.{numbered_fields, inner_of, written_fr
 
 use crate::assembling::{Source, assemble, number_behind};
 use crate::places::{coding_items, syntax_items};
-use crate::strings::Strings;
+use crate::strings::{Strings, kept};
 use crate::symbols::Symbol;
 use instruction_forms::Form;
 use lisa_tree::Names;
@@ -36,7 +36,7 @@ fn operation_symbols<N: Names>(
     requires items { source.now.items.now ≡ items_at (N.tree names.now) operation }
     ensures { IfOk result (λ symbols. flat_map (symbols_of source.now.strings.now) symbols.items ≡ assemble (numbered_fields source.now.first source.now.fields.now) (map (part_of source.now.strings.now) source.now.parts.now) (elements_at (N.tree names.now) operation)) }
 {
-    if let Some(Some(_)) = source.strings.get(operation) {
+    if kept(source.strings, operation).is_some() {
         let mut symbols = Vec::new(alloc);
         symbols.push(Symbol::Strings(operation))?;
         return Ok(symbols);

@@ -13,8 +13,8 @@ ghost use Rattle.form_texts.specs.Strings.{symbols_of, AreOpened};
 ghost use Rattle.form_texts.specs.declared.strings.Strings.{Strings as AnyStrings};
 ghost use Rattle.form_texts.specs.Pieces.{ended, number_shape, pieces_at, run_at};
 
-use crate::strings::{StringTable, Strings};
-use crate::symbols::Symbol;
+use crate::strings::{StringTable, Strings, kept};
+use crate::symbols::{Symbol, strings_number};
 use instruction_texts::Shape;
 use lisa_tree::Format;
 use lisa_words::{Name, NoMemory};
@@ -157,12 +157,12 @@ fn grow(
     requires opened { AreOpened table.now }
     ensures { OnOk result ((rest : List (Sym ℕ)) → text_pieces table.now.shared.items growing.new.parts.items ++ (growing.new.pieces.shapes.items ++ gather growing.new.pieces.run.items rest) ≡ text_pieces table.now.shared.items growing.old.parts.items ++ (growing.old.pieces.shapes.items ++ gather growing.old.pieces.run.items (symbols_of table.now.strings.items symbol ++ rest))) }
 {
-    match symbol {
-        Symbol::Strings(operation) => match table.strings.get(operation) {
-            Some(Some(strings)) => add_strings(alloc, growing, strings, operation),
-            _ => Ok(()),
-        },
-        _ => add_symbol(alloc, &mut growing.pieces, symbol),
+    let Some(operation) = strings_number(symbol) else {
+        return add_symbol(alloc, &mut growing.pieces, symbol);
+    };
+    match kept(&table.strings, operation) {
+        Some(strings) => add_strings(alloc, growing, strings, operation),
+        None => Ok(()),
     }
 }
 

@@ -1,12 +1,12 @@
 //! What operations write whose syntax is strings alone. It is the same in all forms, and kept once where it is long.
 
-ghost use Rattle.std.specs.Prelude.{◌≡◌, ◌≤◌, ◌<◌, ◌++◌, ◌∷◌, ℕ, List, [], Option, IfOk, IfSome, IsTrue, OnOk, false, length, map, slice_index_or, take, true};
+ghost use Rattle.std.specs.Prelude.{◌≡◌, ◌≤◌, ◌<◌, ◌++◌, ◌∷◌, ℕ, List, [], Option, option_map, IfOk, IfSome, IsTrue, OnOk, false, length, map, slice_index_or, take, true};
 ghost use Rattle.std.specs.List.{list_all};
 ghost use Rattle.asm_source.specs.Bytes.{is_word};
 ghost use Rattle.lisa_tree.specs.declared.descriptions.CodingItem.{CodingItem};
 ghost use Rattle.instruction_texts.specs.Symbols.{Sym, text_sym, gap, written_by, assemble, others, gather};
 ghost use Rattle.form_texts.specs.Syntaxes.{content, element};
-ghost use Rattle.form_texts.specs.Strings.{strings_in, pieces_in, symbols_of, IsOpened, AreOpened, AreKept};
+ghost use Rattle.form_texts.specs.Strings.{strings_at, strings_in, pieces_in, symbols_of, IsOpened, AreOpened, AreKept};
 ghost use Rattle.form_texts.specs.declared.strings.Strings.{Strings as AnyStrings};
 
 use crate::gathering::{Pieces, add_symbol, is_word};
@@ -35,7 +35,19 @@ pub(crate) struct StringTable {
     pub shared: Vec<Vec<Shape>>,
 }
 
-// A blank in a string only separates.
+/// What is kept for an operation, if anything is.
+#[tactic(auto, using(crate::proofs::Tabled::kept_at, crate::proofs::Tabled::kept_past))]
+pub(crate) fn kept(strings: &[Option<Strings>], operation: usize) -> Option<&Strings>
+    ensures { option_map (λ s. s.now) result ≡ strings_at strings.now operation }
+{
+    if operation < strings.len() {
+        strings[operation].as_ref()
+    } else {
+        None
+    }
+}
+
+/// A blank in a string only separates.
 pub(crate) fn text_symbol(byte: u8) -> Symbol
     ensures { (strings : List (Option AnyStrings)) → symbols_of strings result ≡ text_sym byte ∷ [] }
 {

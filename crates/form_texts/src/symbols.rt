@@ -1,5 +1,8 @@
 //! What a form writes, symbol by symbol.
 
+ghost use Rattle.std.specs.Prelude.{◌≡◌};
+ghost use Rattle.form_texts.specs.Strings.{strings_number};
+
 use lisa_tree::Format;
 
 /// A byte of a text, a place where runs part, the number of a field, or what an operation writes that is kept for it.
@@ -15,4 +18,14 @@ pub(crate) enum Symbol {
     },
     /// The strings of this operation.
     Strings(usize),
+}
+
+/// The operation whose strings they are, where they are kept.
+pub(crate) fn strings_number(symbol: Symbol) -> Option<usize>
+    ensures { result ≡ strings_number symbol }
+{
+    match symbol {
+        Symbol::Strings(operation) => Some(operation),
+        _ => None,
+    }
 }

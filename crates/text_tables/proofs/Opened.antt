@@ -291,12 +291,9 @@ module _ (ss us vs ws : List Shape) (i : ℕ) (on : Share (ss ++ vs) (us ++ ws) 
 
 -- ---- the same pieces before others
 
-same_run : (w : List ℕ) → pointwise nat_eq w w ≡ true
-same_run w = (bytes_eq-Decides w w).1 refl
-
 same_minus_start : (p : List ℕ) → meet (minus_start p) (minus_start p) ≡ true
 same_minus_start [] = refl
-same_minus_start (c ∷ p) = same_run (c ∷ p)
+same_minus_start (c ∷ p) = (bytes_eq-Decides (c ∷ p) (c ∷ p)).1 refl
 
 level_with_itself : (s : Shape) (ss us : List Shape) → stay_level (s ∷ ss) (s ∷ us) ≡ true
 level_with_itself (Other c) ss us = refl

@@ -16,8 +16,8 @@ fn is_same(one: &Shape, other: &Shape) -> bool
     one == other
 }
 
-// How many pieces at the front of both are the same.
-fn alike(one: &[Shape], other: &[Shape]) -> usize
+/// How many pieces at the front of both are the same.
+pub(crate) fn alike(one: &[Shape], other: &[Shape]) -> usize
     ensures { take result one.now ≡ take result other.now }
 {
     let most = one.len().min(other.len());

@@ -1,13 +1,15 @@
 //! Forms that can't share a text, since their texts begin in different ways.
 
 ghost use Rattle.std.specs.Prelude.{◌≡◌, ◌≤◌, ◌++◌, List, IsTrue, length, option_map, take};
+ghost use Rattle.std.specs.Global.{Vec};
 ghost use Rattle.instruction_texts.specs.declared.shapes.Shape.{Shape as AnyShape};
 ghost use Rattle.instruction_texts.specs.declared.shapes.Token.{Token};
 ghost use Rattle.instruction_texts.specs.Shapes.{IsText};
 ghost use Rattle.instruction_texts.specs.Starts.{start_of};
-ghost use Rattle.text_tables.specs.Parts.{text_pieces};
+ghost use Rattle.text_tables.specs.Parts.{part_pieces, text_pieces};
 ghost use Rattle.text_tables.specs.Openings.{meet, meet_if_any, begins_so, begin_alike, stay_level};
 
+use crate::alike::alike;
 use crate::texts::{Part, pieces};
 use instruction_texts::{Shape, Start, first_start, negative_start};
 
@@ -92,15 +94,28 @@ fn may_go_on(first: &[Shape], second: &[Shape]) -> bool
     true
 }
 
-fn is_same(one: &Part, other: &Part) -> bool
+// Whether two lists have the same pieces.
+#[tactic(auto, using(crate::proofs::Parted::whole_alike))]
+fn are_same(one: &[Shape], other: &[Shape]) -> bool
     ensures { IsTrue result → one.now ≡ other.now }
 {
-    one == other
+    one.len() == other.len() && alike(one, other) == one.len()
 }
 
-// How many parts at the front of both are the same, without the last one of either.
+// Whether two parts have the same pieces.
+fn is_same(one: &Part, other: &Part) -> bool
+    ensures { IsTrue result → (shared : List (Vec AnyShape)) → part_pieces shared one.now ≡ part_pieces shared other.now }
+{
+    match (one, other) {
+        (Part::Own(one), Part::Own(other)) => are_same(one, other),
+        (Part::Shared(one), Part::Shared(other)) => one == other,
+        _ => false,
+    }
+}
+
+// How many parts at the front of both have the same pieces, without the last one of either.
 fn same_parts(first: &[Part], second: &[Part]) -> usize
-    ensures same { take result first.now ≡ take result second.now }
+    ensures same { (shared : List (Vec AnyShape)) → text_pieces shared (take result first.now) ≡ text_pieces shared (take result second.now) }
     ensures first { result ≤ length first.now }
     ensures second { result ≤ length second.now }
 {

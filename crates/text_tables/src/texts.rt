@@ -10,7 +10,7 @@ use lisa_words::NoMemory;
 use std::alloc::Global;
 
 /// A part of a text.
-#[derive(PartialEq, Eq, Drop)]
+#[derive(Drop)]
 pub enum Part {
     /// Pieces of this text alone.
     Own(Vec<Shape>),

@@ -2,10 +2,10 @@ use Rattle.std.proofs.Common.{IfOk, sym, subst}
 use Rattle.lisa_tree.specs.Descriptions.{DescriptionTree}
 use Rattle.instruction_forms.specs.Described.{AreForms}
 use Rattle.form_texts.specs.Instructions.{AreTexts}
-use Rattle.lisa_syntax.proofs.parts.all_texts.Goals as goal
+use Rattle.lisa_syntax.proofs.parts.text_parts.Goals as goal
 
 pub texts-requires : goal.texts-requires
 texts-requires c = record { forms = subst (λ (d : DescriptionTree). AreForms d c.args.forms.now) (sym c.in_ok-tables.ensures) c.requires }
 
 pub returns : goal.returns
-returns c = subst (λ (d : DescriptionTree). IfOk c.texts.result (λ all. AreTexts d all.items)) c.in_ok-tables.ensures c.texts.ensures
+returns c = subst (λ (d : DescriptionTree). IfOk c.texts.result (AreTexts d)) c.in_ok-tables.ensures c.texts.ensures

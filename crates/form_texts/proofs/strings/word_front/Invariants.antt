@@ -1,0 +1,7 @@
+use Rattle.std.proofs.Common.{◌≡◌, true, take}
+use Rattle.std.specs.List.{list_all}
+use Rattle.asm_source.specs.Bytes.{is_word}
+use Rattle.form_texts.proofs.strings.word_front.Given as goal
+
+abbrev pub invariant-loop-place : goal.invariant-loop-place
+invariant-loop-place l = list_all is_word (take l.place l.text) ≡ true
