@@ -1,5 +1,5 @@
 -- The pieces of a text, symbol by symbol.
-use Rattle.std.specs.Prelude.{ℕ, Bool, if◌then◌else◌, List, [], ◌∷◌, ◌++◌, Option, None, Some}
+use Rattle.std.specs.Prelude.{ℕ, Bool, true, false, if◌then◌else◌, List, [], ◌∷◌, ◌++◌, Option, None, Some}
 use Rattle.lisa_tree.specs.declared.descriptions.Format.{Format}
 use Rattle.lisa_tree.specs.declared.descriptions.Format.TheVariants as formats
 use Rattle.asm_source.specs.Bytes.{is_word}

@@ -132,7 +132,7 @@ struct Opened {
 }
 
 // The strings of a syntax, where it has nothing else, and they are long and more than one run.
-fn opened(alloc: Global, shown: &[SyntaxItem]) -> Result<Option<Opened>, NoMemory>
+fn strings_of(alloc: Global, shown: &[SyntaxItem]) -> Result<Option<Opened>, NoMemory>
     ensures { IfOk result (λ found. IfSome found (λ o. IsOpened o.strings o.pieces.items × (o.strings.head < length o.strings.text.items) × ((items : List CodingItem) (fields : List (ℕ × ℕ)) (parts : List (List (Sym ℕ))) → assemble fields parts (map (element items) shown.now) ≡ map text_sym o.strings.text.items))) }
 {
     let Some(text) = strings_text(alloc, shown)? else {
@@ -180,7 +180,7 @@ pub(crate) fn string_table<N: Names>(alloc: Global, names: &N) -> Result<StringT
         add_opened(
             alloc,
             &mut table,
-            opened(alloc, syntax_items(names, operation))?,
+            strings_of(alloc, syntax_items(names, operation))?,
         )?;
     }
     Ok(table)

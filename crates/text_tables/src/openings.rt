@@ -132,11 +132,15 @@ fn same_parts(first: &[Part], second: &[Part]) -> usize
 fn may_share_behind(shared: &[Vec<Shape>], first: &[Part], second: &[Part]) -> bool
     ensures { (ts : List Token) → IsText (text_pieces shared.now first.now) ts → IsText (text_pieces shared.now second.now) ts → IsTrue result }
 {
-    match (first, second) {
-        ([one], [other]) => may_share(pieces(shared, one), pieces(shared, other)),
-        ([one, ..], [other, ..]) => may_go_on(pieces(shared, one), pieces(shared, other)),
-        _ => true,
+    if first.len() == 0 || second.len() == 0 {
+        return true;
     }
+    let one = pieces(shared, &first[0]);
+    let other = pieces(shared, &second[0]);
+    if first.len() > 1 || second.len() > 1 {
+        return may_go_on(one, other);
+    }
+    may_share(one, other)
 }
 
 /// Whether the two forms may have a text in common. Parts that stand at the front of both are passed over, and the next ones compared piece

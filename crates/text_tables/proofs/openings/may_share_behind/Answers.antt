@@ -1,15 +1,19 @@
-use Rattle.std.proofs.Common.{drop, arith}
+use Rattle.std.proofs.Common.{◌≡◌, ◌<◌, drop, length, arith}
 use Rattle.text_tables.specs.Parts.{text_pieces}
 use Rattle.text_tables.proofs.Parted.{one_part, more_parts}
 use Rattle.text_tables.proofs.openings.may_share_behind.Goals as goal
 
-pub returns-in-len1-len1 : goal.returns-in-len1-len1
-returns-in-len1-len1 c = λ ts t u.
-    c.may_share.ensures ts (one_part c.args.shared.now c.args.first.now c.one-item.result c.pieces.result.now ts (omega arith) c.one-item.is c.pieces.ensures t)
-    (one_part c.args.shared.now c.args.second.now c.other-item.result c.pieces-in-len1-len1.result.now ts (omega arith) c.other-item.is c.pieces-in-len1-len1.ensures u)
-
-pub returns-in-len1-up-len1-up : goal.returns-in-len1-up-len1-up
-returns-in-len1-up-len1-up c = λ ts t u.
+pub returns-then-first-gt1 : goal.returns-then-first-gt1
+returns-then-first-gt1 c = λ ts t u.
+    let p : 0 < length c.args.first.now = omega arith in
+    let q : 0 < length c.args.second.now = omega arith in
     c.may_go_on.ensures (text_pieces c.args.shared.now (drop 1 c.args.first.now)) (text_pieces c.args.shared.now (drop 1 c.args.second.now)) ts
-    (more_parts c.args.shared.now c.args.first.now c.one-item-2.result c.pieces-in-len1-up-len1-up.result.now ts (omega arith) c.one-item-2.is c.pieces-in-len1-up-len1-up.ensures t)
-    (more_parts c.args.shared.now c.args.second.now c.other-item-2.result c.pieces-in-len1-up-len1-up-2.result.now ts (omega arith) c.other-item-2.is c.pieces-in-len1-up-len1-up-2.ensures u)
+    (more_parts c.args.shared.now c.args.first.now c.index-first-0.result c.pieces-one.result.now ts p c.index-first-0.is c.pieces-one.ensures t)
+    (more_parts c.args.shared.now c.args.second.now c.index-second-0.result c.pieces-other.result.now ts q c.index-second-0.is c.pieces-other.ensures u)
+
+pub returns : goal.returns
+returns c = λ ts t u.
+    let p : length c.args.first.now ≡ 1 = omega arith in
+    let q : length c.args.second.now ≡ 1 = omega arith in
+    c.may_share.ensures ts (one_part c.args.shared.now c.args.first.now c.index-first-0.result c.pieces-one.result.now ts p c.index-first-0.is c.pieces-one.ensures t)
+    (one_part c.args.shared.now c.args.second.now c.index-second-0.result c.pieces-other.result.now ts q c.index-second-0.is c.pieces-other.ensures u)
