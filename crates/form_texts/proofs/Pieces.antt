@@ -13,7 +13,7 @@ use Rattle.form_texts.specs.Strings.{strings_at, bytes_of, symbols_of, strings_n
 use Rattle.form_texts.specs.declared.strings.Strings.{Strings}
 use Rattle.form_texts.specs.Pieces.{ended, pieces_at, run_at}
 
-flushed : (p : List ℕ) (ss : List Shape) → flush_shape p ss ≡ ended p ++ ss
+pub flushed : (p : List ℕ) (ss : List Shape) → flush_shape p ss ≡ ended p ++ ss
 flushed [] ss = refl
 flushed (c ∷ p) ss = refl
 
@@ -41,14 +41,6 @@ gathered strings p (symbols.Number formats.Hexadecimal width field) rest e = ref
 gathered strings p (symbols.Number formats.SignedDecimal width field) rest e = refl
 gathered strings p (symbols.Strings o) rest e = absurd (cc e)
 
--- one symbol more behind pieces
-pub plain_grown : (strings : List (Option Strings)) (s : Symbol) (parts before after : List Shape) (p q : List ℕ) → strings_number s ≡ None → q ≡ run_at p s → after ≡ before ++ pieces_at p s → (rest : List (Sym ℕ))
-    → parts ++ (after ++ gather q rest) ≡ parts ++ (before ++ gather p (symbols_of strings s ++ rest))
-plain_grown strings s parts before after p q none run shapes rest =
-    ap₂ (λ (x : List Shape) (r : List ℕ). parts ++ (x ++ gather r rest)) shapes run
-    ∙ ap (λ (x : List Shape). parts ++ x) (append_assoc before (pieces_at p s) (gather (run_at p s) rest))
-    ∙ ap (λ (x : List Shape). parts ++ (before ++ x)) (sym (gathered strings p s rest none))
-
 -- strings that are kept, behind pieces
 pub strings_grown : (strings : List (Option Strings)) (o : ℕ) (k : Strings) (pieces : List Shape) → strings_at strings o ≡ Some k → IsOpened k pieces → (parts more before : List Shape) (p : List ℕ)
     → more ≡ parts ++ (before ++ (ended (p ++ take k.head k.text.items) ++ pieces)) → (after : List Shape) (q : List ℕ) → after ≡ [] → q ≡ k.run.items → (s : Symbol) → strings_number s ≡ Some o → (rest : List (Sym ℕ))
@@ -65,19 +57,12 @@ strings_grown strings o k pieces at opened parts more before p are after q none 
     ∙ ap (λ (r : Option Strings). parts ++ (before ++ gather p (map text_sym (bytes_of r) ++ rest))) (sym at)
     ∙ ap (λ (l : List (Sym ℕ)). parts ++ (before ++ gather p (l ++ rest))) (sym (its_strings strings s o is))
 
--- where nothing is kept
-pub none_grown : (strings : List (Option Strings)) (o : ℕ) → strings_at strings o ≡ None → (s : Symbol) → strings_number s ≡ Some o → (parts before : List Shape) (p : List ℕ) (rest : List (Sym ℕ))
-    → parts ++ (before ++ gather p rest) ≡ parts ++ (before ++ gather p (symbols_of strings s ++ rest))
-none_grown strings o at s is parts before p rest =
-    ap (λ (r : Option Strings). parts ++ (before ++ gather p (map text_sym (bytes_of r) ++ rest))) (sym at)
-    ∙ ap (λ (l : List (Sym ℕ)). parts ++ (before ++ gather p (l ++ rest))) (sym (its_strings strings s o is))
-
 -- ---- all symbols
 
-pub one_symbol : (strings : List (Option Strings)) (all : List Symbol) (i : ℕ) (s : Symbol) → i < length all → s ≡ get_or all i s
+pub one_symbol : (strings : List (Option Strings)) (all : List Symbol) (i : ℕ) (s d : Symbol) → i < length all → s ≡ get_or all i d
     → flat_map (symbols_of strings) (drop i all) ≡ symbols_of strings s ++ flat_map (symbols_of strings) (drop (i + 1) all)
-one_symbol strings all i s h is =
-    ap (flat_map (symbols_of strings)) (drop-cons all i s h ∙ ap (λ (n : ℕ). get_or all i s ∷ drop n all) (sym (add-one i)))
+one_symbol strings all i s d h is =
+    ap (flat_map (symbols_of strings)) (drop-cons all i d h ∙ ap (λ (n : ℕ). get_or all i d ∷ drop n all) (sym (add-one i)))
     ∙ ap (λ (x : Symbol). symbols_of strings x ++ flat_map (symbols_of strings) (drop (i + 1) all)) (sym is)
 
 -- the run is ended, and what is left is a part

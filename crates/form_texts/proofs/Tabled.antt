@@ -65,6 +65,16 @@ found_one d o shown is f opened front writes = record {
   front = front;
 }
 
+-- what may be found of strings
+abbrev pub Finds : List SyntaxItem → Opened → Type 0
+Finds shown f =
+    IsOpened f.strings f.pieces.items × (f.strings.head < length f.strings.text.items)
+    × ((items : List CodingItem) (fields : List (ℕ × ℕ)) (parts : List (List (Sym ℕ))) → assemble fields parts (map (element items) shown) ≡ map text_sym f.strings.text.items)
+
+pub found_some : (d : DescriptionTree) (o : ℕ) (shown : List SyntaxItem) → shown ≡ shown_items (syntax_in (sections_at d o)) → (found : Option Opened) → IfSome found (Finds shown) → IfSome found (λ f. IsOne d o f.strings f.pieces.items)
+found_some d o shown is None h = tt
+found_some d o shown is (Some f) h = found_one d o shown is f h.0 h.1 h.2
+
 pub more_made : (d : DescriptionTree) (n : ℕ) (old new : StringTable) (found : Option Opened) → new.strings.items ≡ old.strings.items ++ strings_in found ∷ [] → lists_of new ≡ lists_of old ++ pieces_in found ∷ []
     → IfSome found (λ f. IsOne d n f.strings f.pieces.items) → Made d n old → Made d (n + 1) new
 more_made d n old new found strings shared one made = record {

@@ -55,11 +55,11 @@ module _ (children : List Form) (i : ℕ) (child : Form) (h : i < length childre
   counted_on total so_far = let c = next in let s = ap inner_count split in omega (arith, c, s, so_far)
 
   pub written_on : (strings : List (Option Strings)) (d : DescriptionTree) (parts more : List (Vec Symbol)) (part : Vec Symbol) (total : List (List (Sym ℕ))) → part_of strings part ≡ written_from d first behind f → more ≡ parts ++ part ∷ []
-      → map (part_of strings) strings parts ++ written_parts d first (in_turn (map form_tree (drop i children))) ≡ total → map (part_of strings) more ++ written_parts d end rest ≡ total
+      → map (part_of strings) parts ++ written_parts d first (in_turn (map form_tree (drop i children))) ≡ total → map (part_of strings) more ++ written_parts d end rest ≡ total
   written_on strings d parts more part total made are so_far =
-      let before : List (List (Sym ℕ)) = map (part_of strings) strings parts in
+      let before : List (List (Sym ℕ)) = map (part_of strings) parts in
       ap (λ (x : List (Vec Symbol)). map (part_of strings) x ++ written_parts d end rest) are
-      ∙ ap (λ (x : List (List (Sym ℕ))). x ++ written_parts d end rest) (map-append part_of strings parts (part ∷ []))
+      ∙ ap (λ (x : List (List (Sym ℕ))). x ++ written_parts d end rest) (map-append (part_of strings) parts (part ∷ []))
       ∙ append_assoc before (part_of strings part ∷ []) (written_parts d end rest)
       ∙ ap₂ (λ (x : List (Sym ℕ)) (k : ℕ). before ++ (x ∷ written_parts d k rest)) (made ∙ ap (λ (k : ℕ). written_from d first k f) e) next
       ∙ ap (λ (x : FormTrees). before ++ written_parts d first x) (sym split)

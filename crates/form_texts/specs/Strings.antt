@@ -29,9 +29,14 @@ symbols_of all symbols.Gap = Gap ∷ []
 symbols_of all (symbols.Number format width field) = Shown (kind_of format) width field ∷ []
 symbols_of all (symbols.Strings o) = map text_sym (bytes_of (strings_at all o))
 
+-- the operation whose strings a symbol is, and the field whose number it is
 abbrev pub strings_number : Symbol → Option ℕ
 strings_number (symbols.Strings o) = Some o
 strings_number _ = None
+
+abbrev pub field_number : Symbol → Option ℕ
+field_number (symbols.Number format width field) = Some field
+field_number _ = None
 
 -- what a child writes
 abbrev pub part_of : List (Option Strings) → Vec Symbol → List (Sym ℕ)

@@ -95,7 +95,7 @@ fn has_pieces(shared: &[Vec<Shape>], parts: &[Part]) -> bool
     ensures { result ≡ has_pieces (text_pieces shared.now parts.now) }
 {
     for part in parts {
-        if !pieces(shared, part).is_empty() {
+        if pieces(shared, part).len() > 0 {
             return true;
         }
     }

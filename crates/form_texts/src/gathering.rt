@@ -3,18 +3,19 @@
 ghost use Rattle.std.specs.Prelude.{◌≡◌, ◌<◌, ◌++◌, ◌∷◌, ℕ, List, [], Option, length, map, take, if◌then◌else◌, IfOk, OnOk};
 ghost use Rattle.std.specs.Global.{Vec};
 ghost use Rattle.std.specs.List.{flat_map};
+ghost use Rattle.std.specs.Option.{option_to_list};
 ghost use Rattle.asm_source.specs.Bytes.{is_word};
 ghost use Rattle.instruction_texts.specs.declared.shapes.Shape.TheVariants.{Other};
 ghost use Rattle.instruction_texts.specs.declared.shapes.Shape.{Shape as AnyShape};
 ghost use Rattle.instruction_texts.specs.Symbols.{Sym, gather, shown_values};
 ghost use Rattle.text_tables.specs.Parts.{text_pieces};
 ghost use Rattle.text_tables.specs.Shared.{shapes_at};
-ghost use Rattle.form_texts.specs.Strings.{symbols_of, AreOpened};
+ghost use Rattle.form_texts.specs.Strings.{symbols_of, field_number, AreOpened};
 ghost use Rattle.form_texts.specs.declared.strings.Strings.{Strings as AnyStrings};
 ghost use Rattle.form_texts.specs.Pieces.{ended, number_shape, pieces_at, run_at};
 
 use crate::strings::{StringTable, Strings, kept};
-use crate::symbols::{Symbol, strings_number};
+use crate::symbols::{Symbol, field_number, strings_number};
 use instruction_texts::Shape;
 use lisa_tree::Format;
 use lisa_words::{Name, NoMemory};
@@ -190,15 +191,23 @@ pub(crate) fn parts(
     Ok(growing.parts)
 }
 
+// Adds the field whose number a symbol is, where it is one.
+fn add_field(order: &mut Vec<u32>, symbol: Symbol) -> Result<(), NoMemory>
+    ensures { OnOk result (order.new.items ≡ order.old.items ++ option_to_list (field_number symbol)) }
+{
+    if let Some(field) = field_number(symbol) {
+        order.push(field)?;
+    }
+    Ok(())
+}
+
 /// The fields in the order of the text.
 pub(crate) fn order(alloc: Global, symbols: &[Symbol]) -> Result<Vec<u32>, NoMemory>
     ensures { IfOk result (λ order. (strings : List (Option AnyStrings)) → order.items ≡ shown_values (flat_map (symbols_of strings) symbols.now)) }
 {
     let mut order = Vec::new(alloc);
-    for symbol in symbols {
-        if let Symbol::Number { field, .. } = symbol {
-            order.push(*field)?;
-        }
+    for &symbol in symbols {
+        add_field(&mut order, symbol)?;
     }
     Ok(order)
 }

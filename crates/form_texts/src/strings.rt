@@ -83,17 +83,29 @@ fn add_strings(text: &mut Vec<u8>, all_items: &[SyntaxItem]) -> Result<bool, NoM
     Ok(true)
 }
 
+// Adds what a syntax writes. Answers whether it has nothing but strings.
+fn add_syntax(text: &mut Vec<u8>, shown: &[SyntaxItem]) -> Result<bool, NoMemory>
+    ensures { IfOk result (λ all. IsTrue all → (items : List CodingItem) (fields : List (ℕ × ℕ)) (parts : List (List (Sym ℕ))) → map text_sym text.new.items ≡ map text_sym text.old.items ++ assemble fields parts (map (element items) shown.now)) }
+{
+    if let [first, rest @ ..] = shown {
+        if !add_string(text, first, true)? {
+            return Ok(false);
+        }
+        return add_strings(text, rest);
+    }
+    Ok(true)
+}
+
 // The bytes of a syntax of strings alone, with a blank for each gap.
 fn strings_text(alloc: Global, shown: &[SyntaxItem]) -> Result<Option<Vec<u8>>, NoMemory>
     ensures { IfOk result (λ found. IfSome found (λ text. (items : List CodingItem) (fields : List (ℕ × ℕ)) (parts : List (List (Sym ℕ))) → assemble fields parts (map (element items) shown.now) ≡ map text_sym text.items)) }
 {
     let mut text = Vec::new(alloc);
-    if let [first, rest @ ..] = shown {
-        if !add_string(&mut text, first, true)? || !add_strings(&mut text, rest)? {
-            return Ok(None);
-        }
+    if add_syntax(&mut text, shown)? {
+        Ok(Some(text))
+    } else {
+        Ok(None)
     }
-    Ok(Some(text))
 }
 
 // How many word characters stand at the front.

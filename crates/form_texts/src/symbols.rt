@@ -1,7 +1,7 @@
 //! What a form writes, symbol by symbol.
 
 ghost use Rattle.std.specs.Prelude.{◌≡◌};
-ghost use Rattle.form_texts.specs.Strings.{strings_number};
+ghost use Rattle.form_texts.specs.Strings.{field_number, strings_number};
 
 use lisa_tree::Format;
 
@@ -26,6 +26,16 @@ pub(crate) fn strings_number(symbol: Symbol) -> Option<usize>
 {
     match symbol {
         Symbol::Strings(operation) => Some(operation),
+        _ => None,
+    }
+}
+
+/// The field whose number it is, where it is one.
+pub(crate) fn field_number(symbol: Symbol) -> Option<u32>
+    ensures { result ≡ field_number symbol }
+{
+    match symbol {
+        Symbol::Number { field, .. } => Some(field),
         _ => None,
     }
 }
