@@ -1,5 +1,5 @@
 -- One more symbol of a text, and strings that are kept.
-use Rattle.std.proofs.Common.{◌≡◌, ◌<◌, ◌+◌, ◌++◌, ℕ, List, [], ◌∷◌, Bool, true, false, not, ◌&&◌, ◌||◌, if◌then◌else◌, length, get_or, drop, drop-cons, map, refl, sym, ap, ap₂, ◌∙◌, add-one, append_assoc, append-nil, take, ◌≤◌, Option, None, Some}
+use Rattle.std.proofs.Common.{◌≡◌, ◌<◌, ◌+◌, ◌++◌, ℕ, List, [], ◌∷◌, Bool, true, false, if◌then◌else◌, length, get_or, drop, drop-cons, map, refl, sym, ap, ap₂, ◌∙◌, add-one, append_assoc, append-nil, take, ◌≤◌, Option, None, Some}
 use Rattle.std.specs.List.{flat_map}
 use Rattle.std.proofs.Math.ListN.{drop_of_length-le}
 use Rattle.lisa_tree.specs.declared.descriptions.Format.TheVariants as formats

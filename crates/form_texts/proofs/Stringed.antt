@@ -1,5 +1,5 @@
 -- Strings that are kept: how they go on behind a run, and how a text goes on behind them.
-use Rattle.std.proofs.Common.{◌≡◌, ◌<◌, ◌≤◌, ◌+◌, ◌-◌, ◌++◌, ℕ, zero, suc, List, [], ◌∷◌, Bool, true, false, not, ◌&&◌, if◌then◌else◌, nat_eq, length, get_or, drop, take, map, refl, sym, ap, ap₂, ◌∙◌, subst, arith, append_assoc, append-nil, Option, None, Some, cond, drop-cons, add-one, inl, inr}
+use Rattle.std.proofs.Common.{◌≡◌, ◌<◌, ◌≤◌, ◌+◌, ◌++◌, ℕ, zero, suc, List, [], ◌∷◌, Bool, true, false, not, ◌&&◌, if◌then◌else◌, nat_eq, length, get_or, drop, take, map, refl, sym, ap, ap₂, ◌∙◌, subst, arith, append_assoc, append-nil, Option, None, Some, cond, drop-cons, add-one}
 use Rattle.std.specs.List.{flat_map, list_all}
 use Rattle.std.proofs.lemmas.Grind.{flat_map-append}
 use Rattle.std.proofs.lemmas.List.{map-append, take-append-drop}
@@ -11,7 +11,7 @@ use Rattle.instruction_texts.specs.declared.shapes.Shape.TheVariants.{Other, Lit
 use Rattle.std.specs.Prelude.{slice_index_or}
 use Rattle.std.specs.Option.{option_to_list}
 use Rattle.std.proofs.Math.ListN.{drop_of_length-le}
-use Rattle.instruction_texts.specs.Symbols.{Kind, Sym, Byte, Gap, Shown, text_sym, gap, written_by, others, flush_shape, gather, parts_from, is_clean, shown_values, starts_dot, is_dotted, has_pieces}
+use Rattle.instruction_texts.specs.Symbols.{Sym, Byte, Gap, text_sym, gap, written_by, others, flush_shape, gather, parts_from, is_clean, shown_values, starts_dot, is_dotted, has_pieces}
 use Rattle.form_texts.specs.Pieces.{ended, pieces_at, run_at, dotted}
 use Rattle.form_texts.specs.declared.strings.Strings.{Strings}
 use Rattle.form_texts.specs.declared.symbols.Symbol.{Symbol}

@@ -9,9 +9,9 @@ use Rattle.lisa_tree.specs.declared.descriptions.SyntaxItem.{SyntaxItem}
 use Rattle.lisa_tree.specs.Operations.{syntax_in, sections_at}
 use Rattle.instruction_forms.specs.Described.{items_at}
 use Rattle.instruction_texts.specs.declared.shapes.Shape.{Shape}
-use Rattle.instruction_texts.specs.Symbols.{Sym, Element, text_sym, assemble}
+use Rattle.instruction_texts.specs.Symbols.{Sym, text_sym, assemble}
 use Rattle.text_tables.specs.Shared.{shapes_at}
-use Rattle.form_texts.specs.Syntaxes.{element, elements_at}
+use Rattle.form_texts.specs.Syntaxes.{element}
 use Rattle.form_texts.specs.Written.{shown_items}
 use Rattle.form_texts.specs.Strings.{strings_at, strings_in, pieces_in, IsKept, IsOpened, AreOpened, AreKept}
 use Rattle.form_texts.specs.declared.strings.Opened.{Opened}

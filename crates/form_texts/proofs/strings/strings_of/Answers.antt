@@ -1,5 +1,5 @@
 use Rattle.std.proofs.Common.{◌++◌, ◌∙◌, ◌-◌, ◌<◌, [], List, ℕ, map, ap, take, drop, length, arith}
-use Rattle.instruction_texts.specs.Symbols.{Sym, text_sym, gather}
+use Rattle.instruction_texts.specs.Symbols.{text_sym, gather}
 use Rattle.text_tables.proofs.Opened.{rest_is}
 use Rattle.form_texts.proofs.Stringed.{made_opened}
 use Rattle.form_texts.proofs.strings.strings_of.Goals as goal
