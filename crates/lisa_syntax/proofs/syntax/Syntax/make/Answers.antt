@@ -1,4 +1,4 @@
-use Rattle.std.proofs.Common.{sym, refl, subst, inr, List}
+use Rattle.std.proofs.Common.{sym, subst, inr, List}
 use Rattle.lisa_tree.specs.declared.descriptions.Description.{Description}
 use Rattle.lisa_tree.specs.Descriptions.{description_tree}
 use Rattle.instruction_forms.specs.declared.form.Form.{Form}
@@ -25,12 +25,12 @@ pub returns-in_ok-ambiguity-in-Some-clause-fault :
     goal.returns-in_ok-ambiguity-in-Some-clause-fault
 returns-in_ok-ambiguity-in-Some-clause-fault c =
     inr (first_ambiguous c.args.machine.now c.description.result.now c.description.ensures c.in_ok-texts.texts c.in_ok-texts.ensures c.accepted.ensures.accepted c.requires.accepted
-    c.in_ok-first_shared.field-0 c.in_ok-first_shared.ensures c.in-Some.shared c.in-Some.is c.in_ok-ambiguity-in-Some.field-0 c.in_ok-ambiguity-in-Some.ensures)
+    c.in_ok-shared.field-0 c.in_ok-shared.ensures c.in-Some.shared c.in-Some.is c.in_ok-ambiguity-in-Some.field-0 c.in_ok-ambiguity-in-Some.ensures)
 
 pub returns-in_ok-kept-in-None-clause-plain : goal.returns-in_ok-kept-in-None-clause-plain
 returns-in_ok-kept-in-None-clause-plain c =
     none_ambiguous c.args.machine.now c.description.result.now c.description.ensures c.in_ok-texts.texts c.in_ok-texts.ensures c.accepted.ensures.accepted c.requires.accepted
-    c.in_ok-first_shared.field-0 c.in_ok-first_shared.ensures c.in-None.is
+    c.in_ok-shared.field-0 c.in_ok-shared.ensures c.in-None.is
 
 pub kept-requires-clause-ordered : goal.kept-requires-clause-ordered
 kept-requires-clause-ordered c = texts_ordered c.args.machine.now c.description.result.now c.description.ensures c.in_ok-texts.texts c.in_ok-texts.ensures c.accepted.ensures.accepted c.requires.accepted
@@ -38,5 +38,5 @@ kept-requires-clause-ordered c = texts_ordered c.args.machine.now c.description.
 pub returns-in_ok-kept-in-None-clause-syntax : goal.returns-in_ok-kept-in-None-clause-syntax
 returns-in_ok-kept-in-None-clause-syntax c =
     made c.args.machine.now c.description.result.now c.description.ensures c.in_ok-texts.texts c.in_ok-texts.ensures c.accepted.ensures.accepted c.requires.accepted
-    (none_ambiguous c.args.machine.now c.description.result.now c.description.ensures c.in_ok-texts.texts c.in_ok-texts.ensures c.accepted.ensures.accepted c.requires.accepted c.in_ok-first_shared.field-0 c.in_ok-first_shared.ensures c.in-None.is)
+    (none_ambiguous c.args.machine.now c.description.result.now c.description.ensures c.in_ok-texts.texts c.in_ok-texts.ensures c.accepted.ensures.accepted c.requires.accepted c.in_ok-shared.field-0 c.in_ok-shared.ensures c.in-None.is)
     c.in_ok-kept-in-None.field-0 c.in_ok-kept-in-None.ensures.shapes c.in_ok-kept-in-None.ensures.orders

@@ -36,4 +36,4 @@ returns c =
     let r = ready s c.args.form c.args.fields.now c.requires.values in
     let order = order_seen s c.args.form r.within c.index.result.now c.deref.result.now c.index.ensures c.deref.ensures.value in
     let shows = subst (λ (xs : List ℕ). Shows xs c.args.fields.now c.in_ok-values.values.items) order c.in_ok-values.ensures in
-    record { text = text_kept s c.args.form c.args.fields.now c.in_ok-values.values.items shows (shapes_at s.table c.args.form) refl c.deref-2.result.now c.deref-2.ensures.value c.text_of.result c.text_of.ensures }
+    record { text = text_kept s c.args.form c.args.fields.now c.in_ok-values.values.items shows (shapes_at s.table c.args.form) refl c.deref-2.result.now c.deref-2.ensures.value c.text_of.result c.text_of.ensures.exact }
