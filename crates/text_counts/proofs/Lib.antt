@@ -6,3 +6,4 @@ pub mod Order
 pub mod Visits
 pub mod Entries
 pub mod Along
+pub mod OuterNodes

@@ -1,5 +1,5 @@
 -- How what references may choose is gathered, one reference after another.
-use Rattle.std.specs.Prelude.{ℕ, ◌≡◌, ◌≤◌, ◌-◌, ◌||◌, Bool, true, false, List, [], ◌∷◌, ◌++◌, Option, None, Some, cond, nat_lt, length}
+use Rattle.std.specs.Prelude.{ℕ, ◌≡◌, ◌-◌, ◌||◌, ◌⊎◌, Bool, true, List, [], ◌∷◌, ◌++◌, Option, Some, cond, nat_lt, length}
 use Rattle.std.specs.List.Sorted.{IsStrictlyIncreasing}
 use Rattle.std.specs.Global.{Vec}
 use Rattle.lisa_tree.specs.Descriptions.{DescriptionTree}
@@ -50,6 +50,12 @@ pub record Source (d : DescriptionTree) (done : List Bool) (nodes : List ℕ) (a
 pub record AreSources (d : DescriptionTree) (done : List Bool) (i : ℕ) (nodes : List ℕ) : Type 0 where
   pub sound : (j a : ℕ) → is_in (entry_node d j) nodes ≡ true → MayMean d j a → MayMean d i a
   pub whole : (a : ℕ) → MayMean d i a → Source d done nodes a
+
+-- of these nodes all are kept but some that stand in the row; the last one is kept too
+pub record AreOuter (row : List ℕ) (last : ℕ) (nodes outer : List ℕ) : Type 0 where
+  pub inside : (b : ℕ) → is_in b outer ≡ true → is_in b nodes ≡ true
+  pub others : (b : ℕ) → is_in b nodes ≡ true → (is_in b outer ≡ true) ⊎ (is_in b row ≡ true)
+  pub kept : is_in last nodes ≡ true → is_in last outer ≡ true
 
 -- the edges from a number on
 abbrev pub late_row : ℕ → List (Vec ℕ) → ℕ → List ℕ

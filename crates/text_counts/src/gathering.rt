@@ -12,6 +12,7 @@ ghost use Rattle.description_graph.specs.Graph.{IsGraph, first_entry};
 ghost use Rattle.text_counts.specs.References.{MayMean, chosen_by};
 ghost use Rattle.text_counts.specs.Gathering.{IsGathered, is_node_ready, gathered_at, gathered, AreSources, late_row};
 
+use crate::outer::outer_sources;
 use graph_paths::{reached_from, row};
 use lisa_tree::{Names, What};
 use std::alloc::{AllocError, Global};
@@ -93,9 +94,9 @@ fn reached<N: Names>(
     Ok(nodes)
 }
 
-// Whether a reference is done.
+/// Whether a reference is done.
 #[tactic(auto, using(graph_paths::proofs::Seen::saw_at, graph_paths::proofs::Seen::saw_past))]
-fn is_done(done: &[bool], number: usize) -> bool
+pub(crate) fn is_done(done: &[bool], number: usize) -> bool
     ensures { result ≡ saw done.now number }
 {
     if number < done.len() {
@@ -277,7 +278,8 @@ pub(crate) fn visit<N: Names>(
         return Ok(());
     }
     let nodes = sources(alloc, graph, done, number)?;
-    let list = list_of(alloc, graph, lists, &nodes)?;
+    let outer = outer_sources(alloc, graph, done, number, nodes)?;
+    let list = list_of(alloc, graph, lists, &outer)?;
     lists[number] = list;
     done[number] = true;
     Ok(())

@@ -7,6 +7,7 @@ mod alike;
 mod behaviors;
 mod expressions;
 mod gathering;
+mod outer;
 mod references;
 mod steps;
 mod sums;
