@@ -1,12 +1,10 @@
 -- Texts in parts.
-use Rattle.std.proofs.Common.{◌≡◌, ℕ, zero, suc, ◌+◌, ◌-◌, ◌<◌, ◌≤◌, List, [], ◌∷◌, ◌++◌, length, map, take, drop, get_or, Option, Some, None, refl, sym, ap, ap₂, ◌∙◌, subst, arith, append-nil, append_assoc, drop-cons, add-one}
+use Rattle.std.proofs.Common.{◌≡◌, ℕ, ◌+◌, ◌-◌, ◌<◌, List, [], ◌∷◌, ◌++◌, length, take, drop, get_or, Option, sym, ap, ap₂, ◌∙◌, subst, arith, append-nil, drop-cons, add-one}
 use Rattle.std.specs.Global.{Vec}
-use Rattle.std.specs.List.{flat_map}
 use Rattle.std.specs.List.{All}
 use Rattle.std.proofs.lemmas.List.{get_or-map, length-map, take-append-drop, take_all, take_more}
 use Rattle.std.proofs.lemmas.Grind.{flat_map-append}
 use Rattle.instruction_texts.specs.declared.shapes.Shape.{Shape}
-use Rattle.instruction_texts.specs.declared.shapes.Shape.TheVariants.{Other, Literal, Unsigned, Signed}
 use Rattle.instruction_texts.specs.declared.shapes.Token.{Token}
 use Rattle.instruction_texts.specs.Shapes.{IsSized, IsText}
 use Rattle.instruction_texts.specs.Written.{text_bytes}
@@ -28,14 +26,6 @@ text_is t k v inside is = ap (pieces_in t) is ∙ sym (get_or-map (pieces_in t) 
 
 pub texts_count : (t : Texts) → length (all_pieces t) ≡ length t.texts.items
 texts_count t = length-map t.texts.items (pieces_in t)
-
-pub shared_is : (shared : List (Vec Shape)) (k : ℕ) (v : Vec Shape) → k < length shared → v ≡ get_or shared k v → v.items ≡ shapes_at (map (λ (w : Vec Shape). w.items) shared) k
-shared_is shared k v inside is = ap (λ (w : Vec Shape). w.items) is ∙ sym (get_or-map (λ (w : Vec Shape). w.items) shared k v [] inside)
-
-pub shared_past : (shared : List (Vec Shape)) (k : ℕ) → length shared ≤ k → [] ≡ shapes_at (map (λ (w : Vec Shape). w.items) shared) k
-shared_past [] k h = refl
-shared_past (v ∷ shared) zero h = absurd (omega arith)
-shared_past (v ∷ shared) (suc k) h = shared_past shared k (omega arith)
 
 pub text_of_parts : (t : Texts) (k : ℕ) (v : Vec Part) (shared : List (Vec Shape)) (parts : List Part) → k < length t.texts.items → v ≡ get_or t.texts.items k v → shared ≡ t.shared.items → parts ≡ v.items
     → text_pieces shared parts ≡ shapes_at (all_pieces t) k
@@ -65,27 +55,6 @@ enters_same ss us k old new f n e b =
     e b
     ∙ ap (λ (x : Option Beginning). with_if (same_negative x b) k (with_if (same (first_start ss) b) k (numbers_of old b))) n
     ∙ ap (λ (x : Option Beginning). with_if (same_negative (negative_start us) b) k (with_if (same x b) k (numbers_of old b))) f
-
-pub begins_first : (ss us : List Shape) → 0 < length ss → first_start ss ≡ first_start (ss ++ us)
-begins_first [] us h = absurd (omega arith)
-begins_first (Other c ∷ ss) us h = refl
-begins_first (Literal p ∷ ss) us h = refl
-begins_first (Unsigned hex p n ∷ ss) us h = refl
-begins_first (Signed p n ∷ ss) us h = refl
-
-pub begins_negative : (ss us : List Shape) → 0 < length ss → negative_start ss ≡ negative_start (ss ++ us)
-begins_negative [] us h = absurd (omega arith)
-begins_negative (Other c ∷ ss) us h = refl
-begins_negative (Literal p ∷ ss) us h = refl
-begins_negative (Unsigned hex p n ∷ ss) us h = refl
-begins_negative (Signed p n ∷ ss) us h = refl
-
--- a part without pieces is passed over
-pub part_passed : (shared : List (Vec Shape)) (parts : List Part) (i : ℕ) (part : Part) → i < length parts → part ≡ get_or parts i part → part_pieces shared part ≡ []
-    → text_pieces shared (drop i parts) ≡ text_pieces shared (drop (i + 1) parts)
-part_passed shared parts i part h is none =
-    ap (text_pieces shared) (drop-cons parts i part h ∙ ap (λ (n : ℕ). get_or parts i part ∷ drop n parts) (sym (add-one i)))
-    ∙ ap (λ (ss : List Shape). ss ++ text_pieces shared (drop (i + 1) parts)) (ap (part_pieces shared) (sym is) ∙ none)
 
 pub part_first : (shared : List (Vec Shape)) (parts : List Part) (i : ℕ) (part : Part) → i < length parts → part ≡ get_or parts i part
     → text_pieces shared (drop i parts) ≡ part_pieces shared part ++ text_pieces shared (drop (i + 1) parts)
