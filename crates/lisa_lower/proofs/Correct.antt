@@ -16,7 +16,9 @@ use Rattle.lowered_edges.specs.Programs.{edge_program}
 use Rattle.lowered_edges.specs.Code.{IsEdgeProgram}
 use Rattle.lowered_edges.specs.Laws.{HaveNumbersInTests, ProgramsAreArranged, ProgramsShowStates, ProgramsAreFormed, IsProgram}
 use Rattle.lowered_edges.proofs.Worded.{words_are}
-use Rattle.lisa_lower.specs.Lowered.{weight_limit, IsLowered}
+use Rattle.module_sizes.specs.Laws.{ModulesAreSmall}
+use Rattle.lisa_lower.specs.Heavy.{weight_limit}
+use Rattle.lisa_lower.specs.Lowered.{IsLowered}
 
 -- what a spelled description has
 pub record HasSpelled (d : DescriptionTree) : Type 0 where
@@ -31,6 +33,7 @@ pub record HasLaws (d : DescriptionTree) (types : Types) (declared : Option ℕ)
   pub states : ProgramsShowStates d types declared
   pub formed : ProgramsAreFormed d types declared
   pub shown : ShownIsDeclared d declared
+  pub small : ModulesAreSmall d types declared
 
 module _ (d : DescriptionTree) (declared : Option ℕ) (accepted : IsAccepted d) (spelled : IsSpelled d) (has_forms : HasForms d) (apart : AreApart d) (wide : HasWidth d declared) (has : HasSpelled d) where
   module _ (p : Program) (edge : IsEdgeProgram d declared p) (laws : HasLaws d edge.known.types declared) where
@@ -60,6 +63,14 @@ module _ (d : DescriptionTree) (declared : Option ℕ) (accepted : IsAccepted d)
       pins = refl;
       states = λ image entries rules none fit. laws.states is_program image rules none entries fit;
       shallow = λ k move low. ((laws.formed is_program).0.steps k move low).shallow;
+      small = laws.small (record {
+        spelled = spelled;
+        accepted = accepted;
+        has_forms = has_forms;
+        places = has.word_places;
+        arranged = is_program.arranged;
+        formed = (laws.formed is_program).1 spelled;
+      }) light;
     }
 
     pub is_lowered : weight d ≤ weight_limit → IsLowered d declared p

@@ -5,7 +5,7 @@ use Rattle.lisa_tree.specs.Descriptions.{DescriptionTree}
 use Rattle.access_counts.specs.Ledgers.{capped}
 use Rattle.description_weight.specs.Weights.{weight}
 use Rattle.step_program.specs.declared.faults.LowerFault.TheVariants as faults
-use Rattle.lisa_lower.specs.Lowered.{weight_limit, IsTooHeavy}
+use Rattle.lisa_lower.specs.Heavy.{weight_limit, IsTooHeavy}
 
 -- one that is low is told as it is
 pub low_weight : (told n limit : ℕ) → told ≡ capped n → told ≤ limit → limit < 2 ^ 64 - 1 → n ≤ limit

@@ -1,1 +1,2 @@
+pub mod Heavy
 pub mod Lowered

@@ -1,5 +1,5 @@
--- What it is to be the step program of a description, and when a description has none.
-use Rattle.std.specs.Prelude.{codes, ℕ, ◌≡◌, ◌≤◌, ◌<◌, ◌^◌, ◌-◌, List, All, Option, None, min}
+-- What it is to be the step program of a description.
+use Rattle.std.specs.Prelude.{ℕ, ◌≡◌, ◌≤◌, List, All, Option, None}
 use Rattle.lisa_tree.specs.Descriptions.{DescriptionTree}
 use Rattle.lisa_engine.specs.Images.{IsImage, missing_memory}
 use Rattle.lisa_engine.specs.Memory.{Memory}
@@ -14,12 +14,8 @@ use Rattle.step_program.specs.Effects.{p_state}
 use Rattle.step_program.specs.Depths.{move_depth}
 use Rattle.step_program.specs.WellFormed.{IsWellFormed}
 use Rattle.netlist_wires.specs.Tables.{HasDistinctNames}
-use Rattle.step_program.specs.declared.faults.LowerFault.{LowerFault}
-use Rattle.step_program.specs.declared.faults.LowerFault.TheVariants as faults
-
--- a heavier description isn't lowered
-abbrev pub weight_limit : ℕ
-weight_limit = 50000
+use Rattle.module_sizes.specs.Units.{IsSmall}
+use Rattle.lisa_lower.specs.Heavy.{weight_limit}
 
 -- Its items, arrays and pins are the description's, whose instructions have this width, if there are any, and after any edges its state is
 -- the description's, over each image whose memories are the description's arrays.
@@ -35,8 +31,5 @@ pub record IsLowered (d : DescriptionTree) (width : Option ℕ) (p : Program) : 
       → p_state p image entries ≡ state_of d image entries
   -- its expressions are of little depth
   pub shallow : All (λ move. move_depth move ≤ 8) p.moves
-
--- the refusal of a description by its weight, which is told as 2 ^ 64 - 1 where it is more than that
-pub record IsTooHeavy (d : DescriptionTree) (fault : LowerFault) : Type 0 where
-  pub heavy : weight_limit < weight d
-  pub is : fault ≡ faults.TooMany (codes "weight") (min (weight d) (2 ^ 64 - 1)) weight_limit
+  -- and the stated size of its module is paid by the weight, the items, the arrays and the pins
+  pub small : IsSmall d p

@@ -9,7 +9,8 @@ ghost use Rattle.step_program.specs.Programs.{program_tree};
 ghost use Rattle.description_weight.specs.Weights.{weight as weight_of};
 ghost use Rattle.access_counts.specs.Ledgers.{capped};
 ghost use Rattle.step_program.specs.declared.faults.LowerFault.TheVariants as faults;
-ghost use Rattle.lisa_lower.specs.Lowered.{weight_limit, IsLowered, IsTooHeavy};
+ghost use Rattle.lisa_lower.specs.Heavy.{weight_limit, IsTooHeavy};
+ghost use Rattle.lisa_lower.specs.Lowered.{IsLowered};
 
 use description_weight::weigh;
 use lisa_forms::{Coding, Forms};
@@ -17,6 +18,7 @@ use lisa_machine::Machine;
 use lisa_words::{Name, NoMemory};
 use lowered_edges::laws::{programs_are_formed, programs_make_edges, programs_show_states};
 use lowered_edges::lower_edges;
+use module_sizes::laws::modules_are_small;
 use program_declarations::shown_is_declared;
 use spelled_meanings::laws::{spelled_numbers_are_low, spelled_roots_have_places};
 use std::alloc::Global;
@@ -60,6 +62,7 @@ fn lower_light(
     programs_make_edges();
     programs_show_states();
     programs_are_formed();
+    modules_are_small();
     lower_edges(alloc, machine, forms, coding)
 }
 

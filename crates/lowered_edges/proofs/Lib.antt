@@ -9,6 +9,7 @@ pub mod Behaving
 pub mod Closing
 pub mod Conditions
 pub mod Testing
+pub mod Idle
 pub mod Fetching
 pub mod Lowered
 pub mod Forming

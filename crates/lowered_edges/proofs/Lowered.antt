@@ -6,6 +6,7 @@ use Rattle.lowered_edges.proofs.Moments.{agreed, is_word, unseen, row_unseen, be
 use Rattle.lowered_edges.proofs.Rowed.{loaded, load_agrees, load_keeps, load_rows, row_is}
 use Rattle.lowered_edges.proofs.Behaving.{trees, chosen_plain, behaves, rests}
 use Rattle.lowered_edges.proofs.Testing.{condition_is, condition_leaves}
+use Rattle.lowered_edges.proofs.Idle.{idles}
 use Rattle.lowered_edges.proofs.Fetching.{fetches}
 use Rattle.lowered_edges.proofs.Closing.{edge_closes}
 use Rattle.lisa_tree.specs.Descriptions.{DescriptionTree}
@@ -25,6 +26,7 @@ parts_lowered d types declared width p lowered = record {
       behaves d types declared width p lowered before pins number row guard from m now part.lasting part.placed part.agrees guards word one has runs;
   rests = λ number row guard from before pins m now part guards off.
       rests d types declared width p lowered before pins number row guard from m now part.lasting part.placed part.agrees guards off;
+  idles = λ number idle. idles d types width number idle;
   condition_is = λ number test row from before pins m now word part has runs.
       condition_is d types declared width p lowered before pins number test row from m now part.lasting part.placed part.agrees word has runs;
   condition_leaves = λ number test row from before pins m now part.

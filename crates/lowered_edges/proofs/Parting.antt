@@ -38,7 +38,7 @@ use Rattle.lowered_behaviors.specs.Code.{ground_with}
 use Rattle.lowered_layouts.specs.Temps.{row_base, lasting_widths}
 use Rattle.lowered_layouts.specs.Items.{places_of, time_layout}
 use Rattle.lowered_layouts.specs.Ends.{ends}
-use Rattle.lowered_edges.specs.Parts.{behavior_of, condition_of, tested, standpoint_of, no_names, word_read, fetched_from, fetch_at, operations}
+use Rattle.lowered_edges.specs.Parts.{idle_at, behavior_of, condition_of, tested, standpoint_of, no_names, word_read, fetched_from, fetch_at, operations}
 use Rattle.lowered_edges.specs.Code.{line_positions, base_over, ground_over, behavior_over, value_over, condition_over, read_over, fetch_over, operations_over, lasting_piece, program_piece}
 use Rattle.lowered_edges.proofs.Lining.{line_is}
 
@@ -147,6 +147,7 @@ module _ (d : DescriptionTree) (types : Types) (width : ℕ) where
   abbrev with_fetch : Maker → Operations
   with_fetch fetch = record {
     behavior = behavior_of d types width;
+    idle = idle_at d;
     condition = condition_of d types width;
     fetch = fetch;
     load = λ row e. load d width (row_base d row) e;

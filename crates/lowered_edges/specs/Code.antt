@@ -31,7 +31,7 @@ use Rattle.lowered_layouts.specs.Items.{places_of, time_layout}
 use Rattle.lowered_layouts.specs.Ends.{ends}
 use Rattle.lowered_layouts.specs.Code.{positions_tree}
 use Rattle.lowered_edges.specs.declared.edge_parts.EdgeParts.{EdgeParts}
-use Rattle.lowered_edges.specs.Parts.{runs_with_word, standpoint_of, value_at, tested, no_names, fetched_from}
+use Rattle.lowered_edges.specs.Parts.{idle_at, runs_with_word, standpoint_of, value_at, tested, no_names, fetched_from}
 use Rattle.lowered_edges.specs.Programs.{edge_piece, edge_program}
 
 -- ---- where occurrences run
@@ -77,6 +77,7 @@ module _ (d e : DescriptionTree) (types : Types) (width : ℕ) where
   abbrev pub operations_over : Operations
   operations_over = record {
     behavior = behavior_over;
+    idle = idle_at d;
     condition = condition_over;
     fetch = λ from. fetch_over from (first_root d);
     load = λ row x. load d width (row_base e row) x;

@@ -1,11 +1,13 @@
 -- What the parts of a description become: the operations of `lowered_time`. On the way to the program: nothing here needs to be trusted.
-use Rattle.std.specs.Prelude.{ℕ, suc, Bool, false, [], ◌∷◌, Option, None, Some, cond, filter_map, option_map, slice_get}
+use Rattle.std.specs.Prelude.{ℕ, suc, Bool, true, false, not, ◌&&◌, [], ◌∷◌, Option, None, Some, cond, filter_map, option_map, slice_get}
 use Rattle.std.specs.Option.{option_map_or}
 use Rattle.lisa_tree.specs.Expressions.{ExprTree}
+use Rattle.lisa_tree.specs.Statements.{StmtTrees, End, Then}
 use Rattle.lisa_tree.specs.Descriptions.{DescriptionTree}
-use Rattle.lisa_tree.specs.Operations.{sections_at, coding_in}
+use Rattle.lisa_tree.specs.Operations.{sections_at, coding_in, behavior_in, is_root}
 use Rattle.description_sizes.specs.Texts.{levels}
 use Rattle.description_types.specs.Types.{Types}
+use Rattle.activation_trees.specs.declared.parts.Occurrence.{Occurrence}
 use Rattle.activation_trees.specs.Unfolding.{occurrences}
 use Rattle.coding_tables.specs.Instructions.{Root, first_root}
 use Rattle.step_program.specs.Programs.{Expr, Const, Temp}
@@ -28,6 +30,21 @@ use Rattle.lowered_behaviors.specs.Behaviors.{behavior}
 use Rattle.lowered_layouts.specs.Temps.{row_base}
 use Rattle.lowered_layouts.specs.Items.{places_of}
 use Rattle.lowered_layouts.specs.Ends.{ends}
+
+-- ---- what does nothing
+
+-- no BEHAVIOR, or one without statements
+abbrev pub is_empty : Option StmtTrees → Bool
+is_empty None = true
+is_empty (Some End) = true
+is_empty (Some (Then s rest)) = false
+
+-- what isn't the root, and has no statements
+abbrev pub is_idle : DescriptionTree → Occurrence → Bool
+is_idle d x = not (is_root d x.operation) && is_empty (behavior_in (sections_at d x.operation))
+
+abbrev pub idle_at : DescriptionTree → ℕ → Bool
+idle_at d k = option_map_or (is_idle d) (slice_get (occurrences d) k) false
 
 module _ (d : DescriptionTree) (types : Types) (width : ℕ) where
   -- ---- where occurrences run
@@ -89,6 +106,7 @@ module _ (d : DescriptionTree) (types : Types) (width : ℕ) where
   abbrev pub operations : Operations
   operations = record {
     behavior = behavior_of;
+    idle = idle_at d;
     condition = condition_of;
     fetch = λ from. fetch_at from (first_root d);
     load = λ row e. load d width (row_base d row) e;

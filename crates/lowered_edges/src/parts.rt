@@ -2,6 +2,7 @@
 
 ghost use Rattle.std.specs.Prelude.{◌≡◌, Some, IfOk, OnOk, option_map};
 ghost use Rattle.lisa_tree.specs.Expressions.{expr_tree};
+ghost use Rattle.lisa_tree.specs.Statements.{stmt_trees};
 ghost use Rattle.lisa_meaning.specs.Moments.{Contents, Moment};
 ghost use Rattle.lisa_meaning.specs.Cores.{core_of};
 ghost use Rattle.step_program.specs.Programs.{Const, Temp};
@@ -11,13 +12,14 @@ ghost use Rattle.lowered_values.specs.Code.{plain};
 ghost use Rattle.lowered_values.specs.Templates.{picked};
 ghost use Rattle.lowered_time.specs.Code.{Adds};
 ghost use Rattle.lowered_behaviors.specs.Code.{ground_of};
-ghost use Rattle.lowered_edges.specs.Parts.{runs_with_word};
+ghost use Rattle.lowered_edges.specs.Parts.{is_empty, is_idle, runs_with_word};
 ghost use Rattle.lowered_edges.specs.Code.{base_over, ground_over, value_over, parts_tree, parts_places, parts_types, parts_operations, parts_layout};
 
 use crate::edge_parts::EdgeParts;
 use crate::lines::{line, occurrence_at};
 use crate::roots::{absent, fetch};
-use lisa_tree::Expr;
+use lisa_forms::Occurrence;
+use lisa_tree::{Expr, Stmt};
 use lisa_words::NoMemory;
 use lowered_behaviors::{Ground, lower_behavior, value};
 use lowered_layouts::Positions;
@@ -38,7 +40,26 @@ fn hold_test(alloc: Global, x: Source, draft: &mut Draft) -> Result<Leaf, NoMemo
     Ok(Leaf::Temp(temp))
 }
 
+// Whether a BEHAVIOR has no statements, or there is none.
+fn is_empty(behavior: Option<&[Stmt]>) -> bool
+    ensures { result ≡ is_empty (option_map (λ all. stmt_trees all.now) behavior.entry) }
+{
+    match behavior {
+        None => true,
+        Some(all) => all.is_empty(),
+    }
+}
+
 impl<'a> EdgeParts<'a> {
+    // Whether an occurrence isn't the root, and has no statements.
+    fn does_nothing(&self, own: Occurrence) -> bool
+        ensures { result ≡ is_idle (parts_tree self.now) own }
+    {
+        let described = self.words.described;
+        let operation = own.operation as usize;
+        !described.is_root(operation) && is_empty(described.behavior(operation))
+    }
+
     // Whether an occurrence runs with a word: the root, and what is past it.
     fn runs_with_word(&self, number: u32) -> bool
         ensures { result ≡ runs_with_word (parts_tree self.now) (parts_types self.now) self.now.width number }
@@ -153,6 +174,13 @@ impl<'a> Parts for EdgeParts<'a> {
         let line = line(alloc, self.words, number)?;
         lower_behavior(&ground, line, guard, draft)?;
         Ok(())
+    }
+
+    fn is_idle(&self, number: u32) -> bool {
+        match occurrence_at(self.words, number) {
+            None => false,
+            Some(own) => self.does_nothing(own),
+        }
     }
 
     fn condition(

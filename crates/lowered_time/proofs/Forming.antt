@@ -1,5 +1,5 @@
 -- The steps of an edge are well formed where those of its parts are.
-use Rattle.std.proofs.Common.{◌≡◌, ◌≢◌, ℕ, zero, suc, ◌+◌, ◌<◌, ◌≤◌, ◌^◌, Bool, true, false, ◌||◌, cond, List, [], ◌∷◌, ◌++◌, length, Option, Some, None, refl, sym, ap, ◌∙◌, subst, arith, nat_eq}
+use Rattle.std.proofs.Common.{◌≡◌, ◌≢◌, ℕ, zero, suc, ◌+◌, ◌<◌, ◌≤◌, ◌^◌, Bool, true, false, ◌&&◌, ◌||◌, cond, List, [], ◌∷◌, ◌++◌, length, Option, Some, None, refl, sym, ap, ◌∙◌, subst, arith, nat_eq}
 use Rattle.std.specs.Prelude.{is_some, All}
 use Rattle.std.specs.Option.{option_map}
 use Rattle.std.proofs.lemmas.Bool.{both_ways, ne_eqb, eqb-false}
@@ -16,8 +16,8 @@ use Rattle.pipeline_time.specs.Acts.{Acts, Done, Act, When, size}
 use Rattle.pipeline_time.specs.Cores.{Core, above_of, is_past, slot_level}
 use Rattle.pipeline_time.specs.Sound.{IsSound}
 use Rattle.pipeline_time.proofs.Tree.{IsGoodTree, tree_of}
-use Rattle.lowered_time.specs.Pieces.{Maker, steps, chain, bind, given, both, either, none, holding}
-use Rattle.lowered_time.specs.Building.{Operations, Layout, taken_at, slot_at, held_at, open_at, recorded_at, time_temps, root_row, row_of, own_row, chosen, slotted, rooted, recorded, occurrence, active, waits, due, turn_of, place_word, stage_word, held_after, controls, turn, turns, main_run, stood, came, next_bit, next_word, set_place, bit_ends, ends, edge}
+use Rattle.lowered_time.specs.Pieces.{Maker, nothing, steps, chain, bind, given, both, either, none, holding}
+use Rattle.lowered_time.specs.Building.{Operations, Layout, taken_at, slot_at, held_at, open_at, recorded_at, time_temps, root_row, row_of, own_row, chosen, slotted, rooted, recorded, occurrence, is_idle, active, waits, due, turn_of, place_word, stage_word, held_after, controls, turn, turns, main_run, stood, came, next_bit, next_word, set_place, bit_ends, ends, edge}
 use Rattle.lowered_time.specs.Forming.{IsLeaf, time_width, IsRowFor, AreFormed}
 use Rattle.lowered_time.specs.Lowering.{IsLaidOut, IsOwned, IsGuard, no_guard, held_guard, IsRow}
 
@@ -133,6 +133,11 @@ module _ {R M : Type 0} (core : Core R M) (sound : IsSound core) (ops : Operatio
       let left = lies_left p.temps from (maker from).piece.widths (user (maker from).out base).widths lies in
       behind_formed p (maker from).piece (user (maker from).out base) (one left) (two left (lies_right p.temps from (maker from).piece.widths (user (maker from).out base).widths lies))
 
+  -- what takes no steps where it is idle
+  idle_formed : (idle : Bool) (f : Builder) (from : ℕ) → Lies p.temps from (cond idle nothing f from).widths → (Lies p.temps from (f from).widths → IsPiece p (f from)) → IsPiece p (cond idle nothing f from)
+  idle_formed true f from lies is = nothing_formed p
+  idle_formed false f from lies is = is lies
+
   -- ---- occurrences and items
 
   slotted_formed : (guard : Expr) (from : ℕ) → IsLeaf p 1 guard → Lies p.temps from (slotted core ops layout guard from).widths → IsPiece p (slotted core ops layout guard from)
@@ -238,13 +243,14 @@ module _ {R M : Type 0} (core : Core R M) (sound : IsSound core) (ops : Operatio
       let good = tree.1 in
       let choose = chosen core ops layout number past row guard in
       let user = λ (g : Expr). cond (nat_eq level here) (occurrence core ops layout number past row g (active core ops layout here (own_row core ops layout number past row) g own)) (recorded core ops layout number g) in
-      let first = bind choose user in
+      let first = cond (nat_eq level here && is_idle core ops layout number own) nothing (bind choose user) in
       let base = from + length (choose from).piece.widths in
       chain_formed first (active core ops layout here row guard rest) from lies
+      (λ l. idle_formed (nat_eq level here && is_idle core ops layout number own) (bind choose user) from l
       (λ l. bind_formed choose user from l
       (λ l'. (chosen_formed number past row guard from less good.past_is row_for.rows low is l').0)
       (λ l' r. by (nat_eq level here) (choose from).out base (omega (arith, low)) (chosen_formed number past row guard from less good.past_is row_for.rows low is l').1 r
-      (λ g from' more g_is lies'. active_formed here (own_row core ops layout number past row) own level (suc number) number (past || core.is_root number) g from' (subst (λ (n : ℕ). IsGoodTree core root level (past || core.is_root number) (suc n) own) (sym tree.0) tree.4) owned.0 (omega (arith, tree.0, below)) (own_row_for number past inside row tree.2 row_for) (own_row_is number past inside row less good.past_is tree.2 row_for) more g_is lies')))
+      (λ g from' more g_is lies'. active_formed here (own_row core ops layout number past row) own level (suc number) number (past || core.is_root number) g from' (subst (λ (n : ℕ). IsGoodTree core root level (past || core.is_root number) (suc n) own) (sym tree.0) tree.4) owned.0 (omega (arith, tree.0, below)) (own_row_for number past inside row tree.2 row_for) (own_row_is number past inside row less good.past_is tree.2 row_for) more g_is lies'))))
       (λ r. active_formed here row rest above (suc (index + size own)) owner inside guard (from + length (first from).widths) tree.5 owned.1 (omega (arith, below)) row_for own_is (omega (arith, low)) (on_later from (from + length (first from).widths) guard (omega arith) is) r)
     where
       by : (b : Bool) (g : Expr) (base : ℕ) → layout.lasting ≤ base → IsOn base g → Lies p.temps base (cond b (occurrence core ops layout number past row g (active core ops layout here (own_row core ops layout number past row) g own)) (recorded core ops layout number g) base).widths

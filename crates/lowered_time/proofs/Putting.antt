@@ -1,17 +1,17 @@
 -- What the parts of an edge put behind a draft, from what each of their pieces puts there.
-use Rattle.std.proofs.Common.{◌≡◌, ℕ, suc, ◌<◌, Bool, true, false, cond, [], ◌∷◌, ◌++◌, Option, None, Some, refl, sym, ap, ◌∙◌, subst, arith, nat_eq}
+use Rattle.std.proofs.Common.{◌≡◌, ℕ, suc, ◌<◌, Bool, true, false, ◌&&◌, cond, [], ◌∷◌, ◌++◌, Option, None, Some, refl, sym, ap, ◌∙◌, subst, arith, nat_eq}
 use Rattle.std.specs.Prelude.{Result, Ok, Err, OnOk}
 use Rattle.std.specs.Option.{option_map}
 use Rattle.std.proofs.lemmas.Bool.{both_ways, ne_eqb}
 use Rattle.step_program.specs.Programs.{Expr, Temp, ToTemp}
 use Rattle.step_pieces.specs.declared.drafts.Draft.{Draft}
 use Rattle.step_pieces.specs.declared.leaves.Leaf.{Leaf}
-use Rattle.step_pieces.specs.Pieces.{Builder, behind, always}
+use Rattle.step_pieces.specs.Pieces.{Builder, always}
 use Rattle.step_pieces.specs.Drafts.{leaf_tree}
 use Rattle.pipeline_time.specs.Acts.{Acts, Done, Act, When, size}
 use Rattle.pipeline_time.specs.Cores.{Core}
-use Rattle.lowered_time.specs.Pieces.{steps, chain, bind, given, holding, both, none}
-use Rattle.lowered_time.specs.Building.{Operations, Layout, taken_at, slot_at, open_at, own_row, chosen, slotted, rooted, recorded, occurrence, active, waits, due, turn_of, controls, stage_word, turn, turns, main_run, bit_ends, set_place, next_bit, next_word, ends, edge}
+use Rattle.lowered_time.specs.Pieces.{nothing, steps, chain, bind, given, holding, both, none}
+use Rattle.lowered_time.specs.Building.{Operations, Layout, taken_at, slot_at, open_at, own_row, chosen, slotted, rooted, recorded, occurrence, is_idle, active, waits, due, turn_of, controls, stage_word, turn, turns, main_run, bit_ends, set_place, next_bit, next_word, ends}
 use Rattle.lowered_time.specs.Code.{Adds, Makes}
 use Rattle.lowered_time.proofs.Adding.{adds_nothing, adds_chain, adds_bind, adds_steps, adds_three}
 
@@ -81,14 +81,37 @@ module _ {R M : Type 0} (core : Core R M) (ops : Operations) (layout : Layout) w
     abbrev used : ℕ → ℕ → Bool → Acts → Expr → Builder
     used number level past own x = cond (nat_eq level here) (occurrence core ops layout number past row x (items_of number past own x)) (recorded core ops layout number x)
 
-    pub item_here : (number level : ℕ) (past : Bool) (own rest : Acts) (own_part : Option ℕ) (a b c d e : Draft) (x y : Leaf) → nat_eq level here ≡ true
+    -- an item: its own piece, where it isn't idle, and what follows it
+    item_goes : (number level : ℕ) (past : Bool) (own rest : Acts) (a b c d : Draft) (x : Leaf) → (nat_eq level here && is_idle core ops layout number own) ≡ false
+        → Makes (chosen core ops layout number past row guard) a b x
+        → Adds (used number level past own (leaf_tree x)) b c
+        → Adds (active core ops layout here row guard rest) c d
+        → Adds (active core ops layout here row guard (Act number level past own rest)) a d
+    item_goes number level past own rest a b c d x busy made put others =
+        let one = bind (chosen core ops layout number past row guard) (used number level past own) in
+        adds_chain (cond (nat_eq level here && is_idle core ops layout number own) nothing one) (active core ops layout here row guard rest) a c d
+        (subst (λ (t : Bool). Adds (cond t nothing one) a c) (sym busy)
+        (adds_bind (chosen core ops layout number past row guard) (used number level past own) a b c x made put))
+        others
+
+    -- an idle item that would run here takes no steps
+    pub item_idle : (number level : ℕ) (past : Bool) (own rest : Acts) (a b : Draft) → (nat_eq level here && is_idle core ops layout number own) ≡ true
+        → Adds (active core ops layout here row guard rest) a b
+        → Adds (active core ops layout here row guard (Act number level past own rest)) a b
+    item_idle number level past own rest a b idle others =
+        let one = bind (chosen core ops layout number past row guard) (used number level past own) in
+        adds_chain (cond (nat_eq level here && is_idle core ops layout number own) nothing one) (active core ops layout here row guard rest) a a b
+        (subst (λ (t : Bool). Adds (cond t nothing one) a a) (sym idle) (adds_nothing a))
+        others
+
+    pub item_here : (number level : ℕ) (past : Bool) (own rest : Acts) (own_part : Option ℕ) (a b c d e : Draft) (x y : Leaf) → nat_eq level here ≡ true → (nat_eq level here && is_idle core ops layout number own) ≡ false
         → own_part ≡ mine number past → y ≡ x
         → Makes (chosen core ops layout number past row guard) a b x
         → Adds (chain (rooted core ops layout (core.is_root number) (leaf_tree y)) (ops.behavior number own_part (leaf_tree y))) b c
         → Adds (active core ops layout here own_part (leaf_tree y) own) c d
         → Adds (active core ops layout here row guard rest) d e
         → Adds (active core ops layout here row guard (Act number level past own rest)) a e
-    item_here number level past own rest own_part a b c d e x y same is_row is_guard made begun items others =
+    item_here number level past own rest own_part a b c d e x y same busy is_row is_guard made begun items others =
         let put =
         begun_with number own_part (leaf_tree y) (active core ops layout here own_part (leaf_tree y) own) b c d begun items
         in
@@ -96,9 +119,8 @@ module _ {R M : Type 0} (core : Core R M) (ops : Operations) (layout : Layout) w
         subst (λ (r : Option ℕ). Adds (chain (rooted core ops layout (core.is_root number) (leaf_tree y)) (chain (ops.behavior number r (leaf_tree y)) (active core ops layout here r (leaf_tree y) own))) b d) is_row put
         in
         let guard_put = subst (λ (g : Leaf). Adds (occurrence core ops layout number past row (leaf_tree g) (items_of number past own (leaf_tree g))) b d) is_guard row_put in
-        adds_chain (bind (chosen core ops layout number past row guard) (used number level past own)) (active core ops layout here row guard rest) a d e
-        (adds_bind (chosen core ops layout number past row guard) (used number level past own) a b d x made
-        (subst (λ (t : Bool). Adds (cond t (occurrence core ops layout number past row (leaf_tree x) (items_of number past own (leaf_tree x))) (recorded core ops layout number (leaf_tree x))) b d) (sym same) guard_put))
+        item_goes number level past own rest a b d e x busy made
+        (subst (λ (t : Bool). Adds (cond t (occurrence core ops layout number past row (leaf_tree x) (items_of number past own (leaf_tree x))) (recorded core ops layout number (leaf_tree x))) b d) (sym same) guard_put)
         others
 
     pub item_later : (number level : ℕ) (past : Bool) (own rest : Acts) (a b c d : Draft) (x : Leaf) → nat_eq level here ≡ false
@@ -106,10 +128,9 @@ module _ {R M : Type 0} (core : Core R M) (ops : Operations) (layout : Layout) w
         → Adds (recorded core ops layout number (leaf_tree x)) b c
         → Adds (active core ops layout here row guard rest) c d
         → Adds (active core ops layout here row guard (Act number level past own rest)) a d
-    item_later number level past own rest a b c d x same made noted others =
-        adds_chain (bind (chosen core ops layout number past row guard) (used number level past own)) (active core ops layout here row guard rest) a c d
-        (adds_bind (chosen core ops layout number past row guard) (used number level past own) a b c x made
-        (subst (λ (t : Bool). Adds (cond t (occurrence core ops layout number past row (leaf_tree x) (items_of number past own (leaf_tree x))) (recorded core ops layout number (leaf_tree x))) b c) (sym same) noted))
+    item_later number level past own rest a b c d x later made noted others =
+        item_goes number level past own rest a b c d x (ap (λ (t : Bool). t && is_idle core ops layout number own) later) made
+        (subst (λ (t : Bool). Adds (cond t (occurrence core ops layout number past row (leaf_tree x) (items_of number past own (leaf_tree x))) (recorded core ops layout number (leaf_tree x))) b c) (sym later) noted)
         others
 
     abbrev branches : Acts → Acts → Expr → Builder

@@ -14,9 +14,9 @@ use Rattle.pipeline_time.specs.Cores.{Core, above_of, is_past}
 use Rattle.pipeline_time.specs.Running.{Activation, Running, word_below, own_word, behavior, activate, run}
 use Rattle.pipeline_time.specs.Edges.{word_in}
 use Rattle.pipeline_time.proofs.Tree.{IsGoodTree}
-use Rattle.step_pieces.specs.Pieces.{Builder, always}
+use Rattle.step_pieces.specs.Pieces.{Piece, Builder, always}
 use Rattle.lowered_time.specs.Pieces.{Made, nothing, steps, chain, bind, given, both, none, holding}
-use Rattle.lowered_time.specs.Building.{Operations, Layout, taken_at, slot_at, recorded_at, time_temps, root_row, own_row, chosen, slotted, rooted, recorded, occurrence, active}
+use Rattle.lowered_time.specs.Building.{Operations, Layout, taken_at, slot_at, recorded_at, time_temps, root_row, own_row, chosen, slotted, rooted, recorded, occurrence, is_idle, active}
 use Rattle.lowered_time.specs.Lowering.{bit, IsGuard, no_guard, held_guard, Meant, RowHas, Runs, IsPart, IsOwned, AreLowered, Agrees, HasRowWord, IsWordOf}
 use Rattle.lowered_time.proofs.Base.{both_is, none_is, ran_append}
 use Rattle.lowered_time.proofs.Went.{with_temp, go, val, was_recorded, Recording, Tied, IsRowKept, Went, went_wider, went_here, went_chain, went_bind, guard_kept, guard_wider, row_kept, went_part, unseen_temp, went_holding, holding_is}
@@ -259,6 +259,11 @@ module _ {R M A B C D E : Type 0} (core : Core R M) (ops : Operations) (layout :
       (begun_made number word before' ∙ sym made) (begun_first number word before' ∙ sym first) (begun_slot b number word before' is ∙ sym slot)
       (λ r w kept h. k.rows r w tt h)
 
+  -- what isn't past the root has no word
+  row_below : (past : Bool) (row : Option ℕ) (word : ℕ) (lane : Moment) → (past ≡ true → RowHas meant row word lane) → RowHas meant (cond past row None) (word_below past word) lane
+  row_below true row word lane has = has refl
+  row_below false row word lane has = refl
+
   -- what its items do, under the guard
   abbrev ItemsRun : Builder → ℕ → Expr → ℕ → Option ℕ → ℕ → Running M → Running M → Type 0
   ItemsRun items from guard number row word begun end =
@@ -309,7 +314,7 @@ module _ {R M A B C D E : Type 0} (core : Core R M) (ops : Operations) (layout :
       let mine = word_below past word in
       let guard1 = guard_wider core ops layout p meant root before pins from base guard (omega arith) guarded in
       let begun = behavior core number mine now in
-      let has' : RowHas meant (cond past row None) mine lane = row_below past has in
+      let has' : RowHas meant (cond past row None) mine lane = row_below past row word lane has in
       let went2 = behavior_went false base number mine (cond past row None) guard now now lane is refl refl refl refl (omega (arith, low)) placed3 guard1 tied on has' runs in
       let lane2 = G behave_piece.moves lane in
       let on2 = guard_kept core ops layout p meant root before pins base number begun lane lane2 guard guard1 went2 ∙ on in
@@ -319,13 +324,25 @@ module _ {R M A B C D E : Type 0} (core : Core R M) (ops : Operations) (layout :
       (went_chain core ops layout p meant root before pins base number begun end (ops.behavior number (cond past row None) guard) items lane went2
       (went_wider core ops layout p meant root before pins base' base' number (suc number) end lane2 (G rest.moves lane2) (omega arith) (omega arith) went3))
     where
-      row_below : (b : Bool) → (b ≡ true → RowHas meant row word lane) → RowHas meant (cond b row None) (word_below b word) lane
-      row_below true h = h refl
-      row_below false h = refl
-
       has_after : (o : Option ℕ) (w : ℕ) (m : Moment) → RowHas meant o w lane → ((r w' : ℕ) → Unit {0} → HasRowWord meant r w' lane → HasRowWord meant r w' m) → RowHas meant o w m
       has_after None w m h kept = h
       has_after (Some r) w m h kept = kept r w tt h
+
+  -- An idle occurrence does nothing in the core: it does there what its BEHAVIOR does under no guard, which takes no steps.
+  idle_went : (b : Bool) (from index number word : ℕ) (past : Bool) (row : Option ℕ) (now : Running M) (lane : Moment) → core.is_root number ≡ b → ops.idle number ≡ true
+      → layout.lasting ≤ from → from ≤ length p.temps → T now lane → index ≤ number
+      → (past ≡ true → RowHas meant row word lane) → Runs core ops layout p meant number (row_by b past row) (word_by b past word now)
+      → W from index (behavior core number (word_by b past word now) now) lane lane
+  idle_went true from index number word past row now lane is idle low room tied few has runs = absurd (both_ways (core.is_root number) (lowered.idles number idle).0 is)
+  idle_went false from index number word past row now lane is idle low room tied few has runs =
+      let own = cond past row None in
+      let mine = word_below past word in
+      let none : ops.behavior number own always from ≡ nothing from = (lowered.idles number idle).1 own always from in
+      let placed : Lies p.temps from (ops.behavior number own always from).widths =
+      subst (λ (a : Piece). Lies p.temps from a.widths) (sym none) (record { room = omega (arith, room); at = λ k below. absurd (omega (arith, below)) }) in
+      let went = behavior_went false from number mine own always now now lane is refl refl refl refl low placed no_guard tied refl (row_below past row word lane has) runs in
+      went_wider core ops layout p meant root before pins from from index number (behavior core number mine now) lane lane (omega arith) few
+      (subst (λ (a : Piece). W from number (behavior core number mine now) lane (G a.moves lane)) none went)
 
   -- nothing of an occurrence under a guard that is 0
   abbrev ItemsRest : Builder → ℕ → Expr → ℕ → Running M → Type 0
@@ -456,6 +473,19 @@ module _ {R M A B C D E : Type 0} (core : Core R M) (ops : Operations) (layout :
   abbrev item_by : Bool → ℕ → ℕ → Bool → Option ℕ → Acts → Expr → Builder
   item_by same here number past row own guard = cond same (occurrence core ops layout number past row guard (active core ops layout here (own_row core ops layout number past row) guard own)) (recorded core ops layout number guard)
 
+  -- an item under the guard of its activator
+  abbrev item_of : ℕ → ℕ → ℕ → Bool → Option ℕ → Acts → Expr → Builder
+  item_of here number level past row own guard =
+      cond (nat_eq level here && is_idle core ops layout number own) nothing
+      (bind (chosen core ops layout number past row guard) (λ (g : Expr). item_by (nat_eq level here) here number past row own g))
+
+  -- what takes no steps where it is idle
+  idle_either : (idle : Bool) (f : Builder) (from index : ℕ) (now : Running M) (lane : Moment) → Lies p.temps from (cond idle nothing f from).widths
+      → (idle ≡ true → W from index now lane lane) → (Lies p.temps from (f from).widths → W from index now lane (G (f from).moves lane))
+      → W from index now lane (G (cond idle nothing f from).moves lane)
+  idle_either true f from index now lane placed still goes = still refl
+  idle_either false f from index now lane placed still goes = goes placed
+
   -- ---- nothing under a guard that is 0
 
   item_rests : (same : Bool) (from index here number : ℕ) (past : Bool) (row : Option ℕ) (own : Acts) (guard : Expr) (now : Running M) (lane : Moment) → layout.lasting ≤ from → Lies p.temps from (item_by same here number past row own guard from).widths → IsGuard p layout from guard → T now lane → V lane guard ≡ 0 → index ≤ number
@@ -473,14 +503,18 @@ module _ {R M A B C D E : Type 0} (core : Core R M) (ops : Operations) (layout :
       let choose = chosen core ops layout number past row guard in
       let c = choose from in
       let same = nat_eq level here in
-      let user = λ (g : Expr). cond same (occurrence core ops layout number past row g (active core ops layout here (own_row core ops layout number past row) g own)) (recorded core ops layout number g) in
-      let first = bind choose user in
+      let user = λ (g : Expr). item_by same here number past row own g in
+      let first = item_of here number level past row own guard in
       let base = from + length c.piece.widths in
-      let item = item_by same here number past row own c.out base in
+      let item = user c.out base in
       let base' = from + length (first from).widths in
       let after = items_of here row guard rest base' in
-      let placed1 = lies_left p.temps from (c.piece.widths ++ item.widths) after.widths placed in
-      let placed2 = lies_right p.temps from (c.piece.widths ++ item.widths) after.widths placed in
+      let placed1 = lies_left p.temps from (first from).widths after.widths placed in
+      let placed2 = lies_right p.temps from (first from).widths after.widths placed in
+      let went1 : W from index now lane (G (first from).moves lane) =
+      idle_either (same && is_idle core ops layout number own) (bind choose user) from index now lane placed1
+      (λ idle. went_here core ops layout p meant root before pins from index now lane tied)
+      (λ placed1.
       let placed3 = lies_left p.temps from c.piece.widths item.widths placed1 in
       let placed4 = lies_right p.temps from c.piece.widths item.widths placed1 in
       let choice = chosen_off from number number past row guard now lane low placed3 guarded tied off in
@@ -488,9 +522,8 @@ module _ {R M A B C D E : Type 0} (core : Core R M) (ops : Operations) (layout :
       let went2 : W base number now lane1 (G item.moves lane1) =
       item_rests same base number here number past row own c.out now lane1 (omega (arith, low)) placed4 choice.guarded choice.went.tied choice.is (omega arith)
       (λ from' lane' more placed' tied' off'. active_rests here (own_row core ops layout number past row) own level from' (suc number) (past || core.is_root number) c.out now lane' (subst (λ (n : ℕ). IsGoodTree core root level (past || core.is_root number) (suc n) own) (sym tree.0) tree.4) (omega (arith, low, more)) placed' (guard_wider core ops layout p meant root before pins base from' c.out more choice.guarded) tied' off') in
-      let went1 : W from index now lane (G (first from).moves lane) =
-      went_wider core ops layout p meant root before pins from from index number now lane (G (first from).moves lane) (omega arith) (omega (arith, tree.0))
-      (went_bind core ops layout p meant root before pins from number now now choose user lane choice.went went2) in
+      went_wider core ops layout p meant root before pins from from index number now lane (G (bind choose user from).moves lane) (omega arith) (omega (arith, tree.0))
+      (went_bind core ops layout p meant root before pins from number now now choose user lane choice.went went2)) in
       went_chain core ops layout p meant root before pins from index now now first (items_of here row guard rest) lane went1
       (went_wider core ops layout p meant root before pins base' base' index (suc (index + size own)) now (G (first from).moves lane) (G after.moves (G (first from).moves lane)) (omega arith) (omega arith)
       (active_rests here row rest above base' (suc (index + size own)) inside guard now (G (first from).moves lane) tree.5 (omega (arith, low)) placed2 (guard_wider core ops layout p meant root before pins from base' guard (omega arith) guarded) went1.tied
@@ -603,6 +636,18 @@ module _ {R M A B C D E : Type 0} (core : Core R M) (ops : Operations) (layout :
   item_either true same from index here number word past row own guard now lane low placed guarded tied is few taking leaving = taking refl
   item_either false same from index here number word past row own guard now lane low placed guarded tied is few taking leaving = leaving refl
 
+  -- an item that takes no steps
+  idle_runs : (on same : Bool) (from index here number word : ℕ) (past : Bool) (row : Option ℕ) (own : Acts) (now : Running M) (lane : Moment) → (same && is_idle core ops layout number own) ≡ true
+      → layout.lasting ≤ from → from ≤ length p.temps → T now lane → index ≤ number → (past ≡ true → RowHas meant row word lane)
+      → (on ≡ true → Runs core ops layout p meant number (own_row core ops layout number past row) (own_word core number past word now))
+      → W from index (cond on (then_by same here number past word own now) now) lane lane
+  idle_runs false same from index here number word past row own now lane idle low room tied few has runs = went_here core ops layout p meant root before pins from index now lane tied
+  idle_runs true false from index here number word past row own now lane idle low room tied few has runs = absurd (both_ways false refl idle)
+  idle_runs true true from index here number word past row Done now lane idle low room tied few has runs =
+      idle_went (core.is_root number) from index number word past row now lane refl idle low room tied few has (runs refl)
+  idle_runs true true from index here number word past row (Act a b c d e) now lane idle low room tied few has runs = absurd (both_ways false refl idle)
+  idle_runs true true from index here number word past row (When a b c d e) now lane idle low room tied few has runs = absurd (both_ways false refl idle)
+
   branch_either : (on : Bool) (from index : ℕ) (first second : Builder) (now a b : Running M) (lane : Moment)
       → (on ≡ true → W from index a lane (G (chain first second from).moves lane)) → (on ≡ false → W from index b lane (G (chain first second from).moves lane))
       → W from index (cond on a b) lane (G (chain first second from).moves lane)
@@ -619,39 +664,43 @@ module _ {R M A B C D E : Type 0} (core : Core R M) (ops : Operations) (layout :
       let choose = chosen core ops layout number past row guard in
       let c = choose from in
       let same = nat_eq level here in
-      let user = λ (g : Expr). cond same (occurrence core ops layout number past row g (active core ops layout here (own_row core ops layout number past row) g own)) (recorded core ops layout number g) in
-      let first = bind choose user in
+      let user = λ (g : Expr). item_by same here number past row own g in
+      let first = item_of here number level past row own guard in
       let base = from + length c.piece.widths in
-      let item = item_by same here number past row own c.out base in
+      let item = user c.out base in
       let base' = from + length (first from).widths in
       let after = items_of here row guard rest base' in
-      let placed1 = lies_left p.temps from (c.piece.widths ++ item.widths) after.widths placed in
-      let placed2 = lies_right p.temps from (c.piece.widths ++ item.widths) after.widths placed in
+      let placed1 = lies_left p.temps from (first from).widths after.widths placed in
+      let placed2 = lies_right p.temps from (first from).widths after.widths placed in
+      let less : number < suc (size core.acts) = omega (arith, tree.0, below) in
+      let on_chosen = core.chooses number word in
+      let up : (r : ℕ) → row ≡ Some r → Kept number r = λ r e is. let k = row_for.1 r e is in omega (arith, k, tree.0) in
+      let mine_runs = λ (chosen_is : on_chosen ≡ true).
+      own_runs number word past row now (core.is_root number) refl less good.past_is (not_root number past inside tree.2 tree.3) (λ is. (good.chosen is word chosen_is, chosen_is)) (λ is. ap is_some (row_for.0 (tree.2 is)).1) in
+      let middle = cond on_chosen (then_by same here number past word own now) now in
+      let went1 : W from index middle lane (G (first from).moves lane) =
+      idle_either (same && is_idle core ops layout number own) (bind choose user) from index middle lane placed1
+      (λ idle. idle_runs on_chosen same from index here number word past row own now lane idle low (let r = placed1.room in omega (arith, r)) tied (omega (arith, tree.0)) (λ is. has) mine_runs)
+      (λ placed1.
       let placed3 = lies_left p.temps from c.piece.widths item.widths placed1 in
       let placed4 = lies_right p.temps from c.piece.widths item.widths placed1 in
-      let less : number < suc (size core.acts) = omega (arith, tree.0, below) in
       let choice = chosen_on from number number word past row guard now lane low placed3 guarded tied on less good.past_is (λ is. row_for.0 (tree.2 is)) has in
-      let on_chosen = core.chooses number word in
       let lane1 = G c.piece.moves lane in
-      let up : (r : ℕ) → row ≡ Some r → Kept number r = λ r e is. let k = row_for.1 r e is in omega (arith, k, tree.0) in
       let has1 : RowHas meant row word lane1 = row_kept core ops layout p meant root before pins from number now lane lane1 row word up choice.went has in
       let taking = λ (chosen_is : on_chosen ≡ true).
-      let mine_runs = own_runs number word past row now (core.is_root number) refl less good.past_is (not_root number past inside tree.2 tree.3) (λ is. (good.chosen is word chosen_is, chosen_is)) (λ is. ap is_some (row_for.0 (tree.2 is)).1) in
-      item_runs same base number here number word past row own c.out now lane1 (omega (arith, low)) placed4 choice.guarded choice.went.tied (choice.is ∙ ap bit chosen_is) (omega arith) good.above_is (λ is. has1) up mine_runs
+      item_runs same base number here number word past row own c.out now lane1 (omega (arith, low)) placed4 choice.guarded choice.went.tied (choice.is ∙ ap bit chosen_is) (omega arith) good.above_is (λ is. has1) up (mine_runs chosen_is)
       (λ same_is from' lane' more placed' tied' on' has'.
       let level_is : level ≡ here = eqb-true level here same_is in
       active_runs here (own_row core ops layout number past row) own from' (suc number) number (own_word core number past word now) (past || core.is_root number) c.out (behavior core number (own_word core number past word now) now) lane'
       (subst (λ (l : ℕ). IsGoodTree core root l (past || core.is_root number) (suc number) own) level_is (subst (λ (n : ℕ). IsGoodTree core root level (past || core.is_root number) (suc n) own) (sym tree.0) tree.4))
       owned.0 (omega (arith, tree.0, below)) (omega (arith, low, more)) placed' (guard_wider core ops layout p meant root before pins base from' c.out more choice.guarded) tied' on'
-      (own_row_for number index past inside row (core.is_root number) refl tree.2 (omega (arith, tree.0)) row_for) has' mine_runs) in
+      (own_row_for number index past inside row (core.is_root number) refl tree.2 (omega (arith, tree.0)) row_for) has' (mine_runs chosen_is)) in
       let leaving = λ (chosen_is : on_chosen ≡ false).
       item_rests same base number here number past row own c.out now lane1 (omega (arith, low)) placed4 choice.guarded choice.went.tied (choice.is ∙ ap bit chosen_is) (omega arith)
       (λ from' lane' more placed' tied' off'. active_rests here (own_row core ops layout number past row) own level from' (suc number) (past || core.is_root number) c.out now lane' (subst (λ (n : ℕ). IsGoodTree core root level (past || core.is_root number) (suc n) own) (sym tree.0) tree.4) (omega (arith, low, more)) placed' (guard_wider core ops layout p meant root before pins base from' c.out more choice.guarded) tied' off') in
-      let middle = cond on_chosen (then_by same here number past word own now) now in
       let went2 : W base number middle lane1 (G item.moves lane1) = item_either on_chosen same base number here number word past row own c.out now lane1 (omega (arith, low)) placed4 choice.guarded choice.went.tied choice.is (omega arith) taking leaving in
-      let went1 : W from index middle lane (G (first from).moves lane) =
-      went_wider core ops layout p meant root before pins from from index number middle lane (G (first from).moves lane) (omega arith) (omega (arith, tree.0))
-      (went_bind core ops layout p meant root before pins from number now middle choose user lane choice.went went2) in
+      went_wider core ops layout p meant root before pins from from index number middle lane (G (bind choose user from).moves lane) (omega arith) (omega (arith, tree.0))
+      (went_bind core ops layout p meant root before pins from number now middle choose user lane choice.went went2)) in
       went_chain core ops layout p meant root before pins from index middle (run core here word rest middle) first (items_of here row guard rest) lane went1
       (went_wider core ops layout p meant root before pins base' base' index (suc (index + size own)) (run core here word rest middle) (G (first from).moves lane) (G after.moves (G (first from).moves lane)) (omega arith) (omega arith)
       (active_runs here row rest base' (suc (index + size own)) owner word inside guard middle (G (first from).moves lane) tree.5 owned.1 (omega (arith, below)) (omega (arith, low)) placed2 (guard_wider core ops layout p meant root before pins from base' guard (omega arith) guarded) went1.tied

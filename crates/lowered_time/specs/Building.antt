@@ -1,5 +1,5 @@
 -- The steps of an edge: which parts there are for what a core has, and in which order. On the way to the program: nothing here needs to be trusted.
-use Rattle.std.specs.Prelude.{ℕ, zero, suc, ◌+◌, ◌++◌, Bool, true, false, List, [], ◌∷◌, Option, None, Some, cond, nat_eq}
+use Rattle.std.specs.Prelude.{ℕ, zero, suc, ◌+◌, ◌++◌, ◌&&◌, Bool, true, false, List, [], ◌∷◌, Option, None, Some, cond, nat_eq}
 use Rattle.std.specs.Option.{option_map}
 use Rattle.step_program.specs.Programs.{Expr, Const, Before, Temp, Choose, ToItem, ToTemp, Move}
 use Rattle.pipeline_time.specs.Acts.{Acts, Done, Act, When, size}
@@ -11,6 +11,8 @@ use Rattle.lowered_time.specs.Pieces.{Maker, nothing, steps, chain, bind, given,
 pub record Operations : Type 0 where
   -- the BEHAVIOR of an occurrence, with the word of a row, where the guard isn't 0
   pub behavior : ℕ → Option ℕ → Expr → Builder
+  -- whether an occurrence isn't the root, and has no BEHAVIOR that does anything
+  pub idle : ℕ → Bool
   -- the condition of an `if` of an occurrence
   pub condition : ℕ → ℕ → Option ℕ → Maker
   -- the word that the root takes
@@ -98,13 +100,20 @@ module _ {R M : Type 0} (core : Core R M) where
     abbrev pub occurrence : ℕ → Bool → Option ℕ → Expr → Builder → Builder
     occurrence number past row guard items = chain (rooted (core.is_root number) guard) (chain (ops.behavior number (own_row number past row) guard) items)
 
-    -- the items under an activator that runs at this level, where the guard isn't 0
+    -- an occurrence with nothing to do and no items
+    abbrev pub is_idle : ℕ → Acts → Bool
+    is_idle number Done = ops.idle number
+    is_idle number (Act _ _ _ _ _) = false
+    is_idle number (When _ _ _ _ _) = false
+
+    -- the items under an activator that runs at this level, where the guard isn't 0; an idle one that would run there takes no steps
     abbrev pub active : ℕ → Option ℕ → Expr → Acts → Builder
     active here row guard Done = nothing
     active here row guard (Act number level past own rest) =
         chain
+        (cond (nat_eq level here && is_idle number own) nothing
         (bind (chosen number past row guard) (λ chosen.
-        cond (nat_eq level here) (occurrence number past row chosen (active here (own_row number past row) chosen own)) (recorded number chosen)))
+        cond (nat_eq level here) (occurrence number past row chosen (active here (own_row number past row) chosen own)) (recorded number chosen))))
         (active here row guard rest)
     active here row guard (When number test taken other rest) =
         chain

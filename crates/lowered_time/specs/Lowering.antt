@@ -11,6 +11,7 @@ use Rattle.pipeline_time.specs.Edges.{is_held, is_flushed}
 use Rattle.pipeline_time.specs.Bits.{Hardware}
 use Rattle.step_pieces.specs.Pieces.{Piece, always}
 use Rattle.step_pieces.specs.Running.{ran}
+use Rattle.lowered_time.specs.Pieces.{nothing}
 use Rattle.lowered_time.specs.Building.{Operations, Layout, held_at, open_at, time_temps}
 
 abbrev pub bit : Bool → ℕ
@@ -141,6 +142,9 @@ module _ {R M A B C D E : Type 0} (core : Core R M) (ops : Operations) (layout :
     pub rests : (number : ℕ) (row : Option ℕ) (guard : Expr) (from : ℕ) (before pins : List ℕ) (m : M) (now : Moment)
         → IsPart from (ops.behavior number row guard from).widths before pins m now → IsGuard p layout from guard → value p before pins now guard ≡ 0
         → Does from (ops.behavior number row guard from) before pins m now
+    -- what is idle isn't the root, and its BEHAVIOR takes no steps
+    pub idles : (number : ℕ) → ops.idle number ≡ true
+        → (core.is_root number ≡ false) × ((row : Option ℕ) (guard : Expr) (from : ℕ) → ops.behavior number row guard from ≡ nothing from)
     -- conditions
     pub condition_is : (number test : ℕ) (row : Option ℕ) (from : ℕ) (before pins : List ℕ) (m : M) (now : Moment) (word : ℕ)
         → IsPart from (ops.condition number test row from).piece.widths before pins m now → RowHas meant row word now → Runs number row word

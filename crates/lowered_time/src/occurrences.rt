@@ -1,13 +1,13 @@
 //! Occurrences and their items, under guards.
 
-ghost use Rattle.std.specs.Prelude.{◌≡◌, ◌≤◌, [], ◌∷◌, Some, IfOk, OnOk};
+ghost use Rattle.std.specs.Prelude.{◌≡◌, ◌≤◌, ◌&&◌, [], ◌∷◌, nat_eq, Some, IfOk, OnOk};
 ghost use Rattle.step_program.specs.Programs.{ToTemp, expr_tree};
 ghost use Rattle.step_pieces.specs.Pieces.{always};
 ghost use Rattle.step_pieces.specs.Drafts.{leaf_tree};
 ghost use Rattle.pipeline_runs.specs.Runs.{acts_of};
 ghost use Rattle.pipeline_runs.specs.Turns.{IsPlanOf};
 ghost use Rattle.lowered_time.specs.Pieces.{chain, holding, both, none};
-ghost use Rattle.lowered_time.specs.Building.{own_row, chosen, slotted, rooted, recorded, occurrence, active};
+ghost use Rattle.lowered_time.specs.Building.{own_row, chosen, slotted, rooted, recorded, occurrence, is_idle, active};
 ghost use Rattle.lowered_time.specs.Code.{Adds, Makes};
 
 use crate::expressions::{always, both, none};
@@ -146,8 +146,25 @@ fn record<P: Parts>(
     give(guard, temp, always().expression(), draft)
 }
 
-/// The items under an activator that runs at a level: those of that level with all that they lead to there, and those of another level
-/// are recorded.
+// Whether an occurrence has neither anything to do nor items.
+fn is_idle<P: Parts>(parts: &P, number: u32, own: &Tree) -> bool
+    ensures { result ≡ is_idle (P.core parts.now) (P.operations parts.now) (P.layout parts.now) number (acts_of own.now) }
+{
+    match own {
+        Tree::Nothing => parts.is_idle(number),
+        Tree::Item(..) | Tree::If(..) => false,
+    }
+}
+
+// Whether an item takes no steps: an idle one that would run at this level.
+fn is_left_out<P: Parts>(parts: &P, here: u8, number: u32, level: u8, own: &Tree) -> bool
+    ensures { result ≡ (nat_eq level here && is_idle (P.core parts.now) (P.operations parts.now) (P.layout parts.now) number (acts_of own.now)) }
+{
+    level == here && is_idle(parts, number, own)
+}
+
+/// The items under an activator that runs at a level: those of that level with all that they lead to there, but for an idle one, which takes
+/// no steps; and those of another level are recorded.
 pub(crate) fn active<P: Parts>(
     alloc: Global,
     parts: &P,
@@ -163,6 +180,9 @@ pub(crate) fn active<P: Parts>(
     match acts {
         Tree::Nothing => Ok(()),
         Tree::Item(number, level, past, own, rest) => {
+            if is_left_out(parts, here, *number, *level, own) {
+                return active(alloc, parts, plan, here, under, rest, draft);
+            }
             let guard = chosen(alloc, parts, *number, *past, under, draft)?;
             if *level == here {
                 let row = under.row;

@@ -42,6 +42,10 @@ pub trait Parts {
     ) -> Result<(), NoMemory>
         ensures { OnOk result (Adds ((operations self.now).behavior number row (leaf_tree guard)) draft.old draft.new) };
 
+    /// Whether an occurrence isn't the root, and has no BEHAVIOR that does anything.
+    fn is_idle(&self, number: u32) -> bool
+        ensures { result ≡ (operations self.now).idle number };
+
     /// The condition of an `if`: whose, its place among that one's, and the row.
     fn condition(
         &self,

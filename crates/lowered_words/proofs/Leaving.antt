@@ -1,5 +1,5 @@
 -- What loads a row leaves all else as it was, and is well formed.
-use Rattle.std.proofs.Common.{◌≡◌, ◌<◌, ◌≤◌, ◌+◌, ◌-◌, ◌++◌, ◌^◌, ◌⊎◌, ℕ, zero, suc, List, [], ◌∷◌, Option, None, Some, length, nat_eq, replicate, refl, sym, ap, ◌∙◌, subst, arith, inl, inr}
+use Rattle.std.proofs.Common.{◌≡◌, ◌<◌, ◌≤◌, ◌+◌, ◌-◌, ◌++◌, ◌^◌, ◌⊎◌, ℕ, zero, suc, Bool, true, false, List, [], ◌∷◌, Option, None, Some, length, nat_eq, replicate, refl, sym, ap, ◌∙◌, subst, arith, inl, inr}
 use Rattle.std.specs.Prelude.{flat_map, slice_index}
 use Rattle.std.specs.List.{AllByRecursion}
 use Rattle.std.proofs.lemmas.Bool.{cond_both}
@@ -23,7 +23,7 @@ use Rattle.step_pieces.proofs.Laid.{all_one, lies_one, set_formed}
 use Rattle.lowered_time.specs.Pieces.{either}
 use Rattle.lowered_words.specs.Ways.{Way, all_ways, way_place, form_ways, plain_forms}
 use Rattle.lowered_words.specs.Rows.{IsWordWidth, form_frame, decoded_at, flag_at, row_size, row_widths}
-use Rattle.lowered_words.specs.Loading.{cleared, raised, flag_raised, way_raised, test, form_loaded, load}
+use Rattle.lowered_words.specs.Loading.{cleared, raised, is_alone, flag_move, flag_raised, way_raised, test, form_loaded, load}
 use Rattle.lowered_words.specs.Laws.{LeavesOthers}
 use Rattle.lowered_words.proofs.Reaching.{place_within}
 use Rattle.lowered_words.proofs.Instructed.{from_filter}
@@ -48,18 +48,23 @@ module _ (d : DescriptionTree) (wide base from : ℕ) (P : Move → Type 0) wher
     pub zeros : (k : ℕ) → decoded_at base ≤ k → k < base + row_size d → P (set_temp k (Const 1 0))
     pub tests : (f : Form) → In f (plain_forms d) → P (set_temp from (test d wide base f))
     pub raises : (k : ℕ) → decoded_at base ≤ k → k < base + row_size d → P (raised from k)
+    pub sets : (k : ℕ) → decoded_at base ≤ k → k < base + row_size d → P (set_temp k (Temp from))
 
   clears : (at count : ℕ) → decoded_at base ≤ at → at + count ≤ base + row_size d → ((k : ℕ) → decoded_at base ≤ k → k < base + row_size d → P (set_temp k (Const 1 0)))
       → AllByRecursion P (cleared at count)
   clears at zero low high each = tt
   clears at (suc count) low high each = (each at low (omega (arith, high)), clears (at + 1) count (omega (arith, low)) (omega (arith, high)) each)
 
-  one_way : (e : Expr) → EachStep e → (w : Way) → AllByRecursion P (way_raised d base from w)
-  one_way e each w = by (way_place d w) refl
+  one_flag : (alone : Bool) (e : Expr) → EachStep e → (k : ℕ) → decoded_at base ≤ k → k < base + row_size d → P (flag_move alone from k)
+  one_flag true e each k low high = each.sets k low high
+  one_flag false e each k low high = each.raises k low high
+
+  one_way : (alone : Bool) (e : Expr) → EachStep e → (w : Way) → AllByRecursion P (way_raised d alone base from w)
+  one_way alone e each w = by (way_place d w) refl
     where
-      by : (o : Option ℕ) → way_place d w ≡ o → AllByRecursion P (flag_raised base from o)
+      by : (o : Option ℕ) → way_place d w ≡ o → AllByRecursion P (flag_raised alone base from o)
       by None is = tt
-      by (Some place) is = (each.raises (flag_at base place) (omega arith) (let low = place_within d w place is in omega (arith, low)), tt)
+      by (Some place) is = (one_flag alone e each (flag_at base place) (omega arith) (let low = place_within d w place is in omega (arith, low)), tt)
 
   pub all_steps : (e : Expr) → EachStep e → AllByRecursion P (load d wide base e from).moves
   all_steps e each = (
@@ -68,7 +73,7 @@ module _ (d : DescriptionTree) (wide base from : ℕ) (P : Move → Type 0) wher
         (clears (decoded_at base) (1 + length (all_ways d)) (omega arith) (omega arith) each.zeros)
         (each_flat P (form_loaded d wide base from) (plain_forms d) (λ f i. (
           each.tests f i,
-          (each.raises (decoded_at base) (omega arith) (omega arith), each_flat P (way_raised d base from) (form_ways d f) (λ w j. one_way e each w)),
+          (each.raises (decoded_at base) (omega arith) (omega arith), each_flat P (way_raised d (is_alone d f) base from) (form_ways d f) (λ w j. one_way (is_alone d f) e each w)),
         ))),
   )
 
@@ -140,6 +145,7 @@ module _ (d : DescriptionTree) (p : Program) (before pins : List ℕ) (base from
         zeros = λ k low high. inl (omega (arith, low), high);
         tests = λ f i. inr refl;
         raises = λ k low high. inl (omega (arith, low), high);
+        sets = λ k low high. inl (omega (arith, low), high);
       }))
 
 -- ---- well formed
@@ -205,6 +211,11 @@ module _ (d : DescriptionTree) (wide : ℕ) (p : Program) (sized : IsWordWidth d
       let is = row.flags k low high in
       set_formed p k 1 (either (Temp k) (Temp from)) one_bit at is (at, there, is ∙ sym scratch) is (omega arith)
 
+  set_one : (k : ℕ) → decoded_at base ≤ k → k < base + row_size d → IsStep p (set_temp k (Temp from))
+  set_one k low high =
+      let room = row.room in
+      set_formed p k 1 (Temp from) one_bit (omega (arith, room, high)) (row.flags k low high) there scratch (omega arith)
+
   pub load_formed : (e : Expr) → IsFit p e → width p e ≡ wide → expr_depth e ≤ 8 → IsPiece p (load d wide base e from)
   load_formed e fits is low =
       let room = row.room in
@@ -216,5 +227,6 @@ module _ (d : DescriptionTree) (wide : ℕ) (p : Program) (sized : IsWordWidth d
               zeros = λ k h l. set_formed p k 1 (Const 1 0) one_bit (omega (arith, room, l)) (row.flags k h l) (one_bit, omega arith) refl (omega arith);
               tests = test_formed;
               raises = raise_formed;
+              sets = set_one;
             }));
       }

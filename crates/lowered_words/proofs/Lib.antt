@@ -4,6 +4,7 @@ pub mod Agreeing
 pub mod Reaching
 pub mod Choices
 pub mod Instructed
+pub mod Alone
 pub mod Loaded
 pub mod Leaving
 pub mod Telling

@@ -2,12 +2,13 @@
 use Rattle.std.proofs.Common.{◌≡◌, ◌<◌, ◌≤◌, ◌+◌, ◌&&◌, ◌||◌, ◌^◌, ℕ, zero, suc, Bool, true, false, List, [], ◌∷◌, Option, None, Some, length, nat_eq, refl, sym, ap, ap₂, ◌∙◌, subst, arith, ⊎_elim}
 use Rattle.std.specs.Prelude.{bit_and, bit_or, flat_map, slice_index, if◌then◌else◌}
 use Rattle.std.specs.List.{list_any}
-use Rattle.std.proofs.lemmas.Bool.{cases_eq, cases_lt, false_from_ne_true}
+use Rattle.std.proofs.lemmas.Bool.{and_parts, cases_eq, cases_lt, false_from_ne_true, or_cases}
 use Rattle.std.proofs.lemmas.Option.{same_Some}
 use Rattle.std.proofs.lemmas.List.{get_or-set_same, get_or-set_other, length-set}
 use Rattle.lisa_tree.specs.Descriptions.{DescriptionTree}
 use Rattle.instruction_trees.specs.Bits.{mask, pattern}
-use Rattle.instruction_trees.specs.Trees.{Form}
+use Rattle.instruction_trees.specs.Trees.{Form, In, here, there}
+use Rattle.coding_tables.specs.Instructions.{forms_of}
 use Rattle.instruction_forms.specs.Described.{instruction_form}
 use Rattle.step_program.specs.Programs.{Program, Expr, Temp, ToTemp, Move}
 use Rattle.step_program.specs.Effects.{Moment, value, taken}
@@ -18,10 +19,11 @@ use Rattle.lowered_time.specs.Pieces.{either}
 use Rattle.lowered_time.specs.Lowering.{bit}
 use Rattle.lowered_words.specs.Ways.{Way, same_way, part_by, all_ways, way_place, form_ways, plain_forms}
 use Rattle.lowered_words.specs.Rows.{IsWordWidth, HasRow, form_frame, decoded_at, flag_at, row_size}
-use Rattle.lowered_words.specs.Loading.{cleared, raised, flag_raised, way_raised, test, form_loaded, load}
+use Rattle.lowered_words.specs.Loading.{cleared, raised, is_alone, flag_move, flag_raised, way_raised, test, form_loaded, load}
 use Rattle.lowered_words.specs.Laws.{AreApart}
 use Rattle.lowered_words.proofs.Reaching.{same_is, same_itself, ways_reach, place_within, one_way}
-use Rattle.lowered_words.proofs.Instructed.{any_same, word_of_form, decodes_is, one_has_part, literal_is}
+use Rattle.lowered_words.proofs.Instructed.{any_same, from_filter, is_plain_form, word_of_form, decodes_is, one_has_part, literal_is}
+use Rattle.lowered_words.proofs.Alone.{only_form}
 
 -- ---- bits
 
@@ -54,6 +56,10 @@ no_more false h = refl
 more : (a x y : Bool) → ((a || x) || y) ≡ (a || (x || y))
 more true x y = refl
 more false x y = refl
+
+already : (a h : Bool) → (a ≡ true → h ≡ true) → h ≡ (a || h)
+already true h own = own refl
+already false h own = refl
 
 none_left : (a : Bool) → (a || false) ≡ a
 none_left true = refl
@@ -150,8 +156,8 @@ module _ (d : DescriptionTree) (p : Program) (before pins : List ℕ) where
       pub scratch : temp_at after from ≡ bit h
 
     different : (w v : Way) (other place : ℕ) → way_place d w ≡ Some other → way_place d v ≡ Some place → (other ≡ place → ⊥) → same_way w v ≡ false
-    different w v other place there is ne =
-        false_from_ne_true (same_way w v) (λ e. ne (same_Some other place (sym there ∙ ap (way_place d) (same_is w v e) ∙ is)))
+    different w v other place at is ne =
+        false_from_ne_true (same_way w v) (λ e. ne (same_Some other place (sym at ∙ ap (way_place d) (same_is w v e) ∙ is)))
 
     unflagged : (f : Way → Bool) (w v : Way) (h : Bool) → same_way w v ≡ false → f w ≡ raised_flags f v h w
     unflagged f w v h e = sym (ap (λ (b : Bool). f w || (b && h)) e ∙ no_more (f w) h)
@@ -160,11 +166,12 @@ module _ (d : DescriptionTree) (p : Program) (before pins : List ℕ) where
     flagged f w v h e =
         sym (ap (λ (u : Way). raised_flags f v h u) e ∙ ap (λ (b : Bool). f v || (b && h)) (same_itself v))
 
-    one_flag : (word place : ℕ) (a h : Bool) (f : Way → Bool) (v : Way) (now : Moment) → way_place d v ≡ Some place → Raised word a h f now
-        → Raised word a h (raised_flags f v h) (run now (raised from (flag_at base place) ∷ []))
-    one_flag word place a h f v now is r =
+    flag_put : (e : Expr) (word place : ℕ) (a h : Bool) (f : Way → Bool) (v : Way) (now : Moment) → way_place d v ≡ Some place
+        → value p before pins now e ≡ bit (f v || h) → Raised word a h f now
+        → Raised word a h (raised_flags f v h) (run now (set_temp (flag_at base place) e ∷ []))
+    flag_put e word place a h f v now is gives r =
         let at : ℕ = flag_at base place in
-        let n : ℕ = value p before pins now (either (Temp at) (Temp from)) in
+        let n : ℕ = value p before pins now e in
         let low = place_within d v place is in
         record {
           holds = record {
@@ -172,11 +179,11 @@ module _ (d : DescriptionTree) (p : Program) (before pins : List ℕ) where
             has_word = get_or-set_other now.temps at base n 0 (λ e. omega (arith, e)) ∙ r.holds.has_word;
             has_decoded = get_or-set_other now.temps at (decoded_at base) n 0 (λ e. omega (arith, e)) ∙ r.holds.has_decoded;
             has_flags = λ w other there. ⊎_elim
-                (λ e.
-                ap (λ (k : ℕ). temp_at (run now (raised from at ∷ [])) (flag_at base k)) e
+                (λ same.
+                ap (λ (k : ℕ). temp_at (run now (set_temp at e ∷ [])) (flag_at base k)) same
                 ∙ get_or-set_same now.temps at n 0 (omega (arith, r.holds.room, apart_from, low))
-                ∙ raised_value at (f v) h now (r.holds.has_flags v place is) r.scratch
-                ∙ ap bit (flagged f w v h (one_way d w v place (subst (λ (k : ℕ). way_place d w ≡ Some k) e there) is)))
+                ∙ gives
+                ∙ ap bit (flagged f w v h (one_way d w v place (subst (λ (k : ℕ). way_place d w ≡ Some k) same there) is)))
                 (λ ne.
                 get_or-set_other now.temps at (flag_at base other) n 0 (λ e. ne (omega (arith, e)))
                 ∙ r.holds.has_flags w other there
@@ -185,6 +192,14 @@ module _ (d : DescriptionTree) (p : Program) (before pins : List ℕ) where
           };
           scratch = get_or-set_other now.temps at from n 0 (λ e. omega (arith, e, apart_from, low)) ∙ r.scratch;
         }
+
+    -- a flag that is set at once has not been raised where the scratch is 0
+    one_flag : (alone : Bool) (word place : ℕ) (a h : Bool) (f : Way → Bool) (v : Way) (now : Moment) → way_place d v ≡ Some place
+        → (alone ≡ true → f v ≡ true → h ≡ true) → Raised word a h f now → Raised word a h (raised_flags f v h) (run now (flag_move alone from (flag_at base place) ∷ []))
+    one_flag true word place a h f v now is own r = flag_put (Temp from) word place a h f v now is (r.scratch ∙ ap bit (already (f v) h (own refl))) r
+    one_flag false word place a h f v now is own r =
+        let at : ℕ = flag_at base place in
+        flag_put (either (Temp at) (Temp from)) word place a h f v now is (raised_value at (f v) h now (r.holds.has_flags v place is) r.scratch) r
 
     no_flag : (word : ℕ) (a h : Bool) (f : Way → Bool) (v : Way) (now : Moment) → way_place d v ≡ None → Raised word a h f now → Raised word a h (raised_flags f v h) now
     no_flag word a h f v now none r = record {
@@ -200,24 +215,32 @@ module _ (d : DescriptionTree) (p : Program) (before pins : List ℕ) where
       scratch = r.scratch;
     }
 
-    way_step : (word : ℕ) (a h : Bool) (f : Way → Bool) (v : Way) (now : Moment) → Raised word a h f now → Raised word a h (raised_flags f v h) (run now (way_raised d base from v))
-    way_step word a h f v now r = by (way_place d v) refl
+    way_step : (alone : Bool) (word : ℕ) (a h : Bool) (f : Way → Bool) (v : Way) (now : Moment) → (alone ≡ true → f v ≡ true → h ≡ true) → Raised word a h f now
+        → Raised word a h (raised_flags f v h) (run now (way_raised d alone base from v))
+    way_step alone word a h f v now own r = by (way_place d v) refl
       where
-        by : (o : Option ℕ) → way_place d v ≡ o → Raised word a h (raised_flags f v h) (run now (flag_raised base from o))
+        by : (o : Option ℕ) → way_place d v ≡ o → Raised word a h (raised_flags f v h) (run now (flag_raised alone base from o))
         by None is = no_flag word a h f v now is r
-        by (Some place) is = one_flag word place a h f v now is r
+        by (Some place) is = one_flag alone word place a h f v now is own r
 
     abbrev all_flags : (Way → Bool) → List Way → Bool → Way → Bool
     all_flags f vs h w = f w || (list_any (same_way w) vs && h)
 
-    ways_step : (word : ℕ) (a h : Bool) (f : Way → Bool) (vs : List Way) (now : Moment) → Raised word a h f now
-        → Holds word a (all_flags f vs h) (run now (flat_map (way_raised d base from) vs))
-    ways_step word a h f [] now r = holds_same word a a f (all_flags f [] h) now refl (λ w. unchanged (f w) h) r.holds
-    ways_step word a h f (v ∷ vs) now r =
-        let next = run now (way_raised d base from v) in
-        let rest = flat_map (way_raised d base from) vs in
-        let i = ways_step word a h (raised_flags f v h) vs next (way_step word a h f v now r) in
-        subst (λ (m : Moment). Holds word a (all_flags f (v ∷ vs) h) m) (sym (ran_append p before pins now (way_raised d base from v) rest))
+    -- where flags are set at once, each that has been raised is to be 1
+    abbrev AreOwn : Bool → (Way → Bool) → List Way → Bool → Type 0
+    AreOwn alone f vs h = (w : Way) → In w vs → alone ≡ true → f w ≡ true → h ≡ true
+
+    own_left : (alone h : Bool) (f : Way → Bool) (v : Way) (vs : List Way) → AreOwn alone f (v ∷ vs) h → AreOwn alone (raised_flags f v h) vs h
+    own_left alone h f v vs own w i is stands = ⊎_elim (λ e. own w (there i) is e) (λ e. (and_parts (same_way w v) h e).1) (or_cases (f w) (same_way w v && h) stands)
+
+    ways_step : (alone : Bool) (word : ℕ) (a h : Bool) (f : Way → Bool) (vs : List Way) (now : Moment) → AreOwn alone f vs h → Raised word a h f now
+        → Holds word a (all_flags f vs h) (run now (flat_map (way_raised d alone base from) vs))
+    ways_step alone word a h f [] now own r = holds_same word a a f (all_flags f [] h) now refl (λ w. unchanged (f w) h) r.holds
+    ways_step alone word a h f (v ∷ vs) now own r =
+        let next = run now (way_raised d alone base from v) in
+        let rest = flat_map (way_raised d alone base from) vs in
+        let i = ways_step alone word a h (raised_flags f v h) vs next (own_left alone h f v vs own) (way_step alone word a h f v now (own v here) r) in
+        subst (λ (m : Moment). Holds word a (all_flags f (v ∷ vs) h) m) (sym (ran_append p before pins now (way_raised d alone base from v) rest))
         (holds_same word a a (all_flags (raised_flags f v h) vs h) (all_flags f (v ∷ vs) h) (run next rest) refl
         (λ w. regrouped (f w) (same_way w v) (list_any (same_way w) vs) h) i)
 
@@ -227,9 +250,9 @@ module _ (d : DescriptionTree) (p : Program) (before pins : List ℕ) where
       abbrev literal : ℕ → Form → Bool
       literal word g = nat_eq (bit_and word (mask (form_frame d g))) (pattern (form_frame d g))
 
-      form_step : (word : ℕ) (a : Bool) (f : Way → Bool) (g : Form) (now : Moment) → Holds word a f now
+      form_step : (word : ℕ) (a : Bool) (f : Way → Bool) (g : Form) (now : Moment) → AreOwn (is_alone d g) f (form_ways d g) (literal word g) → Holds word a f now
           → Holds word (a || literal word g) (all_flags f (form_ways d g) (literal word g)) (run now (form_loaded d width base from g))
-      form_step word a f g now holds =
+      form_step word a f g now own holds =
           let h : Bool = literal word g in
           let v : ℕ = value p before pins now (test d width base g) in
           let first = with_temp from v now in
@@ -237,20 +260,35 @@ module _ (d : DescriptionTree) (p : Program) (before pins : List ℕ) where
           ap (λ (n : ℕ). if nat_eq (bit_and n (mask (form_frame d g))) (pattern (form_frame d g)) then 1 else 0) holds.has_word ∙ test_bit h in
           let scratch : temp_at first from ≡ bit h = get_or-set_same now.temps from v 0 holds.room ∙ is in
           let second = decoded_raised word a h f first (scratch_set word v a f now holds) scratch in
-          ways_step word (a || h) h f (form_ways d g) (run first (raised from (decoded_at base) ∷ [])) (record { holds = second.0; scratch = second.1 })
+          ways_step (is_alone d g) word (a || h) h f (form_ways d g) (run first (raised from (decoded_at base) ∷ [])) own (record { holds = second.0; scratch = second.1 })
 
       abbrev forms_flags : ℕ → (Way → Bool) → List Form → Way → Bool
       forms_flags word f gs w = f w || list_any (λ g. list_any (same_way w) (form_ways d g) && literal word g) gs
 
-      forms_step : (word : ℕ) (a : Bool) (f : Way → Bool) (gs : List Form) (now : Moment) → Holds word a f now
+      -- each form of one operation whose flag has been raised has the word
+      abbrev EachOwn : ℕ → (Way → Bool) → List Form → Type 0
+      EachOwn word f gs = (g : Form) → In g gs → AreOwn (is_alone d g) f (form_ways d g) (literal word g)
+
+      abbrev AreListed : List Form → Type 0
+      AreListed gs = (g : Form) → In g gs → In g (forms_of d)
+
+      each_left : (word : ℕ) (f : Way → Bool) (g : Form) (gs : List Form) → AreListed (g ∷ gs) → EachOwn word f (g ∷ gs) → EachOwn word (all_flags f (form_ways d g) (literal word g)) gs
+      each_left word f g gs listed own x i w j alone stands = ⊎_elim
+          (λ e. own x (there i) w j alone e)
+          (λ e.
+          let both = and_parts (list_any (same_way w) (form_ways d g)) (literal word g) e in
+          ap (literal word) (only_form d x g w (listed x (there i)) (listed g here) alone j both.0) ∙ both.1)
+          (or_cases (f w) (list_any (same_way w) (form_ways d g) && literal word g) stands)
+
+      forms_step : (word : ℕ) (a : Bool) (f : Way → Bool) (gs : List Form) (now : Moment) → AreListed gs → EachOwn word f gs → Holds word a f now
           → Holds word (a || list_any (literal word) gs) (forms_flags word f gs) (run now (flat_map (form_loaded d width base from) gs))
-      forms_step word a f [] now holds = holds_same word a (a || false) f (forms_flags word f []) now (sym (none_left a)) (λ w. sym (none_left (f w))) holds
-      forms_step word a f (g ∷ gs) now holds =
+      forms_step word a f [] now listed own holds = holds_same word a (a || false) f (forms_flags word f []) now (sym (none_left a)) (λ w. sym (none_left (f w))) holds
+      forms_step word a f (g ∷ gs) now listed own holds =
           let h : Bool = literal word g in
           let next = run now (form_loaded d width base from g) in
           let rest = flat_map (form_loaded d width base from) gs in
           let mid = all_flags f (form_ways d g) h in
-          let i = forms_step word (a || h) mid gs next (form_step word a f g now holds) in
+          let i = forms_step word (a || h) mid gs next (λ x j. listed x (there j)) (each_left word f g gs listed own) (form_step word a f g now (own g here) holds) in
           subst (λ (m : Moment). Holds word (a || list_any (literal word) (g ∷ gs)) (forms_flags word f (g ∷ gs)) m) (sym (ran_append p before pins now (form_loaded d width base from g) rest))
           (holds_same word ((a || h) || list_any (literal word) gs) (a || list_any (literal word) (g ∷ gs)) (forms_flags word mid gs) (forms_flags word f (g ∷ gs)) (run next rest)
           (more a h (list_any (literal word) gs))
@@ -278,7 +316,8 @@ module _ (d : DescriptionTree) (p : Program) (before pins : List ℕ) where
           let next = run now (set_temp base e ∷ []) in
           let zeros = cleared (decoded_at base) (1 + length (all_ways d)) in
           let rest = flat_map (form_loaded d width base from) (plain_forms d) in
-          let h = forms_step word false (λ w. false) (plain_forms d) (run next zeros) (begins word e now room is) in
+          let h = forms_step word false (λ w. false) (plain_forms d) (run next zeros)
+          (λ g i. (from_filter (is_plain_form d) (forms_of d) g i).0) (λ g i w j alone stands. absurd (cc stands)) (begins word e now room is) in
           let known : HasRow d base word (run (run next zeros) rest) = record {
             held = h.has_word;
             decoded = h.has_decoded

@@ -7,7 +7,7 @@ use Rattle.instruction_trees.specs.Trees.{Item, Fixed, Free, Field, Child, Done,
 use Rattle.instruction_trees.specs.Values.{own_values}
 use Rattle.instruction_trees.proofs.Trees.{length-open}
 use Rattle.coding_tables.specs.Codings.{coding_table}
-use Rattle.instruction_forms.specs.Trees.{FormTree}
+use Rattle.instruction_forms.specs.Trees.{FormTree, End}
 use Rattle.instruction_forms.specs.Described.{items_at, labels, labelled, children, described}
 use Rattle.instruction_forms.proofs.Sizes.{child_size}
 use Rattle.lisa_forms.specs.Choosing.{tree_at, child_at, operation_of}
@@ -86,6 +86,14 @@ module _ (d : DescriptionTree) where
   right_fits _ _ _ (free t u items p) = right_fits t u items p
   right_fits _ _ _ (field n t u items p) = (tt, right_fits t u items p)
   right_fits _ _ _ (child k j own inner t u ks items i l f g p) = (l, g, right_fits t u items p)
+
+  -- two trees are the same where one has no children
+  pub childless_same : (low : ℕ) (t u : Form) (items : List Item) → Pair t u items → children d (placed (coding_table d) low t items) ≡ End → t ≡ u
+  childless_same low _ _ _ ended e = refl
+  childless_same low _ _ _ (fixed b t u items p) e = ap (λ (s : Form). Pass s) (childless_same low t u items p e)
+  childless_same low _ _ _ (free t u items p) e = ap (λ (s : Form). Pass s) (childless_same low t u items p e)
+  childless_same low _ _ _ (field n t u items p) e = ap (λ (s : Form). Value tt s) (childless_same low t u items p e)
+  childless_same low _ _ _ (child k j own inner t u ks items i l f g p) e = absurd (cc e)
 
   -- ---- items whose trees have as many bits
 

@@ -1,5 +1,5 @@
 -- What is put behind a draft where a word is loaded into a row.
-use Rattle.std.proofs.Common.{◌≡◌, ◌<◌, ◌≤◌, ◌+◌, ◌++◌, ◌^◌, ◌∙◌, ℕ, zero, suc, Bool, true, false, cond, List, [], ◌∷◌, Option, length, get_or, map, take, take_all, length-take-le, append_assoc, append-nil, sym, ap, ap₂, arith, subst}
+use Rattle.std.proofs.Common.{◌≡◌, ◌<◌, ◌≤◌, ◌+◌, ◌++◌, ◌^◌, ◌∙◌, ℕ, zero, suc, Bool, true, false, cond, List, [], ◌∷◌, Option, length, nat_eq, get_or, map, take, take_all, length-take-le, append_assoc, append-nil, refl, sym, ap, ap₂, arith, subst}
 use Rattle.std.specs.Prelude.{filter, flat_map}
 use Rattle.std.proofs.lemmas.List.{take_more, get_or-map, length-map}
 use Rattle.std.proofs.lemmas.List.Concat.{flat_map-append}
@@ -7,7 +7,7 @@ use Rattle.std.proofs.lemmas.List.Elements.{filter_more}
 use Rattle.lisa_tree.specs.Descriptions.{DescriptionTree}
 use Rattle.lisa_tree.specs.Operations.{is_alias}
 use Rattle.instruction_trees.specs.Bits.{Frame, mask, pattern, mask_bit}
-use Rattle.instruction_trees.specs.Trees.{Done, In, is_plain}
+use Rattle.instruction_trees.specs.Trees.{Done, is_plain}
 use Rattle.instruction_trees.specs.Trees as plain
 use Rattle.instruction_trees.proofs.Numbers.{value_lt}
 use Rattle.instruction_trees.proofs.FormWords.{pattern_below}
@@ -35,6 +35,7 @@ use Rattle.lowered_words.specs.Rows.{IsWordWidth, form_frame, decoded_at}
 use Rattle.lowered_words.specs.Loading.{cleared, raised, flag_raised, way_raised, form_loaded, load}
 use Rattle.lowered_words.specs.Code.{FitsBits, bits_test}
 use Rattle.lowered_words.proofs.Tabled.{operation_is}
+use Rattle.lowered_words.proofs.Alone.{is_single}
 
 -- other steps that are the same
 adds_as : (xs ys : List Move) (a b : Draft) → xs ≡ ys → Adds (steps xs) a b → Adds (steps ys) a b
@@ -56,9 +57,9 @@ clear_on base i temp a b c is before one =
 
 -- ---- the flags of a part
 
-module _ (d : DescriptionTree) (base scratch : ℕ) where
+module _ (d : DescriptionTree) (alone : Bool) (base scratch : ℕ) where
   abbrev flags : List Way → List Move
-  flags ws = flat_map (way_raised d base scratch) ws
+  flags ws = flat_map (way_raised d alone base scratch) ws
 
   among_more : (w : Way) (xs : List Form) (x : Form) (j : ℕ)
       → ways_among w j (trees (xs ++ x ∷ [])) ≡ ways_among w j (trees xs) ++ ways_from (Child w (j + length xs) (operation_of (form_tree x))) (form_tree x)
@@ -75,9 +76,9 @@ module _ (d : DescriptionTree) (base scratch : ℕ) where
   abbrev pub flags_before : Way → ℕ → List Form → List Move
   flags_before w i children = flags (w ∷ ways_among w 0 (trees (take i children)))
 
-  pub first_flag : (w : Way) (at : Option ℕ) (children : List Form) (a b : Draft) → at ≡ way_place d w → Adds (steps (flag_raised base scratch at)) a b → Adds (steps (flags_before w 0 children)) a b
+  pub first_flag : (w : Way) (at : Option ℕ) (children : List Form) (a b : Draft) → at ≡ way_place d w → Adds (steps (flag_raised alone base scratch at)) a b → Adds (steps (flags_before w 0 children)) a b
   first_flag w at children a b is put =
-      adds_as (flag_raised base scratch at) (flags_before w 0 children) a b (ap (flag_raised base scratch) is ∙ sym (append-nil (way_raised d base scratch w))) put
+      adds_as (flag_raised alone base scratch at) (flags_before w 0 children) a b (ap (flag_raised alone base scratch) is ∙ sym (append-nil (way_raised d alone base scratch w))) put
 
   pub more_flags : (w : Way) (i o : ℕ) (children : List Form) (x : Form) (a b c : Draft) → i < length children → x ≡ get_or children i x → o ≡ (out-Form x).operation
       → Adds (steps (flags_before w i children)) a b → Adds (steps (flags (ways_from (Child w i o) (form_tree x)))) b c → Adds (steps (flags_before w (i + 1) children)) a c
@@ -90,7 +91,7 @@ module _ (d : DescriptionTree) (base scratch : ℕ) where
       ∙ ap (λ (n : ℕ). ways_among w 0 (trees (take i children)) ++ ways_from (Child w n (operation_of (form_tree x))) (form_tree x)) places in
       adds_as (flags_before w i children ++ flags (ways_from (Child w i o) (form_tree x))) (flags_before w (i + 1) children) a c
       (ap (λ (n : ℕ). flags_before w i children ++ flags (ways_from (Child w i n) (form_tree x))) (sym (operation_is d x o is))
-      ∙ sym (flat_map-append (way_raised d base scratch) (w ∷ ways_among w 0 (trees (take i children))) own)
+      ∙ sym (flat_map-append (way_raised d alone base scratch) (w ∷ ways_among w 0 (trees (take i children))) own)
       ∙ sym (ap (λ (ws : List Way). flags (w ∷ ws)) ways))
       (adds_steps (flags_before w i children) (flags (ways_from (Child w i o) (form_tree x))) a b c before one)
 
@@ -150,15 +151,30 @@ module _ (d : DescriptionTree) (number : ℕ) (within : number < length (forms_o
           pattern = subst (λ (b : BitPattern). b.pattern < 2 ^ width) (sym is) (subst (λ (n : ℕ). pattern (form_frame d the_form) < 2 ^ n) long (pattern_below (form_frame d the_form)));
         }
 
-  pub form_put : (width base scratch o : ℕ) (bits : BitPattern) (form : Form) (a b c : Draft) → bits ≡ frame_pattern (form_frame d the_form) → form_tree form ≡ instruction_form d the_form → o ≡ (out-Form form).operation
+  pub form_put : (width base scratch o : ℕ) (alone : Bool) (bits : BitPattern) (form : Form) (a b c : Draft) → bits ≡ frame_pattern (form_frame d the_form) → form_tree form ≡ instruction_form d the_form → o ≡ (out-Form form).operation
+      → nat_eq (length (ways_in (form_tree form))) 1 ≡ alone
       → Adds (steps (set_temp scratch (bits_test width base bits) ∷ raised scratch (decoded_at base) ∷ [])) a b
-      → Adds (steps (flat_map (way_raised d base scratch) (ways_from (Whole o) (form_tree form)))) b c
+      → Adds (steps (flat_map (way_raised d alone base scratch) (ways_from (Whole o) (form_tree form)))) b c
       → Adds (steps (form_loaded d width base scratch the_form)) a c
-  form_put width base scratch o bits form a b c is_bits is_tree is test flags =
-      adds_as ((set_temp scratch (bits_test width base bits) ∷ raised scratch (decoded_at base) ∷ []) ++ flat_map (way_raised d base scratch) (ways_from (Whole o) (form_tree form))) (form_loaded d width base scratch the_form) a c
-      (ap₂ (λ (bs : BitPattern) (ws : List Way). set_temp scratch (bits_test width base bs) ∷ raised scratch (decoded_at base) ∷ flat_map (way_raised d base scratch) ws) is_bits
-      (ap (λ (n : ℕ). ways_from (Whole n) (form_tree form)) (sym (operation_is d form o is)) ∙ ap ways_in is_tree))
-      (adds_steps (set_temp scratch (bits_test width base bits) ∷ raised scratch (decoded_at base) ∷ []) (flat_map (way_raised d base scratch) (ways_from (Whole o) (form_tree form))) a b c test flags)
+  form_put width base scratch o alone bits form a b c is_bits is_tree is is_alone test flags =
+      let first : BitPattern → List Move = λ bs. set_temp scratch (bits_test width base bs) ∷ raised scratch (decoded_at base) ∷ [] in
+      let own : List Way = ways_from (Whole o) (form_tree form) in
+      adds_as (first bits ++ flat_map (way_raised d alone base scratch) own) (form_loaded d width base scratch the_form) a c
+      (ap₂ (λ (bs : BitPattern) (ws : List Way). first bs ++ flat_map (way_raised d alone base scratch) ws) is_bits (ap (λ (n : ℕ). ways_from (Whole n) (form_tree form)) (sym (operation_is d form o is)))
+      ∙ ap (λ (b : Bool). first (frame_pattern (form_frame d the_form)) ++ flat_map (way_raised d b base scratch) (ways_in (form_tree form))) (sym is_alone)
+      ∙ ap (λ (t : FormTree). first (frame_pattern (form_frame d the_form)) ++ flat_map (way_raised d (nat_eq (length (ways_in t)) 1) base scratch) (ways_in t)) is_tree)
+      (adds_steps (first bits) (flat_map (way_raised d alone base scratch) own) a b c test flags)
+
+  -- a form of one operation has one flag
+  pub alone_put : (width base scratch o : ℕ) (place : Option ℕ) (bits : BitPattern) (form : Form) (a b c : Draft) → bits ≡ frame_pattern (form_frame d the_form) → form_tree form ≡ instruction_form d the_form → o ≡ (out-Form form).operation
+      → length (out-Form form).children.items ≡ 0 → place ≡ way_place d (Whole o)
+      → Adds (steps (set_temp scratch (bits_test width base bits) ∷ raised scratch (decoded_at base) ∷ [])) a b
+      → Adds (steps (flag_raised true base scratch place)) b c
+      → Adds (steps (form_loaded d width base scratch the_form)) a c
+  alone_put width base scratch o place bits form a b c is_bits is_tree is none at test flag =
+      let parts = (out-Form form).children.items in
+      form_put width base scratch o true bits form a b c is_bits is_tree is (is_single form none) test
+      (all_flags d true base scratch (Whole o) 0 form parts b c refl (omega (arith, none)) (first_flag d true base scratch (Whole o) place parts b c at flag))
 
 -- ---- all plain forms
 

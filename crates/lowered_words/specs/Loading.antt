@@ -1,5 +1,5 @@
 -- The piece that loads a word into a row. On the way to the program: nothing here needs to be trusted.
-use Rattle.std.specs.Prelude.{ℕ, zero, suc, ◌+◌, ◌++◌, List, [], ◌∷◌, length, flat_map, Option, None, Some}
+use Rattle.std.specs.Prelude.{ℕ, zero, suc, ◌+◌, ◌++◌, Bool, true, false, List, [], ◌∷◌, length, flat_map, nat_eq, Option, None, Some}
 use Rattle.lisa_tree.specs.Descriptions.{DescriptionTree}
 use Rattle.instruction_trees.specs.Bits.{mask, pattern}
 use Rattle.instruction_trees.specs.Trees.{Form}
@@ -19,12 +19,21 @@ cleared from (suc count) = set_temp from (Const 1 0) ∷ cleared (from + 1) coun
 abbrev pub raised : ℕ → ℕ → Move
 raised scratch temp = set_temp temp (either (Temp temp) (Temp scratch))
 
-abbrev pub flag_raised : ℕ → ℕ → Option ℕ → List Move
-flag_raised base scratch None = []
-flag_raised base scratch (Some place) = raised scratch (flag_at base place) ∷ []
+-- a form of one operation: no other plain form has its one way
+abbrev pub is_alone : DescriptionTree → Form → Bool
+is_alone d f = nat_eq (length (form_ways d f)) 1
 
-abbrev pub way_raised : DescriptionTree → ℕ → ℕ → Way → List Move
-way_raised d base scratch w = flag_raised base scratch (way_place d w)
+-- a flag of a form is 1 where the scratch is, and as it was else; that of a form of one operation is the scratch
+abbrev pub flag_move : Bool → ℕ → ℕ → Move
+flag_move true scratch temp = set_temp temp (Temp scratch)
+flag_move false scratch temp = raised scratch temp
+
+abbrev pub flag_raised : Bool → ℕ → ℕ → Option ℕ → List Move
+flag_raised alone base scratch None = []
+flag_raised alone base scratch (Some place) = flag_move alone scratch (flag_at base place) ∷ []
+
+abbrev pub way_raised : DescriptionTree → Bool → ℕ → ℕ → Way → List Move
+way_raised d alone base scratch w = flag_raised alone base scratch (way_place d w)
 
 -- the word has the form's literal bits
 abbrev pub test : DescriptionTree → ℕ → ℕ → Form → Expr
@@ -33,7 +42,7 @@ test d width base f = Two ops.Equal (both (Temp base) (Const width (mask (form_f
 -- the word decodes where it is of the form, and has a part by each way of it
 abbrev pub form_loaded : DescriptionTree → (width base scratch : ℕ) → Form → List Move
 form_loaded d width base scratch f =
-    set_temp scratch (test d width base f) ∷ raised scratch (decoded_at base) ∷ flat_map (way_raised d base scratch) (form_ways d f)
+    set_temp scratch (test d width base f) ∷ raised scratch (decoded_at base) ∷ flat_map (way_raised d (is_alone d f) base scratch) (form_ways d f)
 
 -- a row of this base gets a word of this width
 abbrev pub load : DescriptionTree → (width base : ℕ) → Expr → Builder

@@ -1,6 +1,6 @@
 //! The steps that load a word into a row.
 
-ghost use Rattle.std.specs.Prelude.{◌≡◌, ◌≤◌, ◌<◌, ◌^◌, [], ◌∷◌, IfOk, OnOk, flat_map, length};
+ghost use Rattle.std.specs.Prelude.{◌≡◌, ◌≤◌, ◌<◌, ◌^◌, true, false, [], ◌∷◌, IfOk, OnOk, flat_map, length};
 ghost use Rattle.coding_tables.specs.Instructions.{forms_of};
 ghost use Rattle.pattern_tables.specs.Instructions.{form_at};
 ghost use Rattle.instruction_forms.specs.Trees.{form_tree};
@@ -90,13 +90,26 @@ fn raise_flag(
     way: WayAt,
     draft: &mut Draft,
 ) -> Result<(), NoMemory>
-    ensures { OnOk result (Adds (steps (flag_raised base scratch way.place)) draft.old draft.new) }
+    ensures { OnOk result (Adds (steps (flag_raised false base scratch way.place)) draft.old draft.new) }
 {
     match way.place {
         None => Ok(()),
         Some(place) => {
             let temp = flag_at(base, place)?;
             raise(alloc, scratch, temp, draft)
+        }
+    }
+}
+
+// The flag of a way is what the scratch is.
+fn set_flag(base: u32, scratch: u32, way: WayAt, draft: &mut Draft) -> Result<(), NoMemory>
+    ensures { OnOk result (Adds (steps (flag_raised true base scratch way.place)) draft.old draft.new) }
+{
+    match way.place {
+        None => Ok(()),
+        Some(place) => {
+            let temp = flag_at(base, place)?;
+            draft.set(temp, StepExpr::Temp(scratch))
         }
     }
 }
@@ -130,7 +143,7 @@ impl<'a> Words<'a> {
         part: &Form,
         draft: &mut Draft,
     ) -> Result<(), NoMemory>
-        ensures { (w : Way) → IsAt (words_tree self.now) w way → OnOk result (Adds (steps (flat_map (way_raised (words_tree self.now) base scratch) (ways_from w (form_tree part.now)))) draft.old draft.new) }
+        ensures { (w : Way) → IsAt (words_tree self.now) w way → OnOk result (Adds (steps (flat_map (way_raised (words_tree self.now) false base scratch) (ways_from w (form_tree part.now)))) draft.old draft.new) }
     {
         raise_flag(alloc, base, scratch, way, draft)?;
         let children = part.children.as_slice();
@@ -141,7 +154,8 @@ impl<'a> Words<'a> {
         Ok(())
     }
 
-    // The flags of a plain form, by its number, where the word has its literal bits.
+    // The flags of a plain form, by its number, where the word has its literal bits. A form of one operation has one flag, which no other form
+    // has.
     fn load_form(
         &self,
         alloc: Global,
@@ -158,7 +172,11 @@ impl<'a> Words<'a> {
         let form = &self.described.forms().forms()[number];
         test_form(alloc, width, base, scratch, self.patterns[number], draft)?;
         let whole = self.whole(form.operation as usize);
-        self.raise_flags(alloc, base, scratch, whole, form, draft)
+        if form.children.is_empty() {
+            set_flag(base, scratch, whole, draft)
+        } else {
+            self.raise_flags(alloc, base, scratch, whole, form, draft)
+        }
     }
 
     // All plain forms.

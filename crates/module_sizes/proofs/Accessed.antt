@@ -1,15 +1,13 @@
 -- What reads and writes of arrays add to the worth of texts: no more than is counted of them.
 use Rattle.std.proofs.Common.{◌≡◌, ◌≤◌, ◌+◌, ◌*◌, ◌++◌, max, ℕ, zero, suc, List, [], ◌∷◌, Option, None, Some, refl, ap, arith, inl, inr}
-use Rattle.std.specs.Prelude.{slice_get, sum_by}
+use Rattle.std.specs.Prelude.{sum_by}
 use Rattle.std.specs.Option.{option_map_or}
 use Rattle.std.proofs.lemmas.List.Sums.{sum_by-cons}
-use Rattle.std.proofs.lemmas.Option.{same_Some}
 use Rattle.lisa_tree.specs.Expressions as exprs
 use Rattle.lisa_tree.specs.Expressions.{ExprTree}
 use Rattle.lisa_tree.specs.Statements as stmts
 use Rattle.lisa_tree.specs.Statements.{HeadTree, StmtTree, StmtTrees}
-use Rattle.lisa_tree.specs.Descriptions as trees
-use Rattle.lisa_tree.specs.Descriptions.{ResourceTree, DescriptionTree}
+use Rattle.lisa_tree.specs.Descriptions.{DescriptionTree}
 use Rattle.lisa_tree.specs.Resources.{resource_at}
 use Rattle.lisa_tree.specs.Operations.{sections_at, expression_in, behavior_in}
 use Rattle.lisa_tree.specs.Declarations.{declared_at}
@@ -29,14 +27,14 @@ use Rattle.access_counts.specs.Accesses.{Access, value_accesses, place_accesses,
 use Rattle.access_counts.specs.Accesses as counting
 use Rattle.access_counts.specs.Unfolded.{Counted, naming, counted_within}
 use Rattle.description_weight.specs.Unfolded.{chosen_by}
-use Rattle.lisa_meaning.specs.Values.{Array, array_place, array_of, meant_array, named_array}
+use Rattle.lisa_meaning.specs.Values.{Array, meant_array, named_array}
 use Rattle.lowered_resources.specs.Reading.{cells_of}
 use Rattle.lowered_behaviors.proofs.Sources.{element_there}
 use Rattle.module_sizes.specs.Costs.{Rates}
 use Rattle.module_sizes.specs.Worths.{unit, Naming, value_worth, place_worth, statement_worth, statements_worth}
 use Rattle.module_sizes.specs.Standing.{read_worth, assigned_worth, run_worth}
 use Rattle.module_sizes.specs.Unfolded.{Worth, chosen_worth, named, worths_within}
-use Rattle.module_sizes.specs.Weighed.{no_rates, array_rates}
+use Rattle.module_sizes.specs.Weighed.{no_rates, resource_rate, array_rates}
 
 scaled : (k w v a : ℕ) → w ≤ v + a → k * w ≤ k * v + k * a
 scaled zero w v a h = omega arith
@@ -194,24 +192,14 @@ module _ (d : DescriptionTree) (s : IsSound d) (o : ℕ) (more less : Naming) (a
 -- ---- arrays
 
 module _ (d : DescriptionTree) (rate : ℕ → ℕ) where
-  place_is : (k : ℕ) (r : Option ResourceTree) (a : Array) → array_of d k r ≡ Some a → rate (array_place d k) ≡ rate a.place
-  place_is k None a e = absurd (cc e)
-  place_is k (Some (trees.Register word shape name None)) a e = absurd (cc e)
-  place_is k (Some (trees.Register word shape name (Some depth))) a e = ap (λ (x : Array). rate x.place) (same_Some _ a e)
-  place_is k (Some (trees.Clocked word shape name)) a e = absurd (cc e)
-  place_is k (Some (trees.Memory word shape name depth)) a e = ap (λ (x : Array). rate x.place) (same_Some _ a e)
-  place_is k (Some (trees.Pin shape name)) a e = absurd (cc e)
-  place_is k (Some (trees.Pipeline name stages)) a e = absurd (cc e)
-  place_is k (Some (trees.Fields pipe fields)) a e = absurd (cc e)
-
   -- an array's rate by its name
-  rate_is : (o : ℕ) (n : List ℕ) (a : Array) → named_array d o n ≡ Some a → option_map_or (λ k. rate (array_place d k)) (resource_at d n) 0 ≡ rate a.place
+  rate_is : (o : ℕ) (n : List ℕ) (a : Array) → named_array d o n ≡ Some a → option_map_or (resource_rate d rate) (resource_at d n) 0 ≡ rate a.place
   rate_is o n a e = by (declared_at d o n) (resource_at d n) e
     where
-      by : (i k : Option ℕ) → meant_array d (meaning_of i k) ≡ Some a → option_map_or (λ k. rate (array_place d k)) k 0 ≡ rate a.place
+      by : (i k : Option ℕ) → meant_array d (meaning_of i k) ≡ Some a → option_map_or (resource_rate d rate) k 0 ≡ rate a.place
       by (Some i) k is = absurd (cc is)
       by None None is = absurd (cc is)
-      by None (Some k) is = place_is k (slice_get d.resources k) a is
+      by None (Some k) is = ap (λ (r : Option Array). option_map_or (λ (x : Array). rate x.place) r 0) is
 
 module _ (d : DescriptionTree) (s : IsSound d) (rates : Rates) where
   abbrev access : Access

@@ -3,8 +3,18 @@ use Rattle.std.proofs.Common.{◌≡◌, ℕ, ◌+◌, ◌≤◌, List, [], ◌�
 use Rattle.step_program.specs.declared.expressions.TwoOp.{TwoOp}
 use Rattle.step_program.specs.Programs.{Program, Expr, Two, Choose, Move}
 use Rattle.step_pieces.specs.Pieces.{Piece, behind, top, held, set_temp}
-use Rattle.module_sizes.specs.Costs.{Rates, IsLongest, expr_cost, moves_cost}
+use Rattle.module_sizes.specs.Costs.{Rates, IsLongest, AreFormed, expr_cost, moves_cost}
 use Rattle.module_sizes.proofs.Operands.{set_cost}
+
+-- steps one behind the other are formed where each is
+module _ (p : Program) where
+  pub formed_left : (xs ys : List Move) → AreFormed p (xs ++ ys) → AreFormed p xs
+  formed_left [] ys formed = tt
+  formed_left (x ∷ xs) ys formed = (formed.0, formed_left xs ys formed.1)
+
+  pub formed_right : (xs ys : List Move) → AreFormed p (xs ++ ys) → AreFormed p ys
+  formed_right [] ys formed = formed
+  formed_right (x ∷ xs) ys formed = formed_right xs ys formed.1
 
 module _ (p : Program) (most : ℕ) (rates : Rates) where
   abbrev pub total : Piece → ℕ

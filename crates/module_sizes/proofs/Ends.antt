@@ -3,18 +3,19 @@ use Rattle.std.proofs.Common.{◌≤◌, ◌*◌, ◌++◌, ℕ, zero, suc, Bool
 use Rattle.step_program.specs.Programs.{Program, Expr, Before, Temp, Move}
 use Rattle.pipeline_time.specs.Acts.{size}
 use Rattle.pipeline_time.specs.Cores.{Core, above_of, slot_level}
-use Rattle.netlist_rules.specs.Sizes.{operand_most}
-use Rattle.lowered_time.specs.Building.{Operations, Layout, slot_at, recorded_at, place_word, stage_word, stood, came, next_bit, next_word, set_place, bit_ends, ends}
+use Rattle.module_sizes.specs.Charges.{operand_most}
+use Rattle.lowered_time.specs.Building.{Operations, Layout, slot_at, held_at, open_at, recorded_at, place_word, stage_word, stood, came, next_bit, next_word, set_place, bit_ends, ends}
 use Rattle.lisa_tree.specs.Descriptions.{DescriptionTree}
 use Rattle.lisa_tree.specs.Resources.{fields}
 use Rattle.std.specs.List.{flat_map, range_with_len}
 use Rattle.std.proofs.lemmas.List.Concat.{flat_map-cons}
-use Rattle.lowered_layouts.specs.Temps.{boundary_count}
+use Rattle.lowered_resources.specs.Places.{Written, Out}
+use Rattle.lowered_layouts.specs.Temps.{temp, boundary_count}
 use Rattle.lowered_layouts.specs.Items.{field_place}
 use Rattle.lowered_layouts.specs.Ends as closing
 use Rattle.lowered_layouts.specs.Ends.{before_field, next_field, field_end, boundary_ends}
 use Rattle.module_sizes.specs.Costs.{Rates, IsLongest, expr_cost, IsFree, moves_cost}
-use Rattle.module_sizes.proofs.Operands.{operand_low}
+use Rattle.module_sizes.proofs.Operands.{temp_low, operand_low}
 use Rattle.module_sizes.proofs.Adding.{moves_append}
 
 module _ (p : Program) (most : ℕ) (longest : IsLongest most) (rates : Rates) where
@@ -56,7 +57,9 @@ module _ (p : Program) (most : ℕ) (longest : IsLongest most) (rates : Rates) w
         let free = came_free level number in
         let f = flushed (suc level) in
         let s = short (suc level) in
-        omega (arith, before, c, free, f, s)
+        let held = temp_low p most (held_at (suc level)) in
+        let open' = temp_low p most (open_at level) in
+        omega (arith, before, c, free, f, s, held, open')
 
     word_cost : (level place : ℕ) → expr_cost p most rates (next_word core ops layout level place) ≤ 856
     word_cost level place =
@@ -65,7 +68,9 @@ module _ (p : Program) (most : ℕ) (longest : IsLongest most) (rates : Rates) w
         let free = word_free level in
         let f = flushed (suc level) in
         let s = short (suc level) in
-        omega (arith, before, w, free, f, s)
+        let held = temp_low p most (held_at (suc level)) in
+        let open' = temp_low p most (open_at level) in
+        omega (arith, before, w, free, f, s, held, open')
 
     bit_move : (level number : ℕ) (r : Option ℕ) → cost (set_place core ops layout r (next_bit core ops layout level number)) ≤ 856 * length (set_place core ops layout r (next_bit core ops layout level number))
     bit_move level number None = omega arith
@@ -111,7 +116,9 @@ module _ (p : Program) (most : ℕ) (longest : IsLongest most) (rates : Rates) w
         let g = free_free (suc s) in
         let i = held_short (suc (suc s)) in
         let j = free_short (suc s) in
-        omega (arith, own, old, b, h, g, i, j)
+        let written = temp_low p most (temp d (Written s f)) in
+        let out = temp_low p most (temp d (Out s f)) in
+        omega (arith, own, old, b, h, g, i, j, written, out)
 
     boundary_cost : (s : ℕ) (fs : List ℕ) → cost (map (field_end d held free s) fs) ≤ 856 * length (map (field_end d held free s) fs)
     boundary_cost s [] = omega arith

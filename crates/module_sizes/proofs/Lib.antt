@@ -19,3 +19,15 @@ pub mod Quiet
 pub mod Ends
 pub mod Summed
 pub mod Whole
+pub mod Linear
+pub mod Owning
+pub mod Tests
+pub mod Conditions
+pub mod Paid
+pub mod Rooted
+pub mod Arrays
+pub mod Written
+pub mod Counted
+pub mod Longest
+pub mod Limited
+pub mod Small

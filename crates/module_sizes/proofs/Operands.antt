@@ -1,26 +1,51 @@
 -- What operands cost, and what operators cost over any operands.
-use Rattle.std.proofs.Common.{ℕ, ◌+◌, ◌≤◌, Bool, true, false, arith, nat_eq, if◌then◌else◌}
+use Rattle.std.proofs.Common.{ℕ, ◌+◌, ◌≡◌, ◌≤◌, Bool, true, false, ap, arith, nat_eq, if◌then◌else◌}
 use Rattle.step_program.specs.declared.expressions.OneOp.{OneOp}
 use Rattle.step_program.specs.declared.expressions.OneOp.TheVariants.{Not, Cut, Widen}
 use Rattle.step_program.specs.declared.expressions.TwoOp.{TwoOp}
+use Rattle.step_program.specs.declared.expressions.TwoOp.TheVariants as ops
 use Rattle.step_program.specs.Programs.{Program, Expr, Const, Now, Before, Pin, Temp, Cell, One, Two, Choose, ToItem, ToTemp, ToCell}
 use Rattle.step_program.specs.Effects.{width}
 use Rattle.step_pieces.specs.Pieces.{set_temp}
-use Rattle.netlist_rules.specs.Sizes.{wire_most, name_most, operand_most, settled_most, given_most}
+use Rattle.netlist_rules.specs.Sizes.{sign_most}
+use Rattle.module_sizes.specs.Charges.{wire_most, held_most, name_most, operand_most, settled_most, given_most}
 use Rattle.module_sizes.specs.Costs.{Rates, IsLongest, expr_cost, move_cost, IsFree}
 
-module _ (p : Program) (most : ℕ) (names : IsLongest most) where
-  one_of : (b : Bool) (x y n : ℕ) → x ≤ n → y ≤ n → (if b then x else y) ≤ n
-  one_of true x y n h k = h
-  one_of false x y n h k = k
+one_of : (b : Bool) (x y n : ℕ) → x ≤ n → y ≤ n → (if b then x else y) ≤ n
+one_of true x y n h k = h
+one_of false x y n h k = k
 
+-- what a temp holds is a wire or a number
+pub held_low : (width : ℕ) → held_most width ≤ 25
+held_low width = one_of (nat_eq width 1) 14 25 25 (omega arith) (omega arith)
+
+-- of one bit a wire
+pub bit_low : (width : ℕ) → width ≡ 1 → held_most width ≤ 14
+bit_low width is = omega (arith, ap held_most is)
+
+pub temp_low : (p : Program) (most temp : ℕ) → operand_most p most (Temp temp) ≤ 25
+temp_low p most temp = held_low (width p (Temp temp))
+
+pub sign_low : (two : TwoOp) → sign_most two ≤ 3
+sign_low ops.Add = omega arith
+sign_low ops.Sub = omega arith
+sign_low ops.Mul = omega arith
+sign_low ops.And = omega arith
+sign_low ops.Or = omega arith
+sign_low ops.Xor = omega arith
+sign_low ops.Shl = omega arith
+sign_low ops.Shr = omega arith
+sign_low ops.Equal = omega arith
+sign_low ops.Less = omega arith
+
+module _ (p : Program) (most : ℕ) (names : IsLongest most) where
   -- whatever stands as an operand, it is no longer than the longest name
   pub operand_low : (e : Expr) → operand_most p most e ≤ 196
   operand_low (Const w v) = omega arith
   operand_low (Now item) = let h = names.greatest in omega (arith, h)
   operand_low (Before item) = let h = names.greatest in omega (arith, h)
   operand_low (Pin pin) = let h = names.greatest in omega (arith, h)
-  operand_low (Temp temp) = omega arith
+  operand_low (Temp temp) = let h = temp_low p most temp in omega (arith, h)
   operand_low (Cell array index) = omega arith
   operand_low (One Not a) = omega arith
   operand_low (One (Cut narrow) a) = one_of (nat_eq narrow (width p a)) (operand_most p most a) wire_most 196 (operand_low a) (omega arith)
@@ -51,7 +76,7 @@ module _ (p : Program) (most : ℕ) (names : IsLongest most) where
     one_cost one a m h = let o = operand_low a in omega (arith, h, o)
 
     pub two_cost : (two : TwoOp) (a b : Expr) (m n : ℕ) → cost a ≤ m → cost b ≤ n → cost (Two two a b) ≤ m + n + 442
-    two_cost two a b m n h k = let o = operand_low a in let q = operand_low b in omega (arith, h, k, o, q)
+    two_cost two a b m n h k = let o = operand_low a in let q = operand_low b in let s = sign_low two in omega (arith, h, k, o, q, s)
 
     pub choose_cost : (test this other : Expr) (l m n : ℕ) → cost test ≤ l → cost this ≤ m → cost other ≤ n → cost (Choose test this other) ≤ l + m + n + 639
     choose_cost test this other l m n g h k =
@@ -76,7 +101,7 @@ module _ (p : Program) (most : ℕ) (names : IsLongest most) where
     given_low old (Now item) value o = let g = operand_low (Now item) in let v = operand_low value in omega (arith, o, g, v)
     given_low old (Before item) value o = let g = operand_low (Before item) in let v = operand_low value in omega (arith, o, g, v)
     given_low old (Pin pin) value o = let g = operand_low (Pin pin) in let v = operand_low value in omega (arith, o, g, v)
-    given_low old (Temp temp) value o = let v = operand_low value in omega (arith, o, v)
+    given_low old (Temp temp) value o = let g = operand_low (Temp temp) in let v = operand_low value in omega (arith, o, g, v)
     given_low old (Cell array index) value o = let v = operand_low value in omega (arith, o, v)
     given_low old (One one a) value o = let g = operand_low (One one a) in let v = operand_low value in omega (arith, o, g, v)
     given_low old (Two two a b) value o = let v = operand_low value in omega (arith, o, v)
@@ -92,7 +117,8 @@ module _ (p : Program) (most : ℕ) (names : IsLongest most) where
     pub temp_cost : (guard : Expr) (temp : ℕ) (value : Expr) (m : ℕ) → IsFree p most rates guard → cost value ≤ m
         → move_cost p most rates (record { guard = guard; aim = ToTemp temp; value = value }) ≤ m + 639
     temp_cost guard temp value m free h =
-        let g = given_low wire_most guard value (omega arith) in
+        let old = held_low (width p (Temp temp)) in
+        let g = given_low (held_most (width p (Temp temp))) guard value (omega (arith, old)) in
         omega (arith, free, h, g)
 
     pub cell_cost : (guard : Expr) (array : ℕ) (index value : Expr) (m n : ℕ) → IsFree p most rates guard → cost index ≤ m → cost value ≤ n

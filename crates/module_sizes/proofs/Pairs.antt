@@ -3,7 +3,7 @@ use Rattle.std.proofs.Common.{◌≡◌, ℕ, ◌+◌, ◌*◌, ◌≤◌, Bool,
 use Rattle.std.proofs.Math.Nat.{mul-le-mul_right}
 use Rattle.step_program.specs.Programs.{Program, Expr, Const, Now, Before, Pin, Temp, Cell, One, Two, Choose, Aim, ToItem, ToTemp, ToCell, Move}
 use Rattle.netlist_wires.specs.Costs.{writes_to, arrays_after}
-use Rattle.netlist_rules.specs.Sizes.{pair_most, expr_most, move_most, moves_most}
+use Rattle.module_sizes.specs.Charges.{pair_most, expr_most, move_most, moves_most}
 use Rattle.module_sizes.specs.Costs.{expr_reads, aim_accesses, moves_accesses, move_cost, moves_cost, pair_rates, write_rates}
 
 module _ (p : Program) (most : ℕ) where
@@ -78,7 +78,7 @@ module _ (p : Program) (most : ℕ) where
       omega (arith, one, more)
 
   -- the writes of an array are what steps cost at rates by which only these cost
-  reads_none : (e : Expr) → expr_reads (λ a. 0) e ≡ 0
+  pub reads_none : (e : Expr) → expr_reads (λ a. 0) e ≡ 0
   reads_none (Const w v) = refl
   reads_none (Now item) = refl
   reads_none (Before item) = refl

@@ -193,12 +193,12 @@ module _ (p : Program) (most : ℕ) (longest : IsLongest most) (rates : Rates) w
 
   -- ---- stalls and flushes
 
-  told_stage : (places : Places) (what : ℕ → Lasting) (s : Option ℕ) (guard : Expr) → Free guard → cost (told places what s guard) ≤ unit
+  told_stage : (places : Places) (what : ℕ → Lasting) (s : Option ℕ) (guard : Expr) → Free guard → cost (told places what s guard) + 100 ≤ unit
   told_stage places what None guard free = omega arith
   told_stage places what (Some s) guard free = let h = told_cost guard (places.temp (what (suc s))) free in omega (arith, h)
 
-  pub stall_cost : (d : DescriptionTree) (places : Places) (guard : Expr) (n : List ℕ) → Free guard → cost (stalls d places guard n) ≤ unit
+  pub stall_cost : (d : DescriptionTree) (places : Places) (guard : Expr) (n : List ℕ) → Free guard → cost (stalls d places guard n) + 100 ≤ unit
   stall_cost d places guard n free = told_stage places Stall (stage_at d n) guard free
 
-  pub flush_cost : (d : DescriptionTree) (places : Places) (guard : Expr) (n : List ℕ) → Free guard → cost (flushes d places guard n) ≤ unit
+  pub flush_cost : (d : DescriptionTree) (places : Places) (guard : Expr) (n : List ℕ) → Free guard → cost (flushes d places guard n) + 100 ≤ unit
   flush_cost d places guard n free = told_stage places Flush (stage_at d n) guard free

@@ -1,9 +1,13 @@
 -- The parts of an accepted description cost no more than their prices.
-use Rattle.std.proofs.Common.{◌≡◌, ◌≤◌, ◌∙◌, ℕ, zero, suc, List, [], ◌∷◌, Option, None, Some, refl, sym, ap, subst, arith}
+use Rattle.std.proofs.Common.{◌≡◌, ◌≤◌, ◌+◌, ◌∙◌, ◌||◌, ◌&&◌, ℕ, zero, suc, Bool, true, false, not, List, [], ◌∷◌, Option, None, Some, refl, sym, ap, subst, arith}
 use Rattle.std.specs.Prelude.{slice_get, filter_map}
+use Rattle.std.specs.Option.{option_map_or}
 use Rattle.lisa_tree.specs.Expressions.{ExprTree}
 use Rattle.lisa_tree.specs.Descriptions.{DescriptionTree}
-use Rattle.lisa_tree.specs.Operations.{sections_at, coding_in}
+use Rattle.lisa_tree.specs.Statements as stmts
+use Rattle.lisa_tree.specs.Statements.{StmtTrees}
+use Rattle.lisa_tree.specs.Operations.{sections_at, coding_in, behavior_in, is_root}
+use Rattle.lisa_tree.specs.Paths.{node_count}
 use Rattle.description_sizes.specs.Texts.{levels}
 use Rattle.description_types.specs.Types.{Types}
 use Rattle.activation_trees.specs.declared.parts.Occurrence.{Occurrence}
@@ -11,9 +15,9 @@ use Rattle.activation_trees.specs.Unfolding.{occurrences}
 use Rattle.coding_tables.specs.Instructions.{Root, first_root}
 use Rattle.lisa_machine.specs.Soundness.{IsSound}
 use Rattle.step_program.specs.Programs.{Program, Expr, Const}
-use Rattle.step_pieces.specs.Pieces.{always}
+use Rattle.step_pieces.specs.Pieces.{top, always}
 use Rattle.lisa_meaning.specs.Scenes.{Link, line, line_within, occurrence_link}
-use Rattle.lisa_meaning.specs.Cores.{condition, root_place}
+use Rattle.lisa_meaning.specs.Cores.{condition, root_place, is_root_at, core_of}
 use Rattle.lisa_meaning.proofs.Paths.{line_of}
 use Rattle.lowered_values.specs.Templates.{fitted}
 use Rattle.lowered_values.specs.Sources.{bare}
@@ -21,22 +25,25 @@ use Rattle.lowered_values.specs.Computed.{Computed, computed}
 use Rattle.lowered_resources.specs.Reading.{absent, sources}
 use Rattle.lowered_words.specs.Ways.{way_place}
 use Rattle.lowered_words.specs.Choosing.{Choice, choice}
-use Rattle.lowered_words.specs.Rows.{flag_in, choice_flag}
-use Rattle.lowered_behaviors.specs.Standpoints.{Level, running}
+use Rattle.lowered_words.specs.Rows.{flag_at, flag_in, choice_flag}
+use Rattle.lowered_behaviors.specs.Standpoints.{Standpoint, Level, running}
 use Rattle.lowered_behaviors.specs.Values.{Ground}
+use Rattle.lowered_layouts.specs.Temps.{row_base}
 use Rattle.lowered_layouts.specs.Items.{places_of}
-use Rattle.lowered_edges.specs.Parts.{level_at, standpoint_of, ground_at, value_at, no_names, word_read, fetch_at, operations}
+use Rattle.lowered_edges.specs.Parts.{is_empty, is_idle, idle_at, behavior_of, level_at, standpoint_of, ground_at, value_at, no_names, word_read, fetch_at, operations}
+use Rattle.module_sizes.specs.Charges.{operand_most}
 use Rattle.module_sizes.specs.Costs.{Rates, IsLongest, IsFree}
 use Rattle.module_sizes.specs.Standing.{IsStood, AreNamed, read_worth}
 use Rattle.module_sizes.specs.Unfolded.{names_of, worth_of}
-use Rattle.module_sizes.specs.Activating.{Makes, Tells, ArePriced}
-use Rattle.module_sizes.specs.Priced.{operation_of, fetch_price, prices_of}
+use Rattle.module_sizes.specs.Activating.{Makes, Tells, guard_worth, ArePriced}
+use Rattle.module_sizes.specs.Priced.{operation_of, fetch_price, behavior_price, prices_of}
+use Rattle.module_sizes.proofs.Operands.{temp_low}
 use Rattle.module_sizes.proofs.Adding.{total, held_cost}
 use Rattle.module_sizes.proofs.Templates.{fitted_cost, held_picked_cost}
 use Rattle.module_sizes.proofs.Values.{Costs, costs_more, value_costs}
 use Rattle.module_sizes.proofs.Names.{leaf_costs}
 use Rattle.module_sizes.proofs.Reading.{sources_free, within_costs}
-use Rattle.module_sizes.proofs.Behaving.{behavior_cost}
+use Rattle.module_sizes.proofs.Behaving.{behavior_left, behavior_cost, behavior_leaves}
 use Rattle.module_sizes.proofs.Rows.{load_cost}
 use Rattle.module_sizes.proofs.Among.{path_of, from_links}
 use Rattle.module_sizes.proofs.Tables.{are_named}
@@ -92,12 +99,44 @@ module _ (d : DescriptionTree) (s : IsSound d) (types : Types) (width : ℕ) whe
 
     -- ---- parts
 
-    behaves : (k : ℕ) (row : Option ℕ) (guard : Expr) (from : ℕ) → IsFree p most rates guard → total p most rates ((operations d types width).behavior k row guard from) ≤ (prices_of d rates).behavior k
-    behaves k row guard from free =
-        let x = stands k in
-        let paid = behavior_cost p most longest rates (ground_at d types width k row) (names_of d rates) (IsStood d) named (levels d) (standpoint_of d types width k) guard from x.stood free in
-        let same = ap (λ (o : ℕ). (worth_of d rates o).run) x.operation in
-        omega (arith, paid, same)
+    -- what isn't idle has statements
+    busy_left : (k : ℕ) (x : Occurrence) → slice_get (occurrences d) k ≡ Some x → guard_worth (is_root_at d k || idle_at d k) ≤ behavior_left (behavior_in (sections_at d x.operation))
+    busy_left k x at =
+        let same = ap (λ (r : Option Occurrence). guard_worth (option_map_or (λ (y : Occurrence). is_root d y.operation) r false || option_map_or (is_idle d) r false)) at in
+        let low = by (is_root d x.operation) (behavior_in (sections_at d x.operation)) in
+        omega (arith, same, low)
+      where
+        by : (root : Bool) (body : Option StmtTrees) → guard_worth (root || (not root && is_empty body)) ≤ behavior_left body
+        by true body = omega arith
+        by false None = omega arith
+        by false (Some stmts.End) = omega arith
+        by false (Some (stmts.Then s rest)) = omega arith
+
+    guard_low : (b : Bool) → guard_worth b ≤ 100
+    guard_low true = omega arith
+    guard_low false = omega arith
+
+    behaves : (k : ℕ) (row : Option ℕ) (guard : Expr) (from : ℕ) → IsFree p most rates guard
+        → total p most rates ((operations d types width).behavior k row guard from) + guard_worth (is_root_at d k || idle_at d k) ≤ (prices_of d rates).behavior k
+    behaves k row guard from free = by (slice_get (occurrences d) k) refl
+      where
+        at : Standpoint
+        at = standpoint_of d types width k
+
+        by : (r : Option Occurrence) → slice_get (occurrences d) k ≡ r
+            → total p most rates (behavior_of d types width k row guard from) + guard_worth (is_root_at d k || idle_at d k) ≤ behavior_price d rates r
+        by None e =
+            let paid = behavior_cost p most longest rates (ground_at d types width k row) (names_of d rates) (IsStood d) named (levels d) at guard from (stands k).stood free in
+            let same = ap (λ (o : ℕ). (worth_of d rates o).run) ((stands k).operation ∙ ap operation_of e) in
+            let low = guard_low (is_root_at d k || idle_at d k) in
+            omega (arith, paid, same, low)
+        by (Some x) e =
+            let is : running at ≡ x.operation = (stands k).operation ∙ ap operation_of e in
+            let paid = behavior_leaves p most longest rates (ground_at d types width k row) (names_of d rates) (IsStood d) named (node_count d) at guard from (stands k).stood free in
+            let same = ap (λ (o : ℕ). (worth_of d rates o).run) is in
+            let left = ap (λ (o : ℕ). behavior_left (behavior_in (sections_at d o))) is in
+            let busy = busy_left k x e in
+            omega (arith, paid, same, left, busy)
 
     value_costs' : (k : ℕ) (row : Option ℕ) (from : ℕ) (e : Option ExprTree)
         → Few (read_worth (names_of d rates (running (standpoint_of d types width k))) e) (value_at d types width (ground_at d types width k row) (standpoint_of d types width k) from e)
@@ -111,7 +150,7 @@ module _ (d : DescriptionTree) (s : IsSound d) (types : Types) (width : ℕ) whe
         let v = value_costs' k row from (condition d k n) in
         let same = ap (λ (o : ℕ). read_worth (names_of d rates o) (condition d k n)) (stands k).operation in
         let h = held_picked_cost p most longest rates from c.piece c.out always (Const 1 0) (read_worth (names_of d rates (running (standpoint_of d types width k))) (condition d k n)) v.low v.out (omega arith) (omega arith) in
-        record { makes = record { out = refl; low = omega (arith, h, same) }; short = omega arith }
+        record { makes = record { out = refl; low = omega (arith, h, same) }; short = omega (arith, temp_low p most (top from c.piece)) }
 
     word_costs : (o from : ℕ) (e : Option ExprTree) → Few (read_worth (names_of d rates o) e) (word_read d types width o from e)
     word_costs o from None = leaf_costs p most longest rates absent 0 refl
@@ -145,15 +184,27 @@ module _ (d : DescriptionTree) (s : IsSound d) (types : Types) (width : ℕ) whe
         by None = refl
         by (Some c) = at_place (way_place d c.way)
 
-    pub are_priced : ArePriced p most rates (operations d types width) (prices_of d rates)
+    chooses_short : (base k : ℕ) → operand_most p most (choice_flag d base (choice d k)) ≤ 27
+    chooses_short base k = by (choice d k)
+      where
+        at_place : (r : Option ℕ) → operand_most p most (flag_in base r) ≤ 27
+        at_place None = omega arith
+        at_place (Some place) = omega (arith, temp_low p most (flag_at base place))
+
+        by : (c : Option Choice) → operand_most p most (choice_flag d base c) ≤ 27
+        by None = omega arith
+        by (Some c) = at_place (way_place d c.way)
+
+    pub are_priced : ArePriced (core_of d) p most rates (operations d types width) (prices_of d rates)
     are_priced = record {
       behaves = λ k row guard from free. behaves k row guard from free;
       tests = λ k n row from. tests k n row from;
       fetches = λ from. fetches from;
-      loads = λ row e from free. load_cost p most longest rates d width _ e from free;
+      loads = λ row e from free formed. load_cost p most longest rates d width _ e from free formed;
       words = λ row. refl;
       decodes = λ row. refl;
-      chooses = λ row k. chooses_free _ k;
+      chooses = λ row k. chooses_free (row_base d row) k;
+      short = λ row k. chooses_short (row_base d row) k;
       stalled = λ level. refl;
       flushed = λ level. refl;
     }

@@ -22,6 +22,11 @@ use Rattle.module_sizes.proofs.Templates.{shape_cost, held_picked_cost}
 use Rattle.module_sizes.proofs.Adding.{total, moves_append, behind_cost, held_cost}
 use Rattle.module_sizes.proofs.Values.{Costs}
 
+-- what is left over where there are statements
+abbrev pub left_over : StmtTrees → ℕ
+left_over stmts.End = 0
+left_over (stmts.Then s rest) = 100
+
 module _ (p : Program) (most : ℕ) (longest : IsLongest most) (rates : Rates) where
   abbrev Free : Expr → Type 0
   Free e = IsFree p most rates e
@@ -35,8 +40,8 @@ module _ (p : Program) (most : ℕ) (longest : IsLongest most) (rates : Rates) w
     pub puts : (scope : Scope) (guard : Expr) (from : ℕ) (target : ExprTree) (x : Kind → Operand) → Free guard → ((kind : Kind) → Free (x kind).at)
         → cost (ways.puts scope guard from target x) ≤ place_worth names target
     pub calls : (guard : Expr) (from : ℕ) (n : List ℕ) → Free guard → cost (ways.calls guard from n) ≤ names.run n
-    pub stalls : (guard : Expr) (from : ℕ) (n : List ℕ) → Free guard → cost (ways.stalls guard from n) ≤ unit
-    pub flushes : (guard : Expr) (from : ℕ) (n : List ℕ) → Free guard → cost (ways.flushes guard from n) ≤ unit
+    pub stalls : (guard : Expr) (from : ℕ) (n : List ℕ) → Free guard → cost (ways.stalls guard from n) + 100 ≤ unit
+    pub flushes : (guard : Expr) (from : ℕ) (n : List ℕ) → Free guard → cost (ways.flushes guard from n) + 100 ≤ unit
 
   -- ---- loops
 
@@ -67,7 +72,7 @@ module _ (p : Program) (most : ℕ) (longest : IsLongest most) (rates : Rates) w
 
   module _ (names : Naming) (ways : Ways) (worth : AreWorth names ways) where
     local_cost : (scope : Scope) (from : ℕ) (n : List ℕ) (shape : Shape) (e : Option ExprTree)
-        → cost (with_local scope from n (first_of ways.reads scope from shape e)).piece ≤ unit + option_map_or (value_worth names) e 0
+        → cost (with_local scope from n (first_of ways.reads scope from shape e)).piece + 100 ≤ unit + option_map_or (value_worth names) e 0
     local_cost scope from n shape None = omega arith
     local_cost scope from n shape (Some e) =
         let r = worth.reads scope from e in
@@ -81,10 +86,10 @@ module _ (p : Program) (most : ℕ) (longest : IsLongest most) (rates : Rates) w
     guard_cost from a test this other m h t f g = held_picked_cost p most longest rates from a test this other m h t (omega (arith, f)) (omega (arith, g))
 
     mutual
-      pub stated_cost : (s : StmtTree) (scope : Scope) (guard : Expr) (from : ℕ) → Free guard → cost (stated ways scope guard from s).piece ≤ statement_worth names s
+      pub stated_cost : (s : StmtTree) (scope : Scope) (guard : Expr) (from : ℕ) → Free guard → cost (stated ways scope guard from s).piece + 100 ≤ statement_worth names s
       stated_cost stmts.Empty scope guard from free = omega arith
       stated_cost (stmts.Block all) scope guard from free = let h = stated_all_cost all scope guard from free in omega (arith, h)
-      stated_cost (stmts.Local shape n e) scope guard from free = local_cost scope from n shape e
+      stated_cost (stmts.Local shape n e) scope guard from free = let h = local_cost scope from n shape e in omega (arith, h)
       stated_cost (stmts.Assign target e) scope guard from free =
           let x = ways.reads scope from e in
           let r = worth.reads scope from e in
@@ -99,7 +104,7 @@ module _ (p : Program) (most : ℕ) (longest : IsLongest most) (rates : Rates) w
           let t = guard_cost from c.piece c.out guard (Const 1 0) (value_worth names test) r.low r.out free refl in
           let body = (stated ways scope (Temp (top from c.piece)) (top from tests) chosen).piece in
           let s = stated_cost chosen scope (Temp (top from c.piece)) (top from tests) refl in
-          let all = behind_cost p most rates tests body (value_worth names test + 741) (statement_worth names chosen) t s in
+          let all = behind_cost p most rates tests body (value_worth names test + 741) (statement_worth names chosen) t (omega (arith, s)) in
           omega (arith, all)
       stated_cost (stmts.IfElse test chosen other) scope guard from free =
           let c = ways.reads scope from test in
@@ -111,16 +116,16 @@ module _ (p : Program) (most : ℕ) (longest : IsLongest most) (rates : Rates) w
           let one = (stated ways scope (Temp (top from c.piece)) (top from tests) chosen).piece in
           let s = stated_cost chosen scope (Temp (top from c.piece)) (top from tests) refl in
           let x = behind tests one in
-          let both = behind_cost p most rates tests one (value_worth names test + 741 + 741) (statement_worth names chosen) u s in
+          let both = behind_cost p most rates tests one (value_worth names test + 741 + 741) (statement_worth names chosen) u (omega (arith, s)) in
           let two = (stated ways scope (Temp (top from first)) (top from x) other).piece in
           let q = stated_cost other scope (Temp (top from first)) (top from x) refl in
-          let all = behind_cost p most rates x two (value_worth names test + 741 + 741 + statement_worth names chosen) (statement_worth names other) both q in
+          let all = behind_cost p most rates x two (value_worth names test + 741 + 741 + statement_worth names chosen) (statement_worth names other) both (omega (arith, q)) in
           omega (arith, all)
       stated_cost (stmts.While test body) scope guard from free = omega arith
       stated_cost (stmts.For head body) scope guard from free =
           let inside = entered scope head.name (counter_of from head.shape) in
           let b = stated_cost body inside guard (from + 1) free in
-          let l = looped_cost from head.shape (stated ways inside guard (from + 1) body).piece (statement_worth names body) b (bounds_of head) in
+          let l = looped_cost from head.shape (stated ways inside guard (from + 1) body).piece (statement_worth names body) (omega (arith, b)) (bounds_of head) in
           omega (arith, l)
       stated_cost (stmts.Call n) scope guard from free = let c = worth.calls guard from n free in omega (arith, c)
       stated_cost (stmts.Stall pipe stage) scope guard from free = worth.stalls guard from stage free
@@ -128,11 +133,12 @@ module _ (p : Program) (most : ℕ) (longest : IsLongest most) (rates : Rates) w
       stated_cost (stmts.Execute pipe) scope guard from free = omega arith
       stated_cost (stmts.Shift pipe) scope guard from free = omega arith
 
-      pub stated_all_cost : (all : StmtTrees) (scope : Scope) (guard : Expr) (from : ℕ) → Free guard → cost (stated_all ways scope guard from all).piece ≤ statements_worth names all
+      pub stated_all_cost : (all : StmtTrees) (scope : Scope) (guard : Expr) (from : ℕ) → Free guard → cost (stated_all ways scope guard from all).piece + left_over all ≤ statements_worth names all
       stated_all_cost stmts.End scope guard from free = omega arith
       stated_all_cost (stmts.Then s rest) scope guard from free =
           let x = stated ways scope guard from s in
           let y = stated_all ways x.scope guard (top from x.piece) rest in
           let h = stated_cost s scope guard from free in
           let k = stated_all_cost rest x.scope guard (top from x.piece) free in
-          behind_cost p most rates x.piece y.piece (statement_worth names s) (statements_worth names rest) h k
+          let both = behind_cost p most rates x.piece y.piece (cost x.piece) (statements_worth names rest) (omega arith) (omega (arith, k)) in
+          omega (arith, h, both)

@@ -1,13 +1,19 @@
 -- What steps cost: the bytes that they are charged with where no cell was written before, and what reads and writes of arrays cost beside.
+use Rattle.std.specs.List.{AllByRecursion}
 use Rattle.std.specs.Prelude.{ℕ, ◌≡◌, ◌≤◌, ◌+◌, List, [], ◌∷◌, nat_eq, if◌then◌else◌}
 use Rattle.step_program.specs.Programs.{Program, Expr, Const, Now, Before, Pin, Temp, Cell, One, Two, Choose, Aim, ToItem, ToTemp, ToCell, Move}
-use Rattle.netlist_rules.specs.Sizes.{expr_most, move_most}
+use Rattle.step_program.specs.WellFormed.{IsMove}
+use Rattle.module_sizes.specs.Charges.{expr_most, move_most}
 
 -- No name of a description's program is longer than that of a field: the names of two stages with 64 bytes, a field's with as many, and two
 -- signs. A wire's may be as long as 25.
 pub record IsLongest (most : ℕ) : Type 0 where
   pub least : 25 ≤ most
   pub greatest : most ≤ 194
+
+-- Steps that are well formed in a program, so that what temps hold is as wide as the program says.
+abbrev pub AreFormed : Program → List Move → Type 0
+AreFormed p moves = AllByRecursion (IsMove p) moves
 
 -- what a read and a write of a cell cost, by the number of the array
 pub record Rates : Type 0 where

@@ -1,3 +1,4 @@
+pub mod Charges
 pub mod Costs
 pub mod Worths
 pub mod Standing
@@ -8,3 +9,6 @@ pub mod Weighed
 pub mod Priced
 pub mod Summed
 pub mod Whole
+pub mod Counted
+pub mod Units
+pub mod Laws

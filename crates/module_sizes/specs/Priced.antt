@@ -21,10 +21,15 @@ abbrev pub fetch_price : DescriptionTree → Rates → Option Root → ℕ
 fetch_price d rates None = 0
 fetch_price d rates (Some root) = read_worth (names_of d rates root.operation) (root_place (coding_in (sections_at d root.operation))) + 702
 
+-- what isn't there pays for a guard alone
+abbrev pub behavior_price : DescriptionTree → Rates → Option Occurrence → ℕ
+behavior_price d rates None = 100 + (worth_of d rates 0).run
+behavior_price d rates (Some x) = (worth_of d rates x.operation).run
+
 -- behaviours and conditions cost what they are worth in the occurrence's operation, and a condition 741 more
 abbrev pub prices_of : DescriptionTree → Rates → Prices
 prices_of d rates = record {
-  behavior = λ k. (worth_of d rates (operation_of (slice_get (occurrences d) k))).run;
+  behavior = λ k. behavior_price d rates (slice_get (occurrences d) k);
   test = λ k test. read_worth (names_of d rates (operation_of (slice_get (occurrences d) k))) (condition d k test) + 741;
   fetch = fetch_price d rates (first_root d);
   load = row_worth d;

@@ -1,5 +1,5 @@
 -- What reads and writes of arrays cost that are counted of texts.
-use Rattle.std.specs.Prelude.{ℕ}
+use Rattle.std.specs.Prelude.{ℕ, slice_get}
 use Rattle.std.specs.Option.{option_map_or}
 use Rattle.lisa_tree.specs.Descriptions.{DescriptionTree}
 use Rattle.lisa_tree.specs.Operations.{sections_at, behavior_in}
@@ -7,15 +7,18 @@ use Rattle.description_sizes.specs.Texts.{levels}
 use Rattle.access_counts.specs.Accesses.{Access, Naming, statements_accesses}
 use Rattle.access_counts.specs.Unfolded.{of_resources, naming, counted_within}
 use Rattle.description_weight.specs.Unfolded.{chosen_by}
-use Rattle.lisa_meaning.specs.Values.{array_place}
+use Rattle.lisa_meaning.specs.Values.{Array, array_of}
 use Rattle.module_sizes.specs.Costs.{Rates}
 
 abbrev pub no_rates : Rates
 no_rates = record { read = λ array. 0; write = λ array. 0 }
 
--- a resource costs what the array costs that it is
+-- a resource costs what the array costs that it is, and nothing where it is none
+abbrev pub resource_rate : DescriptionTree → (ℕ → ℕ) → ℕ → ℕ
+resource_rate d rate k = option_map_or (λ (a : Array). rate a.place) (array_of d k (slice_get d.resources k)) 0
+
 abbrev pub array_rates : DescriptionTree → Rates → Access
-array_rates d rates = of_resources d (λ k. rates.read (array_place d k)) (λ k. rates.write (array_place d k))
+array_rates d rates = of_resources d (resource_rate d rates.read) (resource_rate d rates.write)
 
 -- of the names in an operation
 abbrev pub counted_names : DescriptionTree → Rates → ℕ → Naming

@@ -13,9 +13,8 @@ use Rattle.netlist_wires.specs.Wiring.{Find, begun_going, ended, built}
 use Rattle.netlist_wires.proofs.Members.{regs_is, arrays_is, nets_is, wire_nets}
 use Rattle.netlist_wires.proofs.Growing.{all_grown, begun_sound}
 use Rattle.netlist_wires.proofs.Edges.{states_are}
-use Rattle.netlist_rules.specs.Sizes.{module_most}
-use Rattle.netlist_rules.proofs.Whole.{whole_accepted, whole_size}
-use Rattle.netlist_build.specs.Carried.{IsModuleOf, WiresDiffer}
+use Rattle.netlist_rules.proofs.Whole.{whole_accepted, whole_size, whole_short}
+use Rattle.netlist_build.specs.Carried.{IsModuleOf, AreFew, WiresDiffer}
 use Rattle.netlist_build.proofs.Sharing.{Finds, ended_once, wires_differ}
 
 module _ (find : Find) (is_find : IsFind find) (p : Program) (formed : IsWellFormed p) where
@@ -30,8 +29,11 @@ module _ (find : Find) (is_find : IsFind find) (p : Program) (formed : IsWellFor
   pub is_accepted : HasDistinctNames p → length (ended find p).keys ≤ 2 ^ 64 → VAccepts (module_text (built find p)) (built find p)
   is_accepted distinct few = whole_accepted find is_find p formed few distinct
 
-  pub is_small : length (ended find p).keys ≤ 2 ^ 64 → length (module_text (built find p)) ≤ module_most p
-  is_small few = whole_size find is_find p formed few
+  pub is_small : length (ended find p).keys ≤ 2 ^ 64 → AreFew p (length (module_text (built find p)))
+  is_small few = record {
+    always = whole_size find is_find p formed few 20 (omega arith) (omega arith) (omega (arith, few));
+    short = whole_short find is_find p formed few;
+  }
 
   net_count : (n : ℕ) (keys : List Key) → length (wire_nets p n keys) ≡ length keys
   net_count n [] = refl

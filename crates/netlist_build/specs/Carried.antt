@@ -8,7 +8,7 @@ use Rattle.verilog_text.specs.Clocked.{regs, arrays, nets, v_state}
 use Rattle.verilog_text.specs.Faults.{VAccepts}
 use Rattle.step_program.specs.Programs.{Program}
 use Rattle.step_program.specs.Effects.{p_state}
-use Rattle.netlist_rules.specs.Sizes.{module_most}
+use Rattle.netlist_rules.specs.Sizes.{module_most, AreEnough}
 
 -- the module has the program's items, arrays and pins, and the program's state after each list of pin values, an entry for each edge,
 -- for every image whose memories are the program's arrays
@@ -18,12 +18,17 @@ pub record IsModuleOf (p : Program) (m : ModuleTree) : Type 0 where
   pub pins : m.inputs ≡ p.pins
   pub states : (image : List Memory) (entries : List (List ℕ)) → IsImage image → missing_memory p.arrays image ≡ None → AreEntries p.pins entries → v_state m image entries ≡ p_state p image entries
 
+-- so many bytes are as few as stated: where the numbers of wires have 20 digits, and where they have fewer, if these are enough
+pub record AreFew (p : Program) (bytes : ℕ) : Type 0 where
+  pub always : bytes ≤ module_most 20 p
+  pub short : (digits : ℕ) → AreEnough digits p → bytes ≤ module_most digits p
+
 -- the bytes spell such a module, in which nothing is broken, and they are as few as stated
 pub record IsTextOf (p : Program) (bytes : List ℕ) : Type 0 where
   pub tree : ModuleTree
   pub accepted : VAccepts bytes tree
   pub is_module : IsModuleOf p tree
-  pub short : length bytes ≤ module_most p
+  pub few : AreFew p (length bytes)
 
 -- no two wires of one width carry the same expression
 abbrev pub WiresDiffer : ModuleTree → Type 0

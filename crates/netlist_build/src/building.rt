@@ -9,10 +9,9 @@ ghost use Rattle.step_program.specs.WellFormed.{IsWellFormed};
 ghost use Rattle.netlist_wires.specs.Wiring.{actions as actions_of, clock_name, ended, built};
 ghost use Rattle.netlist_wires.specs.Tables.{HasDistinctNames};
 ghost use Rattle.netlist_wires.specs.Costs.{wires_most};
-ghost use Rattle.netlist_rules.specs.Sizes.{module_most};
 ghost use Rattle.netlist_build.specs.Symbolic.{sym_of, first};
 ghost use Rattle.netlist_build.specs.Assembled.{IsWord, HasWords, IsWrite, members_of};
-ghost use Rattle.netlist_build.specs.Carried.{IsModuleOf, IsTextOf, WiresDiffer};
+ghost use Rattle.netlist_build.specs.Carried.{IsModuleOf, AreFew, IsTextOf, WiresDiffer};
 
 use crate::assembling::{
     copied_items, first_settings, put_arrays, put_items, put_sets, put_wires, put_writes,
@@ -109,7 +108,7 @@ pub fn build(alloc: Global, program: &StepProgram) -> Result<Module, NoMemory>
     requires distinct { HasDistinctNames (program_tree program.now) }
     ensures is_module { IfOk result (λ m. IsModuleOf (program_tree program.now) (module_tree m)) }
     ensures accepted { IfOk result (λ m. VAccepts (module_text (module_tree m)) (module_tree m)) }
-    ensures size { IfOk result (λ m. length (module_text (module_tree m)) ≤ module_most (program_tree program.now)) }
+    ensures size { IfOk result (λ m. AreFew (program_tree program.now) (length (module_text (module_tree m)))) }
     ensures wires { IfOk result (λ m. length (nets (module_tree m).members) ≤ wires_most (program_tree program.now)) }
     ensures shared { IfOk result (λ m. WiresDiffer (module_tree m)) }
 {

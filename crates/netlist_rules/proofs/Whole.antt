@@ -1,5 +1,5 @@
 -- The module of a well-formed program is accepted, and no larger than stated.
-use Rattle.std.proofs.Common.{◌≡◌, ℕ, ◌^◌, ◌<◌, ◌≤◌, List, [], ◌∷◌, length, arith, None}
+use Rattle.std.proofs.Common.{◌≡◌, ℕ, ◌^◌, ◌<◌, ◌≤◌, List, [], ◌∷◌, length, arith}
 use Rattle.std.specs.Prelude.{slice_index_or}
 use Rattle.verilog_text.specs.Trees.{members_depth}
 use Rattle.verilog_text.specs.Printing.{module_tokens, module_text}
@@ -13,10 +13,10 @@ use Rattle.netlist_wires.specs.Tables.{IsFind, HasDistinctNames, program_names}
 use Rattle.netlist_wires.specs.Costs.{moves_cost}
 use Rattle.netlist_wires.specs.Wiring.{Find, nothing, Going, begun_going, ended, built}
 use Rattle.netlist_wires.proofs.Growing.{IsBelow, IsOrdered, flat_width, AreSound, IsSymSound, Went, all_grown, begun_sound}
-use Rattle.netlist_rules.specs.Sizes.{longest, moves_most, module_most}
+use Rattle.netlist_rules.specs.Sizes.{longest, room_for, moves_most, module_most, AreEnough}
 use Rattle.netlist_rules.proofs.Spelled.{ArePuts, members_part, written}
 use Rattle.netlist_rules.proofs.Accepted.{accepted}
-use Rattle.netlist_rules.proofs.Bounds.{zeros_settled, going_most, all_short, longest_least, module_short}
+use Rattle.netlist_rules.proofs.Bounds.{zeros_settled, going_most, wires_few, all_short, room_is, module_short}
 use Rattle.netlist_rules.proofs.Lengths.{texts_short}
 
 module _ (find : Find) (is_find : IsFind find) (p : Program) (formed : IsWellFormed p) (few : length (ended find p).keys ≤ 2 ^ 64) where
@@ -50,9 +50,18 @@ module _ (find : Find) (is_find : IsFind find) (p : Program) (formed : IsWellFor
   pub whole_depth : members_depth (built find p).members ≤ 3
   whole_depth = (members_part p formed end few ordered sound.items_many below (are_puts end.sym.writes sound.writes)).depth
 
-  pub whole_size : length (module_text (built find p)) ≤ module_most p
-  whole_size =
-      let most = longest (program_names p) in
-      let h : going_most (λ keys key. None) most (longest_least (program_names p)) end ≤ moves_most p most [] p.moves = omega (arith, all_short find most (longest_least (program_names p)) p (begun_going p) p.moves (zeros_settled p.temps)) in
-      let puts = are_puts end.sym.writes sound.writes in
-      omega (arith, texts_short (module_tokens (built find p)) (written p formed end few ordered sound.items_many below puts), module_short p formed end few ordered sound.items_many below puts h)
+  module _ (digits : ℕ) (some : 1 ≤ digits) (within : digits ≤ 20) where
+    puts : ArePuts p formed (length end.keys) end.sym.writes
+    puts = are_puts end.sym.writes sound.writes
+
+    going_short : going_most (room_for digits (longest (program_names p))) end ≤ moves_most p (room_for digits (longest (program_names p))) [] p.moves
+    going_short = omega (arith, all_short find (room_for digits (longest (program_names p))) (room_is digits within p) p formed is_find (begun_going p) p.moves (begun_sound p formed find is_find) formed.moves (zeros_settled p.temps))
+
+    pub whole_size : length end.keys ≤ 10 ^ digits → length (module_text (built find p)) ≤ module_most digits p
+    whole_size enough =
+        omega (arith, texts_short (module_tokens (built find p)) (written p formed end few ordered sound.items_many below puts), module_short digits some within p formed end enough ordered sound.items_many below puts going_short)
+
+  pub whole_short : (digits : ℕ) → AreEnough digits p → length (module_text (built find p)) ≤ module_most digits p
+  whole_short digits h =
+      let room = room_for digits (longest (program_names p)) in
+      whole_size digits h.some h.few (wires_few room end (10 ^ digits) (omega (arith, going_short digits h.some h.few, h.enough)))

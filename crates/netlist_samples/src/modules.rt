@@ -53,7 +53,7 @@ pub fn written(alloc: Global, program: &StepProgram) -> Result<Option<Vec<u8>>, 
 /// Only want of memory is refused. There is none for a program without a module, and none for a text of 2^32 bytes or more, which only a
 /// program has whose module's stated size is as much.
 pub fn read_back(alloc: Global, program: &StepProgram) -> Result<Option<Module>, VerilogFault>
-    ensures made { IfOk result (λ found. IsBuildable (program_tree program.now) → module_most (program_tree program.now) < 2 ^ 32 → IsSome found) }
+    ensures made { IfOk result (λ found. IsBuildable (program_tree program.now) → module_most 20 (program_tree program.now) < 2 ^ 32 → IsSome found) }
     ensures only { IfOk result (λ found. IsSome found → IsBuildable (program_tree program.now)) }
     ensures found { IfOk result (λ found. IfSome found (λ m. IsModuleOf (program_tree program.now) (module_tree m))) }
     ensures clockable { IfOk result (λ found. IfSome found (λ m. IsClockable (module_tree m))) }

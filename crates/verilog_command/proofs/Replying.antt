@@ -5,7 +5,7 @@ use Rattle.lisa_io.proofs.Known.{appends_none}
 use Rattle.lisa_tree.specs.Descriptions.{DescriptionTree}
 use Rattle.step_program.specs.declared.faults.LowerFault.{LowerFault}
 use Rattle.step_program.specs.declared.faults.LowerFault.TheVariants as faults
-use Rattle.lisa_lower.specs.Lowered.{weight_limit, IsTooHeavy}
+use Rattle.lisa_lower.specs.Heavy.{weight_limit, IsTooHeavy}
 use Rattle.description_weight.specs.Weights.{weight}
 use Rattle.lisa_outcomes.specs.declared.status.End.{End}
 use Rattle.lisa_outcomes.specs.declared.status.End.TheVariants as ends

@@ -12,7 +12,7 @@ use Rattle.verilog_text.specs.Trees.{ModuleTree}
 use Rattle.verilog_text.specs.Clocked.{regs, arrays, v_state}
 use Rattle.verilog_text.specs.Faults.{VAccepts}
 use Rattle.step_program.specs.declared.faults.LowerFault.{LowerFault}
-use Rattle.lisa_lower.specs.Lowered.{weight_limit, IsTooHeavy}
+use Rattle.lisa_lower.specs.Heavy.{weight_limit, IsTooHeavy}
 use Rattle.lisa_outcomes.specs.declared.status.Refusal.{Refusal}
 use Rattle.lisa_outcomes.specs.declared.status.Refusal.TheVariants as refusals
 use Rattle.lisa_outcomes.specs.declared.status.End.{End}

@@ -1,5 +1,5 @@
 //! The command that writes the module of a description.
-ghost use Rattle.std.specs.Prelude.{◌<◌, ◌≤◌, ◌^◌, length, IfOk, IfErr};
+ghost use Rattle.std.specs.Prelude.{◌<◌, ◌^◌, length, IfOk, IfErr};
 ghost use Rattle.lisa_tree.specs.Descriptions.{description_tree};
 ghost use Rattle.lisa_machine.specs.Machines.{IsSpelled};
 ghost use Rattle.lisa_outcomes.specs.Replies.{Replies};
@@ -7,57 +7,16 @@ ghost use Rattle.lisa_outcomes.specs.Writes.{Writes};
 ghost use Rattle.checked_descriptions.specs.Descriptions.{AfterSpelling};
 ghost use Rattle.checked_descriptions.specs.ToolViews.{checked_of, AreTools};
 ghost use Rattle.step_program.specs.Programs.{program_tree};
-ghost use Rattle.step_program.specs.WellFormed.{IsWellFormed};
-ghost use Rattle.netlist_wires.specs.Tables.{HasDistinctNames};
 ghost use Rattle.lisa_lower.specs.Lowered.{IsLowered};
 ghost use Rattle.verilog_command.specs.Modules.{IsLightText, IsHeavyEnd, WritesModule, WritesVerilog};
-ghost use Rattle.verilog_command.specs.ShortTexts.{program_limit, IsShortText};
 
 use checked_descriptions::{Tools, description_of, tools_of};
-use description_weight::weigh;
 use lisa_io::{Sink, put_all};
 use lisa_lower::{LowerFault, lower};
 use lisa_outcomes::{End, Refusal};
 use lisa_tree::Description;
-use lisa_words::NoMemory;
 use netlist_build::program_text;
 use std::alloc::Global;
-use step_program::StepProgram;
-
-// How many bytes the text of a program's module has at most, where its description has this weight.
-fn most_bytes(weight: u64, program: &StepProgram) -> u64
-    ensures { result ≤ program_limit weight (program_tree program.now) }
-{
-    let items = program.items.len() as u64;
-    let arrays = program.arrays.len() as u64;
-    let pins = program.pins.len() as u64;
-    let declared = items.saturating_add(arrays).saturating_add(pins);
-    let units = weight.saturating_add(declared).saturating_add(16);
-    units.saturating_mul(2048)
-}
-
-// The text of a program's module. One of more bytes isn't answered.
-fn short_text(alloc: Global, program: &StepProgram, weight: u64) -> Result<Vec<u8>, NoMemory>
-    requires formed { IsWellFormed (program_tree program.now) }
-    requires distinct { HasDistinctNames (program_tree program.now) }
-    ensures { IfOk result (λ text. IsShortText weight (program_tree program.now) text.items) }
-{
-    let text = program_text(alloc, program)?;
-    if text.len() as u64 > most_bytes(weight, program) {
-        return Err(NoMemory);
-    }
-    Ok(text)
-}
-
-// The text of the module of a description, by its program.
-fn light_text(alloc: Global, tools: &Tools, program: &StepProgram) -> Result<Vec<u8>, NoMemory>
-    requires tools { AreTools tools.now }
-    requires lowered { IsLowered (checked_of tools.now).tree (checked_of tools.now).width (program_tree program.now) }
-    ensures { IfOk result (λ text. IsLightText (checked_of tools.now) text.items) }
-{
-    let weight = weigh(alloc, &tools.machine, &tools.forms)?;
-    short_text(alloc, program, weight)
-}
 
 // The text of the module of a description that is checked.
 fn module_text(alloc: Global, tools: &Tools) -> Result<Vec<u8>, End>
@@ -66,7 +25,7 @@ fn module_text(alloc: Global, tools: &Tools) -> Result<Vec<u8>, End>
     ensures end { IfErr result (IsHeavyEnd (checked_of tools.now)) }
 {
     match lower(alloc, &tools.machine, &tools.forms, &tools.coding) {
-        Ok(program) => match light_text(alloc, tools, &program) {
+        Ok(program) => match program_text(alloc, &program) {
             Ok(text) => Ok(text),
             Err(_) => Err(End::NoMemory),
         },

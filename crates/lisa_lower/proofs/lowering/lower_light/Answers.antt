@@ -22,5 +22,6 @@ returns c =
       states = c.programs_show_states.ensures.states d edge.known.types declared;
       formed = c.programs_are_formed.ensures d edge.known.types declared;
       shown = c.shown_is_declared.ensures d declared;
+      small = c.modules_are_small.ensures d edge.known.types declared;
     }) c.requires.light)
     c.lower_edges.ensures

@@ -1,14 +1,18 @@
-use Rattle.std.proofs.Common.{◌≡◌, sym, subst}
+use Rattle.std.proofs.Common.{◌≡◌, ◌∙◌, ◌&&◌, Bool, true, false, nat_eq, sym, ap, subst}
 use Rattle.std.proofs.lemmas.Bool.{eq-eqb, ne_eqb}
 use Rattle.step_pieces.specs.declared.drafts.Draft.{Draft}
 use Rattle.step_pieces.specs.Drafts.{leaf_tree}
 use Rattle.pipeline_runs.specs.declared.tree.Tree.{Tree}
 use Rattle.pipeline_runs.specs.Runs.{acts_of}
-use Rattle.lowered_time.specs.Building.{active}
+use Rattle.lowered_time.specs.Building.{is_idle, active}
 use Rattle.lowered_time.specs.Code.{Adds}
-use Rattle.lowered_time.proofs.Putting.{on_ok, item_here, item_later, if_put}
+use Rattle.lowered_time.proofs.Putting.{on_ok, item_idle, item_here, item_later, if_put}
 use Rattle.lowered_time.proofs.occurrences.+active.Goals.{then-level-here+in_ok-begin-in-Item+in_ok-active-in-Item, else-level-here+in_ok-record-in-Item}
 use Rattle.lowered_time.proofs.occurrences.+active.Goals as goal
+
+-- what was told of a tree, of one that is the same
+told : (f : Tree → Bool) (result is : Bool) (tested own : Tree) → result ≡ f tested → tested ≡ own → result ≡ is → f own ≡ is
+told f result is tested own by_call same so = sym (by_call ∙ ap f same) ∙ so
 
 pub returns-in_ok-active-in-If-2 : goal.returns-in_ok-active-in-If-2
 returns-in_ok-active-in-If-2 g t c =
@@ -51,6 +55,8 @@ returns-after-level-here g t c =
     let a = c.args.draft.now in
     let b = c.chosen.new.draft in
     let e = c.active-in-Item.new.draft in
+    let busy : (nat_eq level here && is_idle core ops layout number own) ≡ false =
+    told (λ t. nat_eq level here && is_idle core ops layout number (acts_of t)) c.is_left_out.result false c.deref.result.now c.in-Item.own.value c.is_left_out.ensures c.deref.ensures c.if-is_left_out.false in
     on_ok c.active-in-Item.result
     (λ last.
     let others = λ (d : Draft) (is : c.if-level-here.draft ≡ d).
@@ -60,12 +66,34 @@ returns-after-level-here g t c =
     (elim c.if-level-here.branch [
       | then-level-here+in_ok-begin-in-Item+in_ok-active-in-Item w ↦
           let mine = w.own_under-mine.result in
-          item_here core ops layout here row guard number level past own rest mine.row a b w.begin.new.draft w.active.new.draft e x mine.guard
-          (eq-eqb level here w.if-level-here.true) w.own_under-mine.ensures.row w.own_under-mine.ensures.guard c.in_ok-guard-in-Item.ensures w.in_ok-begin-in-Item.ensures
-          (subst (λ (t : Tree). Adds (active core ops layout here mine.row (leaf_tree mine.guard) (acts_of t)) w.begin.new.draft w.active.new.draft) w.deref.ensures w.in_ok-active-in-Item.ensures)
-          (others w.active.new.draft w.draft-is)
+          item_here core ops layout here row guard number level past own rest mine.row a b w.begin.new.draft w.active-then-level-here.new.draft e x mine.guard
+          (eq-eqb level here w.if-level-here.true) busy w.own_under-mine.ensures.row w.own_under-mine.ensures.guard c.in_ok-guard-in-Item.ensures w.in_ok-begin-in-Item.ensures
+          (subst (λ (t : Tree). Adds (active core ops layout here mine.row (leaf_tree mine.guard) (acts_of t)) w.begin.new.draft w.active-then-level-here.new.draft) w.deref-then-level-here.ensures w.in_ok-active-in-Item.ensures)
+          (others w.active-then-level-here.new.draft w.draft-is)
       | else-level-here+in_ok-record-in-Item w ↦
           item_later core ops layout here row guard number level past own rest a b w.record.new.draft e x
           (ne_eqb level here w.if-level-here.false) c.in_ok-guard-in-Item.ensures w.in_ok-record-in-Item.ensures (others w.record.new.draft w.draft-is)
     ]))
     c.active-in-Item.ensures
+
+pub returns-then-is_left_out : goal.returns-then-is_left_out
+returns-then-is_left_out g t c =
+    let core = g.P.Parts.core c.args.parts.now in
+    let ops = g.P.Parts.operations c.args.parts.now in
+    let layout = g.P.Parts.layout c.args.parts.now in
+    let here = c.args.here in
+    let row = c.args.under.row in
+    let guard = leaf_tree c.args.under.guard in
+    let number = c.in-Item.number in
+    let level = c.in-Item.level in
+    let own = acts_of c.in-Item.own.value in
+    let a = c.args.draft.now in
+    let b = c.active.new.draft in
+    let idle : (nat_eq level here && is_idle core ops layout number own) ≡ true =
+    told (λ t. nat_eq level here && is_idle core ops layout number (acts_of t)) c.is_left_out.result true c.deref.result.now c.in-Item.own.value c.is_left_out.ensures c.deref.ensures c.if-is_left_out.true in
+    on_ok c.active.result
+    (λ last.
+    subst (λ (t : Tree). Adds (active core ops layout here row guard (acts_of t)) a b) (sym c.in-Item.is)
+    (item_idle core ops layout here row guard number level c.in-Item.past own (acts_of c.in-Item.rest.value) a b idle
+    (subst (λ (t : Tree). Adds (active core ops layout here row guard (acts_of t)) a b) c.deref-then-is_left_out.ensures last)))
+    c.active.ensures

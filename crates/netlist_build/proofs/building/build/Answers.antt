@@ -13,8 +13,7 @@ use Rattle.verilog_text.specs.Clocked.{nets}
 use Rattle.verilog_text.specs.Printing.{module_text}
 use Rattle.verilog_text.specs.Faults.{VAccepts}
 use Rattle.netlist_wires.specs.Costs.{wires_most}
-use Rattle.netlist_rules.specs.Sizes.{module_most}
-use Rattle.netlist_build.specs.Carried.{IsModuleOf, WiresDiffer}
+use Rattle.netlist_build.specs.Carried.{IsModuleOf, AreFew, WiresDiffer}
 use Rattle.netlist_build.proofs.Sharing.{key_equal, first_finds}
 use Rattle.netlist_build.proofs.Promises.{is_module, is_accepted, is_small, has_few_wires, is_shared}
 use Rattle.netlist_build.proofs.building.build.Goals as goal
@@ -40,7 +39,7 @@ pub returns-clause-size : goal.returns-clause-size
 returns-clause-size c =
     let p = program_tree c.args.program.now in
     let find = first impl.eq-value.it in
-    along (λ m. length (module_text m) ≤ module_most p) _ (built find p) c.assemble.result c.assemble.ensures.built c.assemble.ensures.few (λ few. is_small find (is_find impl.eq-value.it key_same) p c.requires.formed few)
+    along (λ m. AreFew p (length (module_text m))) _ (built find p) c.assemble.result c.assemble.ensures.built c.assemble.ensures.few (λ few. is_small find (is_find impl.eq-value.it key_same) p c.requires.formed few)
 
 pub returns-clause-wires : goal.returns-clause-wires
 returns-clause-wires c =
