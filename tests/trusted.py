@@ -32,8 +32,11 @@ PROOF_WORD = re.compile(r"(?<![\w.'-])(refl|ap|ap₂|subst|absurd|cc|omega|grind
 
 
 def file_of(path):
-    """The file of specs/ that an import leads to, or None: a type that the code declares, or a file of the kit or of proofs/."""
+    """The file of specs/ that an import leads to, through the crates that pass it on, or None: a type that the code declares, or a file of the
+    kit or of proofs/."""
     parts = path.rstrip(".").split(".")
+    while len(parts) > 3 and parts[1] == "specs" and os.path.isdir(os.path.join(TOP, "crates", parts[2])):
+        parts = [parts[2], "specs", *parts[3:]]
     if len(parts) < 3 or parts[1] != "specs" or parts[2] == "declared":
         return None
     for end in range(len(parts), 2, -1):

@@ -13,8 +13,8 @@ use Rattle.lisa_tree.specs.Activations as items
 use Rattle.lisa_tree.specs.Activations.{ActTree, ActTrees, act_tree, act_trees}
 use Rattle.lisa_tree.specs.Descriptions.{DescriptionTree, section_tree}
 use Rattle.lisa_tree.specs.Operations.{sections_at, activation_in}
-use Rattle.activation_trees.specs.declared.parts.Occurrence.{Occurrence}
-use Rattle.activation_trees.specs.Starting.{activation}
+use Rattle.lisa_meaning.specs.activation_trees.declared.parts.Occurrence.{Occurrence}
+use Rattle.lisa_meaning.specs.activation_trees.Starting.{activation}
 use Rattle.pipeline_time.specs.Acts.{Acts, Done, When, size}
 use Rattle.lisa_meaning.specs.Trees.{Activator, item_acts, items_acts, item_tests, items_tests, activation_acts, acts_within}
 

@@ -1,9 +1,9 @@
 -- Acts that follow others, one more at a time.
 use Rattle.std.proofs.Common.{◌≡◌, ◌+◌, ℕ, suc, List, ◌∷◌, refl, ap, ◌∙◌, arith}
 use Rattle.lisa_tree.specs.Activations.{ActTree, ActTrees, Then}
-use Rattle.activation_trees.specs.declared.parts.Occurrence.{Occurrence}
-use Rattle.activation_trees.specs.Starting.{Activated}
-use Rattle.activation_trees.specs.Unfolding.{child}
+use Rattle.lisa_meaning.specs.activation_trees.declared.parts.Occurrence.{Occurrence}
+use Rattle.lisa_meaning.specs.activation_trees.Starting.{Activated}
+use Rattle.lisa_meaning.specs.activation_trees.Unfolding.{child}
 use Rattle.pipeline_time.specs.Acts.{Acts, Done, Act, When, size}
 use Rattle.activation_plans.specs.Growing.{alone}
 use Rattle.lisa_meaning.specs.Trees.{Activator, level_of_stage, followed, row, item_acts, items_acts, item_tests}

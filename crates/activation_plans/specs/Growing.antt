@@ -3,7 +3,7 @@ use Rattle.std.specs.Prelude.{ℕ, ◌≡◌, ◌+◌, Bool, List}
 use Rattle.lisa_tree.specs.Descriptions.{DescriptionTree}
 use Rattle.lisa_tree.specs.Operations.{sections_at, coding_in}
 use Rattle.coded_names.specs.Codings.{names_instructions}
-use Rattle.activation_trees.specs.declared.parts.Occurrence.{Occurrence}
+use Rattle.lisa_meaning.specs.activation_trees.declared.parts.Occurrence.{Occurrence}
 use Rattle.pipeline_time.specs.Acts.{Acts, Done, Act, size}
 use Rattle.pipeline_runs.specs.Runs.{acts_of}
 use Rattle.lisa_meaning.specs.Trees.{Activator, level_of_stage, acts_within}

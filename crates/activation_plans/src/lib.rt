@@ -5,4 +5,5 @@ mod copies;
 mod growing;
 mod plans;
 
+pub use lisa_meaning::{Coding, Forms, Machine, Occurrence, laws};
 pub use plans::make_plan;

@@ -6,7 +6,7 @@ ghost use Rattle.lisa_tree.specs.Resources.{stages, stages_in};
 ghost use Rattle.lisa_tree.specs.Operations.{is_root, number_of};
 ghost use Rattle.lisa_tree.specs.Paths.{node_count};
 ghost use Rattle.stage_checks.specs.Controls.{main_name};
-ghost use Rattle.activation_trees.specs.Unfolding.{occurrences as all_occurrences};
+ghost use Rattle.lisa_meaning.specs.activation_trees.Unfolding.{occurrences as all_occurrences};
 ghost use Rattle.pipeline_time.specs.Cores.{all_nodes};
 ghost use Rattle.pipeline_runs.specs.Runs.{acts_of as tree_acts, node_of};
 ghost use Rattle.pipeline_runs.specs.Turns.{IsPlanOf};
@@ -15,8 +15,7 @@ ghost use Rattle.lisa_meaning.specs.Cores.{core_of, root_level};
 
 use crate::copies::list_nodes;
 use crate::growing::{first, grow_below, level_of_stage};
-use activation_trees::Occurrence;
-use description_types::{is_root, operation_count};
+use lisa_meaning::{Occurrence, is_root, operation_count};
 use lisa_tree::{Names, Resource};
 use lisa_words::{Name, NoMemory};
 use pipeline_runs::{Plan, Tree};

@@ -1,7 +1,7 @@
 -- Items, one after the other, and how many there are.
 use Rattle.std.proofs.Common.{◌≡◌, ◌<◌, ◌≤◌, ◌+◌, ◌-◌, ◌*◌, ◌^◌, ◌++◌, ℕ, zero, suc, Bool, true, false, cond, List, [], ◌∷◌, Option, None, Some, length, map, min, filter, get_or, drop, drop-cons, refl, sym, ap, ◌∙◌, arith, add-one, append_assoc}
 use Rattle.std.proofs.lemmas.List.{length-append, length-map}
-use Rattle.lisa_engine.specs.declared.parts.Item.{Item}
+use Rattle.lisa_machine.specs.lisa_engine.declared.parts.Item.{Item}
 use Rattle.lisa_tree.specs.declared.tokens.Shape.{Shape}
 use Rattle.lisa_tree.specs.Descriptions.{DescriptionTree}
 use Rattle.lisa_tree.specs.Resources.{stages, fields}

@@ -10,8 +10,8 @@ use Rattle.std.proofs.lemmas.Option.{same_Some}
 use Rattle.lisa_tree.specs.Descriptions.{DescriptionTree}
 use Rattle.lisa_tree.specs.Operations.{number_of, sections_at, coding_in, activation_in}
 use Rattle.lisa_tree.specs.Declarations.{plain_at}
-use Rattle.description_graph.specs.Circles.{IsFirstCircularOperation}
-use Rattle.coded_names.specs.Codings.{names_instructions}
+use Rattle.lisa_machine.specs.description_graph.Circles.{IsFirstCircularOperation}
+use Rattle.lisa_machine.specs.coded_names.Codings.{names_instructions}
 use Rattle.graph_paths.specs.Paths.{is_in}
 use Rattle.stage_checks.specs.Controls.{main_name}
 use Rattle.stage_checks.specs.Running.{started, activation_names}

@@ -13,7 +13,7 @@ use Rattle.lisa_tree.specs.Same.{same_name}
 use Rattle.lisa_tree.specs.Operations.{is_alias, sections_at, coding_in, activation_in}
 use Rattle.lisa_tree.specs.Declarations.{Entry, Choice, choice, choices, entries, declared_at, what_at, alternatives_at, plain_at}
 use Rattle.graph_paths.specs.Paths.{is_in}
-use Rattle.description_graph.specs.Circles.{IsFirstCircularOperation}
+use Rattle.lisa_machine.specs.description_graph.Circles.{IsFirstCircularOperation}
 use Rattle.stage_checks.specs.Running.{choice_of, choice_at, started, activation_names}
 use Rattle.stage_checks.proofs.Nodes.{plain_within}
 use Rattle.lisa_machine.specs.Ranks.{OperationRanks}

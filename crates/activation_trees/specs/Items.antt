@@ -1,7 +1,7 @@
 -- The items of a machine: its registers, the fields of the boundaries between stages, the words of the stages behind the root, and a bit for
 -- each activation that may stand in a stage.
 use Rattle.std.specs.Prelude.{ℕ, ◌+◌, Bool, true, false, ◌&&◌, List, [], ◌∷◌, ◌++◌, Option, None, Some, cond, codes, decimal, drop, map, nat_lt, nat_le}
-use Rattle.lisa_engine.specs.declared.parts.Item.{Item}
+use Rattle.lisa_machine.specs.lisa_engine.declared.parts.Item.{Item}
 use Rattle.lisa_tree.specs.declared.tokens.Shape.{Shape}
 use Rattle.lisa_tree.specs.Descriptions.{DescriptionTree}
 use Rattle.lisa_tree.specs.Resources.{stages, fields}

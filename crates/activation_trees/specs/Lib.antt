@@ -5,3 +5,9 @@ pub mod Sums
 pub mod Items
 pub mod Activators
 pub mod Places
+pub mod description_graph
+pub mod least_fixed_points
+pub mod lisa_engine
+pub mod lisa_machine
+pub mod shape_checks
+pub mod stage_checks

@@ -4,7 +4,7 @@ use Rattle.lisa_tree.specs.Descriptions.{DescriptionTree}
 use Rattle.lisa_tree.specs.Declarations.{choices, plain_at}
 use Rattle.lisa_tree.specs.Paths.{Node, Operation, Choosing, Declaring, node_at, choice_node}
 use Rattle.least_fixed_points.specs.Settles.{IsWithin, IsMonotone}
-use Rattle.description_types.specs.Larger.{Less, none_less, same_less, within_less}
+use Rattle.lisa_machine.specs.description_types.Larger.{Less, none_less, same_less, within_less}
 use Rattle.activation_trees.specs.declared.parts.Start.{Start}
 use Rattle.activation_trees.specs.Starting.{starts}
 use Rattle.activation_trees.specs.Unfolding.{capped}

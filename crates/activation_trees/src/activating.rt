@@ -8,7 +8,7 @@ ghost use Rattle.activation_trees.specs.Places.{AreParentsBefore, ArePlaces, cou
 
 use crate::parts::Occurrence;
 use crate::starts::{activation_names, started};
-use description_types::sections;
+use lisa_machine::sections;
 use lisa_tree::Names;
 use lisa_words::Name;
 use std::alloc::{AllocError, Global};

@@ -1,7 +1,7 @@
 //! How many occurrences there are, by sums over operations: nothing is unfolded.
 
 ghost use Rattle.std.specs.Prelude.{◌≡◌, ◌+◌, Some, None, IfOk, length};
-ghost use Rattle.description_graph.specs.Circles.{IsFirstCircularOperation};
+ghost use Rattle.lisa_machine.specs.description_graph.Circles.{IsFirstCircularOperation};
 ghost use Rattle.least_fixed_points.specs.Settles.{entry};
 ghost use Rattle.activation_trees.specs.Starting.{AreStarts};
 ghost use Rattle.activation_trees.specs.Unfolding.{capped, counted, occurrences, occurrence_count};
@@ -11,10 +11,9 @@ ghost use Rattle.activation_trees.specs.Sums.{weight, added, summed, start_nodes
 use crate::parts::Start;
 use crate::starts::{all_starts, row};
 use crate::unfolding::main_at;
-use description_graph::edges;
-use description_types::{is_root, known_choice, known_operation, operation_count};
 use graph_paths::order;
 use least_fixed_points::{Rule, settle_along};
+use lisa_machine::{edges, is_root, known_choice, known_operation, operation_count};
 use lisa_tree::Names;
 use lisa_words::NoMemory;
 use std::alloc::Global;

@@ -3,7 +3,7 @@
 ghost use Rattle.std.specs.Prelude.{◌≡◌, ◌<◌, ℕ, None, Some, slice_get};
 ghost use Rattle.lisa_tree.specs.Descriptions.{DescriptionTree};
 ghost use Rattle.lisa_tree.specs.Paths.{node_count};
-ghost use Rattle.description_graph.specs.Circles.{IsFirstCircularOperation};
+ghost use Rattle.lisa_machine.specs.description_graph.Circles.{IsFirstCircularOperation};
 ghost use Rattle.activation_trees.specs.declared.parts.Occurrence.{Occurrence};
 ghost use Rattle.stage_checks.specs.Running.{RunsIn};
 ghost use Rattle.activation_trees.specs.Unfolding.{children, unfolded, whole, occurrences};

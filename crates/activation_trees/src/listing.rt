@@ -7,8 +7,7 @@ ghost use Rattle.activation_trees.specs.Unfolding.{capped};
 ghost use Rattle.activation_trees.specs.Items.{field_item, boundary, boundary_items, stage_or_first, root_stage, word_item, word_items, is_between, has_bit, bit_item, bits_from, bit_items, items_behind, items_of};
 
 use crate::parts::Occurrence;
-use description_types::{is_root, operation_name};
-use lisa_engine::Item;
+use lisa_machine::{Item, is_root, operation_name};
 use lisa_tree::{Names, Resource, Shape};
 use lisa_words::{Name, NoMemory, decimal};
 use std::alloc::Global;

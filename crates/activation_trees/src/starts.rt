@@ -11,8 +11,7 @@ ghost use Rattle.stage_checks.specs.Graphs.{names_in};
 ghost use Rattle.activation_trees.specs.Starting.{start_of, starts_named, starts, row_at, AreStarts};
 
 use crate::parts::Start;
-use coded_names::names_instructions;
-use description_types::{operation_count, sections};
+use lisa_machine::{names_instructions, operation_count, sections};
 use lisa_tree::{Act, Names, Section, What, activation, coding};
 use lisa_words::Name;
 use std::alloc::{AllocError, Global};

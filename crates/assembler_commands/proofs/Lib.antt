@@ -7,3 +7,4 @@ mod ListingEnds
 mod LineCounts
 mod Sourced
 mod SourceImages
+pub mod checked_descriptions_proofs

@@ -8,7 +8,7 @@ use Rattle.lisa_object.specs.declared.faults.LinkFault.TheVariants as links
 use Rattle.placed_programs.specs.Placed.{object_sense, placed_image}
 use Rattle.object_links.specs.LineNames.{parts_of}
 use Rattle.object_links.specs.LinkFaults.{link_fault}
-use Rattle.lisa_assembler.specs.Memories.{memory_items}
+use Rattle.source_promises.specs.lisa_assembler.Memories.{memory_items}
 use Rattle.lisa_outcomes.specs.declared.status.End.{End}
 use Rattle.lisa_outcomes.specs.declared.status.End.TheVariants as ends
 use Rattle.lisa_outcomes.specs.declared.status.Refusal.{Refusal}

@@ -12,7 +12,7 @@ use Rattle.lisa_engine.specs.declared.parts.ArrayItem.{ArrayItem}
 use Rattle.lisa_engine.specs.declared.trace.TraceEnd.{TraceEnd}
 use Rattle.lisa_engine.specs.declared.trace.TraceEnd.TheVariants as trace_ends
 use Rattle.lisa_object.specs.declared.faults.ImageFault.TheVariants as images
-use Rattle.lisa_assembler.specs.Memories.{memory_items}
+use Rattle.source_promises.specs.lisa_assembler.Memories.{memory_items}
 use Rattle.lisa_disasm.specs.Listings.{IsListing}
 use Rattle.lisa_outcomes.specs.declared.status.End.{End}
 use Rattle.lisa_outcomes.specs.declared.status.End.TheVariants as ends
@@ -24,7 +24,7 @@ use Rattle.lisa_outcomes.specs.Stages.{Finds}
 use Rattle.lisa_outcomes.proofs.Finding.{found_ok, found_memory, found_refused}
 use Rattle.lisa_outcomes.proofs.Refusals.{image_refusal}
 use Rattle.lisa_outcomes.proofs.Told.{err_is, not_ok, ok_is_no_err, none_is_no_some}
-use Rattle.engine_commands.specs.Images.{IsMissing}
+use Rattle.checked_descriptions.specs.engine_commands.Images.{IsMissing}
 use Rattle.assembler_commands.specs.Listed.{AreThere, IsListed}
 
 -- ---- memories

@@ -10,11 +10,11 @@ use Rattle.std.proofs.lemmas.List.Sums.{sum_by-cons}
 use Rattle.lisa_tree.specs.Descriptions as trees
 use Rattle.lisa_tree.specs.Descriptions.{ResourceTree, DescriptionTree}
 use Rattle.lisa_engine.specs.declared.parts.ArrayItem.{ArrayItem}
-use Rattle.machine_parts.specs.Parts.{array, array_in, arrays_of, memories_of}
-use Rattle.description_sizes.specs.Cells.{depth_in, cell_count}
-use Rattle.use_promises.specs.Showing.{FitsArray, FitsShown}
+use Rattle.item_promises.specs.machine_parts.Parts.{array, array_in, arrays_of, memories_of}
+use Rattle.item_promises.specs.description_sizes.Cells.{depth_in, cell_count}
+use Rattle.item_promises.specs.use_promises.Showing.{FitsArray, FitsShown}
 use Rattle.lisa_linker.specs.Memories.{IsPlace, AreMemories}
-use Rattle.lisa_assembler.specs.Memories.{marked, memory_items}
+use Rattle.source_promises.specs.lisa_assembler.Memories.{marked, memory_items}
 use Rattle.assembler_commands.proofs.Powers.{whole_depth}
 
 -- ---- what holds of all arrays holds of those that are marked

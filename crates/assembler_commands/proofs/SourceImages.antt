@@ -5,20 +5,20 @@ use Rattle.asm_source.specs.Plain.{PlainLine}
 use Rattle.asm_source.specs.Source.{source_of}
 use Rattle.lisa_tree.specs.Descriptions.{DescriptionTree}
 use Rattle.lisa_tree.specs.Texts.{SpellsText}
-use Rattle.lisa_reader.proofs.ByteLaws.{one_description}
+use Rattle.checked_descriptions.proofs.lisa_reader_proofs.ByteLaws.{one_description}
 use Rattle.lisa_engine.specs.Memory.{Memory}
-use Rattle.lisa_machine.specs.Verdicts.{IsAccepted}
-use Rattle.lisa_forms.specs.Verdicts.{HasForms}
+use Rattle.item_promises.specs.lisa_machine.Verdicts.{IsAccepted}
+use Rattle.item_promises.specs.lisa_forms.Verdicts.{HasForms}
 use Rattle.lisa_object.specs.Objects.{PlainObject}
 use Rattle.lisa_object.specs.Rules.{IsDigest}
 use Rattle.lisa_object.specs.ObjectRules.{IsObject}
 use Rattle.lisa_object.specs.ObjectText.{object_text}
 use Rattle.lisa_object.specs.Texts.{image_text}
 use Rattle.placed_programs.specs.Entries.{Entry}
-use Rattle.lisa_assembler.specs.Memories.{memory_items}
-use Rattle.lisa_assembler.specs.Objects.{digest_of, IsObjectOf}
-use Rattle.lisa_assembler.specs.Places.{HasWords}
-use Rattle.lisa_assembler.specs.Sources.{SourceCell}
+use Rattle.source_promises.specs.lisa_assembler.Memories.{memory_items}
+use Rattle.source_promises.specs.lisa_assembler.Objects.{digest_of, IsObjectOf}
+use Rattle.source_promises.specs.lisa_assembler.Places.{HasWords}
+use Rattle.source_promises.specs.lisa_assembler.Sources.{SourceCell}
 use Rattle.lisa_outcomes.specs.declared.status.Refusal.{Refusal}
 use Rattle.lisa_outcomes.specs.Outcomes.{Outcome, Finished, After, passed}
 use Rattle.checked_descriptions.specs.Checked.{Checked, IsChecked, IsFaulty}

@@ -11,9 +11,9 @@ use Rattle.lisa_tree.specs.Descriptions.{DescriptionTree}
 use Rattle.lisa_object.specs.declared.parts.Object.{Object}
 use Rattle.lisa_object.specs.Objects.{PlainObject, object_tree}
 use Rattle.lisa_object.specs.ObjectText.{object_text}
-use Rattle.lisa_assembler.specs.Objects.{IsObjectOf}
-use Rattle.lisa_assembler.specs.Faults.{IsSourceFault}
-use Rattle.lisa_assembler.specs.Sourced.{IsObjectOfBytes, IsFaultOfBytes}
+use Rattle.source_promises.specs.lisa_assembler.Objects.{IsObjectOf}
+use Rattle.source_promises.specs.lisa_assembler.Faults.{IsSourceFault}
+use Rattle.source_promises.specs.lisa_assembler.Sourced.{IsObjectOfBytes, IsFaultOfBytes}
 use Rattle.lisa_outcomes.specs.declared.status.End.{End}
 use Rattle.lisa_outcomes.specs.declared.status.End.TheVariants as ends
 use Rattle.lisa_outcomes.specs.declared.status.Refusal.TheVariants as refusals

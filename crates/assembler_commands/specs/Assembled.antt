@@ -6,8 +6,8 @@ use Rattle.asm_source.specs.declared.flaw.SourceFault.{SourceFault}
 use Rattle.lisa_tree.specs.Descriptions.{DescriptionTree}
 use Rattle.lisa_object.specs.Objects.{PlainObject}
 use Rattle.lisa_object.specs.ObjectText.{object_text}
-use Rattle.lisa_assembler.specs.Objects.{IsObjectOf}
-use Rattle.lisa_assembler.specs.Faults.{IsSourceFault}
+use Rattle.source_promises.specs.lisa_assembler.Objects.{IsObjectOf}
+use Rattle.source_promises.specs.lisa_assembler.Faults.{IsSourceFault}
 use Rattle.lisa_outcomes.specs.declared.status.Refusal.{Refusal}
 use Rattle.lisa_outcomes.specs.declared.status.Refusal.TheVariants as refusals
 use Rattle.lisa_outcomes.specs.Outcomes.{Outcome, Finished, After}

@@ -5,3 +5,11 @@ pub mod Links
 pub mod Listed
 pub mod Unlinked
 pub mod Programs
+pub mod checked_descriptions
+pub mod description_sizes
+pub mod lisa_assembler
+pub mod lisa_disasm
+pub mod lisa_forms
+pub mod lisa_machine
+pub mod object_links
+pub mod source_promises

@@ -3,10 +3,10 @@ use Rattle.std.specs.Prelude.{ℕ, ◌≡◌, List, None, Some}
 use Rattle.lisa_tree.specs.Descriptions.{DescriptionTree}
 use Rattle.lisa_engine.specs.Memory.{Memory}
 use Rattle.lisa_engine.specs.Images.{missing_memory}
-use Rattle.lisa_assembler.specs.Memories.{memory_items}
+use Rattle.source_promises.specs.lisa_assembler.Memories.{memory_items}
 use Rattle.lisa_disasm.specs.Listings.{IsListing}
 use Rattle.lisa_outcomes.specs.Outcomes.{Outcome, Finished, After}
-use Rattle.engine_commands.specs.Images.{IsMissing}
+use Rattle.checked_descriptions.specs.engine_commands.Images.{IsMissing}
 use Rattle.checked_descriptions.specs.Descriptions.{AfterSpelling}
 use Rattle.checked_descriptions.specs.Checked.{Checked, AfterChecks}
 use Rattle.checked_descriptions.specs.DescriptionImages.{AfterImage}

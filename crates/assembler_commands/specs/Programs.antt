@@ -6,7 +6,7 @@ use Rattle.lisa_tree.specs.Texts.{SpellsText}
 use Rattle.lisa_engine.specs.Memory.{Memory}
 use Rattle.lisa_object.specs.Texts.{image_text}
 use Rattle.placed_programs.specs.Entries.{Entry}
-use Rattle.lisa_assembler.specs.Sources.{SourceCell}
+use Rattle.source_promises.specs.lisa_assembler.Sources.{SourceCell}
 use Rattle.lisa_outcomes.specs.Outcomes.{Finished}
 use Rattle.source_promises.specs.Programs.{AreSources, source_image}
 use Rattle.assembler_commands.specs.Assembled.{IsSource, GivesObject}

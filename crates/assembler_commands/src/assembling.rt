@@ -4,13 +4,13 @@ ghost use Rattle.asm_source.specs.declared.flaw.SourceFault.TheVariants as fault
 ghost use Rattle.asm_source.specs.Plain.{line_tree};
 ghost use Rattle.lisa_tree.specs.Descriptions.{description_tree};
 ghost use Rattle.description_digest.specs.Digests.{digest_of};
-ghost use Rattle.lisa_machine.specs.Machines.{IsSpelled};
+ghost use Rattle.item_promises.specs.lisa_machine.Machines.{IsSpelled};
 ghost use Rattle.lisa_object.specs.Objects.{object_tree};
 ghost use Rattle.lisa_object.specs.ObjectText.{object_text};
-ghost use Rattle.lisa_assembler.specs.Objects.{IsObjectOf};
-ghost use Rattle.lisa_assembler.specs.Faults.{IsSourceFault};
-ghost use Rattle.lisa_assembler.specs.Memories.{memory_items};
-ghost use Rattle.lisa_assembler.specs.Sourced.{IsObjectOfBytes, IsFaultOfBytes};
+ghost use Rattle.source_promises.specs.lisa_assembler.Objects.{IsObjectOf};
+ghost use Rattle.source_promises.specs.lisa_assembler.Faults.{IsSourceFault};
+ghost use Rattle.source_promises.specs.lisa_assembler.Memories.{memory_items};
+ghost use Rattle.source_promises.specs.lisa_assembler.Sourced.{IsObjectOfBytes, IsFaultOfBytes};
 ghost use Rattle.lisa_linker.specs.Memories.{AreMemories};
 ghost use Rattle.lisa_outcomes.specs.Replies.{Replies};
 ghost use Rattle.lisa_outcomes.specs.Stages.{Finds};
@@ -25,13 +25,12 @@ use crate::writing::write_text;
 use asm_source::{SourceFault, SourceLine, read_source};
 use checked_descriptions::{Tools, description_of, tools_of};
 use description_digest::digest;
-use lisa_assembler::{Tools as Assembler, assemble, assemble_bytes};
 use lisa_engine::ArrayItem;
 use lisa_io::Sink;
 use lisa_object::{Object, print_object};
 use lisa_outcomes::{End, Refusal};
 use lisa_tree::Description;
-use source_promises::sources_have_one_answer;
+use source_promises::{Tools as Assembler, assemble, assemble_bytes, sources_have_one_answer};
 use std::alloc::Global;
 
 // The end of a command whose source wasn't read or assembled.

@@ -4,10 +4,9 @@ ghost use Rattle.lisa_outcomes.specs.Outcomes.{Finished};
 ghost use Rattle.assembler_commands.specs.Links.{GivesLink};
 ghost use Rattle.assembler_commands.specs.Programs.{GivesObjects, IsImageText};
 
-use item_promises::sizes_are_limited;
+use item_promises::{machines_show, sizes_are_limited};
 use lisa_object::objects_are_unique;
 use source_promises::{objects_of_sources_keep_rules, sources_link_to_their_image};
-use use_promises::machines_show;
 
 /// What `link` prints of what `asm` printed of sources is the text of the image of the sources: they are placed one behind the other in the
 /// memories of the description, and each cell is what its line says. A law: the function does nothing.

@@ -1,16 +1,14 @@
 //! The memories of a description.
 ghost use Rattle.std.specs.Prelude.{◌≡◌, ◌++◌, ◌∷◌, [], IfOk, OnOk};
 ghost use Rattle.lisa_tree.specs.Descriptions.{description_tree};
-ghost use Rattle.lisa_assembler.specs.Memories.{marked, memory_items};
-ghost use Rattle.lisa_forms.specs.Verdicts.{HasForms};
+ghost use Rattle.source_promises.specs.lisa_assembler.Memories.{marked, memory_items};
+ghost use Rattle.item_promises.specs.lisa_forms.Verdicts.{HasForms};
 ghost use Rattle.lisa_linker.specs.Memories.{AreMemories};
 
-use item_promises::sizes_are_limited;
+use item_promises::{Machine, machines_show, sizes_are_limited};
 use lisa_engine::ArrayItem;
-use lisa_machine::Machine;
 use lisa_words::NoMemory;
 use std::alloc::Global;
-use use_promises::machines_show;
 
 // The same array.
 fn copied(array: &ArrayItem) -> Result<ArrayItem, NoMemory>

@@ -3,12 +3,12 @@ use Rattle.std.proofs.Common.{◌≡◌, ℕ, ◌-◌, ◌<◌, List, [], ◌++�
 use Rattle.lisa_tree.specs.Expressions.{ExprTree}
 use Rattle.lisa_tree.specs.Statements.{StmtTrees}
 use Rattle.lisa_tree.specs.Descriptions.{DescriptionTree}
-use Rattle.instruction_forms.specs.Trees.{FormTree}
+use Rattle.moment_stores.specs.instruction_forms.Trees.{FormTree}
 use Rattle.lisa_tree.specs.Operations.{sections_at, behavior_in, expression_in}
 use Rattle.typed_values.specs.Effects.{Locals, effects}
-use Rattle.lisa_meaning.specs.Scenes.{Link, Scene, at_path, home, child_at_home}
-use Rattle.lisa_meaning.specs.Moments.{Moment, bare, with_locals}
-use Rattle.lisa_meaning.specs.Effects.{Given, child_put, put, run_within}
+use Rattle.scene_paths.specs.lisa_meaning.Scenes.{Link, Scene, at_path, home, child_at_home}
+use Rattle.scene_paths.specs.lisa_meaning.Moments.{Moment, bare, with_locals}
+use Rattle.scene_paths.specs.lisa_meaning.Effects.{Given, child_put, put, run_within}
 use Rattle.behavior_runs.specs.Running.{doing_within, put_below_within}
 use Rattle.behavior_runs.proofs.Steps.{running_at, no_path, whole_body, again, expression_put, one_level}
 

@@ -5,13 +5,13 @@ use Rattle.std.proofs.lemmas.Option.{same_Some}
 use Rattle.lisa_tree.specs.Expressions.{ExprTree}
 use Rattle.lisa_tree.specs.Descriptions.{DescriptionTree}
 use Rattle.lisa_tree.specs.Operations.{coding_in, sections_at}
-use Rattle.coding_tables.specs.Instructions.{Root}
-use Rattle.instruction_forms.specs.Trees.{FormTree}
+use Rattle.moment_stores.specs.coding_tables.Instructions.{Root}
+use Rattle.moment_stores.specs.instruction_forms.Trees.{FormTree}
 use Rattle.typed_values.specs.Words.{TypedWord}
-use Rattle.lisa_meaning.specs.Scenes.{Scene, link, scene_of}
-use Rattle.lisa_meaning.specs.Moments.{Moment, bare}
-use Rattle.lisa_meaning.specs.Values.{value_of}
-use Rattle.lisa_meaning.specs.Cores.{condition, fetched, holds, is_true, place_value, root_place, root_scene}
+use Rattle.scene_paths.specs.lisa_meaning.Scenes.{Scene, link, scene_of}
+use Rattle.scene_paths.specs.lisa_meaning.Moments.{Moment, bare}
+use Rattle.scene_paths.specs.lisa_meaning.Values.{value_of}
+use Rattle.scene_paths.specs.lisa_meaning.Cores.{condition, fetched, holds, is_true, place_value, root_place, root_scene}
 use Rattle.scene_paths.specs.declared.paths.Path.{Alone}
 use Rattle.scene_paths.specs.declared.sight.Sight.{Sight}
 use Rattle.scene_paths.specs.Sights.{sight_tree, form_of, scene_at, occurrence_scene}

@@ -15,9 +15,9 @@ use Rattle.lisa_tree.specs.declared.declared.What.{What}
 use Rattle.lisa_tree.specs.declared.declared.What.TheVariants as whats
 use Rattle.typed_values.specs.Words.{TypedWord, truth}
 use Rattle.typed_values.specs.ResetEffects.{local_or}
-use Rattle.lisa_meaning.specs.Scenes.{Link, Scene, child_at_home, declared, first_operation, home, is_label, running}
-use Rattle.lisa_meaning.specs.Moments.{Moment}
-use Rattle.lisa_meaning.specs.Values.{Below, child_value, declared_value, label_value, meant_value, reader}
+use Rattle.scene_paths.specs.lisa_meaning.Scenes.{Link, Scene, child_at_home, declared, first_operation, home, is_label, running}
+use Rattle.scene_paths.specs.lisa_meaning.Moments.{Moment}
+use Rattle.scene_paths.specs.lisa_meaning.Values.{Below, child_value, declared_value, label_value, meant_value, reader}
 use Rattle.scene_paths.specs.Paths.{first_link}
 use Rattle.behavior_runs.specs.Views.{label_on}
 

@@ -11,9 +11,9 @@ use Rattle.lisa_tree.specs.declared.tokens.Shape.{Shape}
 use Rattle.lisa_tree.specs.Descriptions as trees
 use Rattle.lisa_tree.specs.Descriptions.{ResourceTree, DescriptionTree}
 use Rattle.lisa_tree.specs.declared.descriptions.RegisterWord.{RegisterWord}
-use Rattle.lisa_machine.specs.Verdicts.{IsAccepted}
-use Rattle.lisa_meaning.specs.Moments.{Moment, field_at}
-use Rattle.lisa_meaning.specs.Values.{register_place, pin_place, shape_at, resource_value, shaped}
+use Rattle.moment_stores.specs.lisa_machine.Verdicts.{IsAccepted}
+use Rattle.scene_paths.specs.lisa_meaning.Moments.{Moment, field_at}
+use Rattle.scene_paths.specs.lisa_meaning.Values.{register_place, pin_place, shape_at, resource_value, shaped}
 use Rattle.typed_values.specs.Words.{TypedWord}
 use Rattle.moment_stores.specs.Fitting.{MomentFits}
 use Rattle.scene_paths.proofs.Widths.{fits, shape_fits, register_held, clocked_held, pin_held}

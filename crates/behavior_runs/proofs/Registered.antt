@@ -6,12 +6,12 @@ use Rattle.lisa_tree.specs.declared.tokens.Shape.{Shape}
 use Rattle.lisa_tree.specs.Descriptions as trees
 use Rattle.lisa_tree.specs.Descriptions.{ResourceTree, DescriptionTree}
 use Rattle.lisa_engine.specs.declared.parts.Item.{Item}
-use Rattle.machine_parts.specs.Parts.{item, register_in, registers_of}
-use Rattle.lisa_machine.specs.Verdicts.{IsAccepted}
-use Rattle.lisa_machine.specs.Resolving.{IsWidth}
-use Rattle.lisa_meaning.specs.Moments.{Moment}
-use Rattle.lisa_meaning.specs.Values.{register_place, shape_at}
-use Rattle.lisa_meaning.specs.Effects.{Given, bits_for, register_put, resource_put}
+use Rattle.moment_stores.specs.machine_parts.Parts.{item, register_in, registers_of}
+use Rattle.moment_stores.specs.lisa_machine.Verdicts.{IsAccepted}
+use Rattle.moment_stores.specs.lisa_machine.Resolving.{IsWidth}
+use Rattle.scene_paths.specs.lisa_meaning.Moments.{Moment}
+use Rattle.scene_paths.specs.lisa_meaning.Values.{register_place, shape_at}
+use Rattle.scene_paths.specs.lisa_meaning.Effects.{Given, bits_for, register_put, resource_put}
 use Rattle.scene_paths.proofs.Widths.{fits, placed, shape_fits}
 use Rattle.behavior_runs.specs.Registers.{register_shape}
 

@@ -5,14 +5,14 @@ use Rattle.std.proofs.lemmas.Option.{same_Some}
 use Rattle.lisa_tree.specs.Expressions.{ExprTree, expr_depth}
 use Rattle.lisa_tree.specs.Descriptions.{DescriptionTree, CodingTree, description_depth}
 use Rattle.lisa_tree.specs.Operations.{coding_in, expression_in, sections_at}
-use Rattle.instruction_forms.specs.Trees.{FormTree}
+use Rattle.moment_stores.specs.instruction_forms.Trees.{FormTree}
 use Rattle.typed_values.specs.Words.{TypedWord, is_zero, truth}
 use Rattle.typed_values.specs.Expressions.{value}
-use Rattle.description_sizes.specs.Texts.{levels}
-use Rattle.lisa_meaning.specs.Scenes.{Link, Scene, scene_of}
-use Rattle.lisa_meaning.specs.Moments.{Moment, bare}
-use Rattle.lisa_meaning.specs.Values.{Below, child_value, expression_at, value_below, value_of}
-use Rattle.lisa_meaning.specs.Cores.{is_true}
+use Rattle.moment_stores.specs.description_sizes.Texts.{levels}
+use Rattle.scene_paths.specs.lisa_meaning.Scenes.{Link, Scene, scene_of}
+use Rattle.scene_paths.specs.lisa_meaning.Moments.{Moment, bare}
+use Rattle.scene_paths.specs.lisa_meaning.Values.{Below, child_value, expression_at, value_below, value_of}
+use Rattle.scene_paths.specs.lisa_meaning.Cores.{is_true}
 use Rattle.scene_paths.specs.declared.paths.Path.{Path}
 use Rattle.scene_paths.specs.declared.sight.Sight.{Sight}
 use Rattle.scene_paths.specs.Paths.{first_link, links_in, links_of}

@@ -7,10 +7,10 @@ use Rattle.lisa_tree.specs.Statements.{StmtTrees}
 use Rattle.lisa_tree.specs.Descriptions.{DescriptionTree}
 use Rattle.lisa_tree.specs.Operations.{sections_at, behavior_in, expression_in}
 use Rattle.typed_values.specs.Effects.{Locals, effects}
-use Rattle.lisa_meaning.specs.Scenes.{Link, Scene, at_path}
-use Rattle.lisa_meaning.specs.Moments.{Moment, bare, with_locals}
-use Rattle.lisa_meaning.specs.Values.{expression_at}
-use Rattle.lisa_meaning.specs.Effects.{Given, behavior_at, body, child_put, put, put_below, run_within}
+use Rattle.scene_paths.specs.lisa_meaning.Scenes.{Link, Scene, at_path}
+use Rattle.scene_paths.specs.lisa_meaning.Moments.{Moment, bare, with_locals}
+use Rattle.scene_paths.specs.lisa_meaning.Values.{expression_at}
+use Rattle.scene_paths.specs.lisa_meaning.Effects.{Given, behavior_at, body, child_put, put, put_below, run_within}
 use Rattle.scene_paths.specs.Paths.{first_link}
 use Rattle.behavior_runs.specs.Running.{doing_within, put_below_within}
 

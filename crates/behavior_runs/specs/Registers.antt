@@ -3,8 +3,8 @@ use Rattle.std.specs.Prelude.{Option, None, Some}
 use Rattle.lisa_tree.specs.declared.tokens.Shape.{Shape}
 use Rattle.lisa_tree.specs.Descriptions as trees
 use Rattle.lisa_tree.specs.Descriptions.{ResourceTree}
-use Rattle.lisa_meaning.specs.Moments.{Moment}
-use Rattle.lisa_meaning.specs.Effects.{Given, bits_for, register_put}
+use Rattle.scene_paths.specs.lisa_meaning.Moments.{Moment}
+use Rattle.scene_paths.specs.lisa_meaning.Effects.{Given, bits_for, register_put}
 use Rattle.behavior_runs.specs.declared.register.Register.{Register}
 
 -- the type of such a register, clocked or not

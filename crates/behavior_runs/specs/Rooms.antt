@@ -4,7 +4,7 @@ use Rattle.lisa_tree.specs.Statements as stmts
 use Rattle.lisa_tree.specs.Statements.{StmtTree, StmtTrees}
 use Rattle.lisa_tree.specs.Descriptions as trees
 use Rattle.lisa_tree.specs.Descriptions.{SectionTree, OperationTree, DescriptionTree}
-use Rattle.description_sizes.specs.Texts.{levels}
+use Rattle.moment_stores.specs.description_sizes.Texts.{levels}
 
 abbrev mutual
   -- how many locals a statement declares, those of its parts among them

@@ -2,9 +2,9 @@
 use Rattle.std.specs.Prelude.{ℕ, ◌≡◌, ◌≤◌, ◌+◌, ◌*◌}
 use Rattle.lisa_tree.specs.Descriptions.{DescriptionTree}
 use Rattle.typed_values.specs.Effects.{Doing}
-use Rattle.lisa_meaning.specs.Scenes.{Scene, at_path}
-use Rattle.lisa_meaning.specs.Moments.{Moment}
-use Rattle.lisa_meaning.specs.Effects.{PutBelow, put_within, doing, run_within}
+use Rattle.scene_paths.specs.lisa_meaning.Scenes.{Scene, at_path}
+use Rattle.scene_paths.specs.lisa_meaning.Moments.{Moment}
+use Rattle.scene_paths.specs.lisa_meaning.Effects.{PutBelow, put_within, doing, run_within}
 use Rattle.moment_stores.specs.declared.store.Store.{Store}
 use Rattle.moment_stores.specs.Stores.{description_of, local_count, local_room}
 use Rattle.behavior_runs.specs.Rooms.{most_locals}

@@ -4,9 +4,9 @@ use Rattle.lisa_tree.specs.Expressions.{ExprTree}
 use Rattle.lisa_tree.specs.Descriptions.{DescriptionTree}
 use Rattle.typed_values.specs.Words.{TypedWord, truth, typed_word}
 use Rattle.typed_values.specs.Expressions.{Reader}
-use Rattle.lisa_meaning.specs.Scenes.{Link, Scene, at_path, child_at_home}
-use Rattle.lisa_meaning.specs.Moments.{Moment, bare, with_locals}
-use Rattle.lisa_meaning.specs.Values.{Below, reader, child_value, label_value, value_within}
+use Rattle.scene_paths.specs.lisa_meaning.Scenes.{Link, Scene, at_path, child_at_home}
+use Rattle.scene_paths.specs.lisa_meaning.Moments.{Moment, bare, with_locals}
+use Rattle.scene_paths.specs.lisa_meaning.Values.{Below, reader, child_value, label_value, value_within}
 use Rattle.moment_stores.specs.Stores.{moment_of}
 use Rattle.behavior_runs.specs.declared.view.View.{View}
 use Rattle.behavior_runs.specs.declared.view.Named.{Named}

@@ -1,6 +1,6 @@
 // What occurrences do.
 ghost use Rattle.std.specs.Prelude.{◌≡◌, ◌≤◌, ◌+◌};
-ghost use Rattle.lisa_meaning.specs.Cores.{behave};
+ghost use Rattle.scene_paths.specs.lisa_meaning.Cores.{behave};
 ghost use Rattle.moment_stores.specs.Stores.{description_of, moment_of, local_count, local_room, Keeps};
 ghost use Rattle.scene_paths.specs.Lookups.{tree_of};
 ghost use Rattle.behavior_runs.specs.Rooms.{room_for};

@@ -4,9 +4,9 @@ ghost use Rattle.lisa_tree.specs.Statements.{stmt_tree, stmt_trees};
 ghost use Rattle.lisa_tree.specs.Descriptions.{description_tree, operation_tree, section_tree};
 ghost use Rattle.behavior_runs.specs.Rooms.{all_locals, locals_in, most_locals, operations_locals, sections_locals};
 
-use lisa_machine::Machine;
 use lisa_tree::{Operation, Section, Stmt};
 use lisa_words::NoMemory;
+use moment_stores::Machine;
 
 // How many locals a statement declares. As many as no memory holds are answered as want of it, here and below.
 #[cycle(counts)]

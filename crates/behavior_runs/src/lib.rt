@@ -18,4 +18,5 @@ mod views;
 pub use behaviors::behave;
 pub use counts::count_locals;
 pub use evaluation::evaluate;
+pub use moment_stores::Store;
 pub use roots::{fetch, holds};

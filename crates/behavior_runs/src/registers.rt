@@ -2,9 +2,9 @@
 ghost use Rattle.std.specs.Prelude.{◌≡◌, IfSome, slice_get, slice_index_or};
 ghost use Rattle.lisa_engine.specs.declared.parts.Item.{Item};
 ghost use Rattle.lisa_tree.specs.Descriptions.{resource_tree};
-ghost use Rattle.machine_parts.specs.Parts.{registers_of};
-ghost use Rattle.lisa_meaning.specs.Moments.{Moment};
-ghost use Rattle.lisa_meaning.specs.Effects.{Given, resource_put};
+ghost use Rattle.moment_stores.specs.machine_parts.Parts.{registers_of};
+ghost use Rattle.scene_paths.specs.lisa_meaning.Moments.{Moment};
+ghost use Rattle.scene_paths.specs.lisa_meaning.Effects.{Given, resource_put};
 ghost use Rattle.scene_paths.specs.Lookups.{tree_of};
 ghost use Rattle.behavior_runs.specs.Registers.{put_in, register_shape};
 

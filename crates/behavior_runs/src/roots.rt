@@ -3,7 +3,7 @@
 ghost use Rattle.std.specs.Prelude.{◌≡◌, option_map};
 ghost use Rattle.lisa_tree.specs.Expressions.{expr_tree};
 ghost use Rattle.lisa_tree.specs.Operations.{sections_at, coding_in};
-ghost use Rattle.lisa_meaning.specs.Cores.{fetch, holds, root_place};
+ghost use Rattle.scene_paths.specs.lisa_meaning.Cores.{fetch, holds, root_place};
 ghost use Rattle.moment_stores.specs.Stores.{description_of, moment_of};
 ghost use Rattle.scene_paths.specs.Lookups.{tree_of};
 

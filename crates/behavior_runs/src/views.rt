@@ -4,7 +4,7 @@ ghost use Rattle.std.specs.Prelude.{◌≡◌, option_map};
 ghost use Rattle.std.specs.Map.{lookup};
 ghost use Rattle.lisa_tree.specs.Same.{same_name};
 ghost use Rattle.typed_values.specs.Words.{typed_word};
-ghost use Rattle.lisa_meaning.specs.Moments.{bare};
+ghost use Rattle.scene_paths.specs.lisa_meaning.Moments.{bare};
 ghost use Rattle.moment_stores.specs.Stores.{description_of, moment_of};
 ghost use Rattle.scene_paths.specs.Sights.{sight_tree};
 ghost use Rattle.behavior_runs.specs.Views.{moment_seen};

@@ -6,16 +6,16 @@ use Rattle.lisa_tree.specs.declared.faults.DescFault.{DescFault}
 use Rattle.lisa_tree.specs.Descriptions.{DescriptionTree}
 use Rattle.lisa_tree.specs.Paths.{choice_node}
 use Rattle.description_places.specs.Places.{first, description_places}
-use Rattle.coding_checks.specs.Widths.{width_step, AreWidths}
-use Rattle.coding_checks.specs.Steady.{widths_monotone}
-use Rattle.coding_checks.specs.Uneven.{group_width, IsFirstGroupWidth}
-use Rattle.coding_checks.specs.Written.{not_written}
-use Rattle.coding_tables.specs.Instructions.{form_count}
-use Rattle.description_sizes.specs.Sizes.{size_fault}
-use Rattle.instruction_forms.specs.Widths.{HasWidth, IsInstructionWidth}
-use Rattle.lisa_machine.proofs.Steps.{IsOne, before_is_one}
-use Rattle.lisa_machine.proofs.Unique.{places_one, nothing_one}
-use Rattle.lisa_forms.specs.Verdicts.{IsRootVerdict, IsSizeVerdict, IsTextVerdict, form_conditions, HasForms, IsFirstFormFault}
+use Rattle.lisa_syntax.specs.coding_checks.Widths.{width_step, AreWidths}
+use Rattle.lisa_syntax.specs.coding_checks.Steady.{widths_monotone}
+use Rattle.lisa_syntax.specs.coding_checks.Uneven.{group_width, IsFirstGroupWidth}
+use Rattle.lisa_syntax.specs.coding_checks.Written.{not_written}
+use Rattle.lisa_syntax.specs.coding_tables.Instructions.{form_count}
+use Rattle.lisa_syntax.specs.description_sizes.Sizes.{size_fault}
+use Rattle.lisa_syntax.specs.instruction_forms.Widths.{HasWidth, IsInstructionWidth}
+use Rattle.lisa_syntax.proofs.lisa_machine_proofs.Steps.{IsOne, before_is_one}
+use Rattle.lisa_syntax.proofs.lisa_machine_proofs.Unique.{places_one, nothing_one}
+use Rattle.lisa_syntax.specs.lisa_forms.Verdicts.{IsRootVerdict, IsSizeVerdict, IsTextVerdict, form_conditions, HasForms, IsFirstFormFault}
 use Rattle.checked_descriptions.proofs.Settling.{one_value}
 
 none_is_no_some : {T : Type 0} (t : T) → None ≡ Some t → ⊥

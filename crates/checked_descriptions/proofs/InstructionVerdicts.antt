@@ -3,16 +3,16 @@ use Rattle.std.proofs.Common.{◌≡◌, ◌⊎◌, ℕ, Option, None, Some, opt
 use Rattle.lisa_tree.specs.declared.faults.DescFault.{DescFault}
 use Rattle.lisa_tree.specs.declared.faults.DescFault.TheVariants as faults
 use Rattle.lisa_tree.specs.Descriptions.{DescriptionTree}
-use Rattle.lisa_machine.specs.Verdicts.{before, nothing}
+use Rattle.lisa_syntax.specs.lisa_machine.Verdicts.{before, nothing}
 use Rattle.pattern_tables.specs.Overlaps.{AnswersOverlap, AnswersUncovered}
 use Rattle.pattern_tables.specs.declared.overlaps.Overlap.{Overlap}
-use Rattle.form_patterns.specs.Instructions.{instruction_frames, instruction_plain}
-use Rattle.lisa_forms.specs.Verdicts.{HasForms, IsFirstFormFault}
-use Rattle.lisa_forms.specs.Coverage.{overlap, not_an_alias, IsOverlapVerdict, IsUncoveredVerdict}
+use Rattle.lisa_syntax.specs.form_patterns.Instructions.{instruction_frames, instruction_plain}
+use Rattle.lisa_syntax.specs.lisa_forms.Verdicts.{HasForms, IsFirstFormFault}
+use Rattle.lisa_syntax.specs.lisa_forms.Coverage.{overlap, not_an_alias, IsOverlapVerdict, IsUncoveredVerdict}
 use Rattle.lisa_syntax.specs.Texts.{IsAmbiguityVerdict}
 use Rattle.checked_descriptions.specs.Instructions.{from_aliases, from_ambiguities, from_overlaps, HasInstructions, IsFirstInstructionFault}
 use Rattle.checked_descriptions.proofs.FormVerdicts.{no_fault_in_forms}
-use Rattle.lisa_forms.proofs.Walking.{past, refused_here, refused_past, Refusal}
+use Rattle.lisa_syntax.proofs.lisa_forms_proofs.Walking.{past, refused_here, refused_past, Refusal}
 
 none_is_no_some : {T : Type 0} (t : T) → None ≡ Some t → ⊥
 none_is_no_some t e = cc

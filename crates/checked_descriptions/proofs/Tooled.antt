@@ -4,16 +4,16 @@ use Rattle.std.proofs.lemmas.List.{length-map}
 use Rattle.lisa_tree.specs.declared.faults.DescFault.{DescFault}
 use Rattle.lisa_tree.specs.declared.faults.DescFault.TheVariants as faults
 use Rattle.lisa_tree.specs.Descriptions.{DescriptionTree, description_tree}
-use Rattle.activation_trees.specs.Unfolding.{occurrences}
-use Rattle.coding_tables.specs.Instructions.{forms_of, form_count}
-use Rattle.description_sizes.specs.Sizes.{items}
-use Rattle.instruction_forms.specs.Described.{instruction_form}
-use Rattle.instruction_forms.specs.Trees.{form_tree}
-use Rattle.lisa_forms.specs.declared.forms.Forms.{Forms}
-use Rattle.lisa_forms.specs.Parts.{AreFormsOf}
+use Rattle.lisa_syntax.specs.activation_trees.Unfolding.{occurrences}
+use Rattle.lisa_syntax.specs.coding_tables.Instructions.{forms_of, form_count}
+use Rattle.lisa_syntax.specs.description_sizes.Sizes.{items}
+use Rattle.lisa_syntax.specs.instruction_forms.Described.{instruction_form}
+use Rattle.lisa_syntax.specs.instruction_forms.Trees.{form_tree}
+use Rattle.lisa_syntax.specs.lisa_forms.declared.forms.Forms.{Forms}
+use Rattle.lisa_syntax.specs.lisa_forms.Parts.{AreFormsOf}
 use Rattle.std.specs.Result.{IsErrAnd}
-use Rattle.lisa_machine.specs.Verdicts.{IsAccepted, IsFirstFault}
-use Rattle.lisa_machine.proofs.Verdicts.{no_fault_in_accepted}
+use Rattle.lisa_syntax.specs.lisa_machine.Verdicts.{IsAccepted, IsFirstFault}
+use Rattle.lisa_syntax.proofs.lisa_machine_proofs.Verdicts.{no_fault_in_accepted}
 use Rattle.lisa_outcomes.specs.declared.status.End.{End}
 use Rattle.lisa_outcomes.specs.declared.status.End.TheVariants as ends
 use Rattle.lisa_outcomes.specs.declared.status.Refusal.TheVariants as refusals

@@ -5,16 +5,16 @@ use Rattle.lisa_tree.specs.Descriptions.{DescriptionTree}
 use Rattle.name_checks.specs.Doubled.{duplicate}
 use Rattle.name_checks.specs.Unknown.{unknown}
 use Rattle.shape_checks.specs.Shapes.{bad_width, bad_depth, without_bound, too_long}
-use Rattle.kind_checks.specs.WrongKinds.{IsFirstWrongKind}
-use Rattle.kind_checks.specs.Narrowings.{IsFirstNarrowing}
+use Rattle.lisa_syntax.specs.kind_checks.WrongKinds.{IsFirstWrongKind}
+use Rattle.lisa_syntax.specs.kind_checks.Narrowings.{IsFirstNarrowing}
 use Rattle.stage_checks.specs.Controls.{control}
 use Rattle.stage_checks.specs.Resets.{bad_reset}
 use Rattle.stage_checks.specs.Backward.{IsBackwardVerdict}
-use Rattle.coding_checks.specs.Uneven.{IsFirstGroupWidth}
-use Rattle.coding_checks.specs.Written.{not_written}
-use Rattle.lisa_machine.specs.Verdicts.{Verdict, at_places, IsCircleVerdict, IsBadMainVerdict}
-use Rattle.lisa_forms.specs.Verdicts.{IsRootVerdict, IsSizeVerdict, IsTextVerdict}
-use Rattle.lisa_forms.specs.Coverage.{IsOverlapVerdict, IsUncoveredVerdict}
+use Rattle.lisa_syntax.specs.coding_checks.Uneven.{IsFirstGroupWidth}
+use Rattle.lisa_syntax.specs.coding_checks.Written.{not_written}
+use Rattle.lisa_syntax.specs.lisa_machine.Verdicts.{Verdict, at_places, IsCircleVerdict, IsBadMainVerdict}
+use Rattle.lisa_syntax.specs.lisa_forms.Verdicts.{IsRootVerdict, IsSizeVerdict, IsTextVerdict}
+use Rattle.lisa_syntax.specs.lisa_forms.Coverage.{IsOverlapVerdict, IsUncoveredVerdict}
 use Rattle.lisa_syntax.specs.Texts.{IsAmbiguityVerdict}
 
 -- its number, and of a description what its first fault is, or that it has none

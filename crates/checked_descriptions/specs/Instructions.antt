@@ -2,9 +2,9 @@
 use Rattle.std.specs.Prelude.{◌⊎◌, None, Some}
 use Rattle.lisa_tree.specs.declared.faults.DescFault.{DescFault}
 use Rattle.lisa_tree.specs.Descriptions.{DescriptionTree}
-use Rattle.lisa_machine.specs.Verdicts.{Verdict, before, nothing}
-use Rattle.lisa_forms.specs.Verdicts.{HasForms, IsFirstFormFault}
-use Rattle.lisa_forms.specs.Coverage.{IsOverlapVerdict, IsUncoveredVerdict}
+use Rattle.lisa_syntax.specs.lisa_machine.Verdicts.{Verdict, before, nothing}
+use Rattle.lisa_syntax.specs.lisa_forms.Verdicts.{HasForms, IsFirstFormFault}
+use Rattle.lisa_syntax.specs.lisa_forms.Coverage.{IsOverlapVerdict, IsUncoveredVerdict}
 use Rattle.lisa_syntax.specs.Texts.{IsAmbiguityVerdict}
 
 -- ---- the conditions on forms, the last one first, each with those behind it

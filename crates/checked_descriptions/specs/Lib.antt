@@ -6,3 +6,9 @@ pub mod DescriptionImages
 pub mod ImageViews
 pub mod ToolViews
 pub mod Unread
+pub mod activation_trees
+pub mod coding_tables
+pub mod description_sizes
+pub mod engine_commands
+pub mod lisa_forms
+pub mod lisa_syntax

@@ -1,8 +1,8 @@
 -- What the code keeps of a description that is checked.
 use Rattle.lisa_tree.specs.Descriptions.{description_tree}
-use Rattle.lisa_machine.specs.Verdicts.{IsAccepted}
-use Rattle.lisa_forms.specs.Parts.{AreFormsOf}
-use Rattle.lisa_forms.specs.Codings.{IsCodingOf}
+use Rattle.lisa_syntax.specs.lisa_machine.Verdicts.{IsAccepted}
+use Rattle.lisa_syntax.specs.lisa_forms.Parts.{AreFormsOf}
+use Rattle.lisa_syntax.specs.lisa_forms.Codings.{IsCodingOf}
 use Rattle.lisa_syntax.specs.Parts.{IsSyntaxOf}
 use Rattle.checked_descriptions.specs.declared.tools.Tools.{Tools}
 use Rattle.checked_descriptions.specs.Checked.{Checked}

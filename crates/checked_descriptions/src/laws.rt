@@ -2,7 +2,7 @@
 ghost use Rattle.std.specs.Prelude.{◌≡◌, ◌⊎◌, ◌↔◌};
 ghost use Rattle.lisa_tree.specs.declared.faults.DescFault.{DescFault};
 ghost use Rattle.lisa_tree.specs.Descriptions.{DescriptionTree};
-ghost use Rattle.lisa_machine.specs.Verdicts.{IsAccepted, IsFirstFault};
+ghost use Rattle.lisa_syntax.specs.lisa_machine.Verdicts.{IsAccepted, IsFirstFault};
 ghost use Rattle.lisa_outcomes.specs.declared.status.Refusal.{Refusal};
 ghost use Rattle.checked_descriptions.specs.Checked.{Checked, IsChecked, IsFaulty};
 ghost use Rattle.checked_descriptions.specs.Conditions.{IsSound, IsFirstOfAll};

@@ -2,17 +2,15 @@
 ghost use Rattle.std.specs.Prelude.{◌≡◌, ◌⊎◌, IfOk, IfErr};
 ghost use Rattle.lisa_tree.specs.declared.faults.DescFault.TheVariants as faults;
 ghost use Rattle.lisa_tree.specs.Descriptions.{description_tree};
-ghost use Rattle.lisa_machine.specs.Machines.{IsSpelled};
+ghost use Rattle.lisa_syntax.specs.lisa_machine.Machines.{IsSpelled};
 ghost use Rattle.lisa_outcomes.specs.Stages.{Finds};
 ghost use Rattle.checked_descriptions.specs.Conditions.{IsFirstOfAll};
 ghost use Rattle.checked_descriptions.specs.Checked.{IsChecked, IsFaulty};
 ghost use Rattle.checked_descriptions.specs.ToolViews.{checked_of, AreTools};
 
 use crate::reading::unread;
-use lisa_forms::{Coding, Forms};
-use lisa_machine::{Machine, check};
 use lisa_outcomes::End;
-use lisa_syntax::Syntax;
+use lisa_syntax::{Coding, Forms, Machine, Syntax, check};
 use lisa_tree::{DescFault, Description};
 use std::alloc::Global;
 

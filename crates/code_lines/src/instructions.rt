@@ -2,13 +2,12 @@
 
 ghost use Rattle.std.specs.Prelude.{◌<◌, ◌^◌, IfOk, length};
 ghost use Rattle.lisa_tree.specs.Descriptions.{description_tree};
-ghost use Rattle.lisa_forms.specs.Codings.{IsCodingOf};
+ghost use Rattle.lisa_syntax.specs.lisa_forms.Codings.{IsCodingOf};
 ghost use Rattle.lisa_syntax.specs.Parts.{IsSyntaxOf};
 
-use lisa_forms::{Coding, Forms};
 use lisa_machine::{Machine, check};
 use lisa_reader::read_description;
-use lisa_syntax::Syntax;
+use lisa_syntax::{Coding, Forms, Syntax};
 use lisa_tree::DescFault;
 use std::alloc::Global;
 

@@ -4,3 +4,4 @@ pub mod Ways
 pub mod Levels
 pub mod Counted
 pub mod Heights
+pub mod description_graph_proofs

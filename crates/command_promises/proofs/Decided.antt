@@ -13,7 +13,7 @@ use Rattle.lisa_object.specs.declared.faults.LinkFault.{LinkFault}
 use Rattle.placed_programs.specs.Placed.{object_sense, placed_image}
 use Rattle.object_links.specs.LineNames.{parts_of}
 use Rattle.object_links.specs.LinkFaults.{link_fault}
-use Rattle.lisa_assembler.specs.Memories.{memory_items}
+use Rattle.generator_commands.specs.lisa_assembler.Memories.{memory_items}
 use Rattle.verilog_text.specs.declared.faults.VerilogFault.{VerilogFault}
 use Rattle.verilog_text.specs.declared.faults.VerilogFault.TheVariants as faults
 use Rattle.verilog_text.specs.Trees.{ModuleTree}
@@ -28,8 +28,8 @@ use Rattle.lisa_engine.specs.Machines.{Machine}
 use Rattle.engine_commands.specs.Schedules.{IsSchedule, IsNoSchedule}
 use Rattle.engine_commands.specs.Making.{IsMade}
 use Rattle.module_commands.specs.Designs.{IsUnreadModule}
-use Rattle.assembler_commands.specs.Assembled.{IsSource, IsNoSource}
-use Rattle.assembler_commands.specs.Links.{IsLinked, IsUnlinked}
+use Rattle.generator_commands.specs.assembler_commands.Assembled.{IsSource, IsNoSource}
+use Rattle.generator_commands.specs.assembler_commands.Links.{IsLinked, IsUnlinked}
 use Rattle.verdict_promises.proofs.Same.{same}
 use Rattle.command_promises.specs.Decided.{IsSameRefusal, IsDecided}
 

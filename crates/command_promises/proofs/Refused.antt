@@ -28,12 +28,12 @@ use Rattle.engine_commands.specs.Schedules.{schedule_bytes, IsSchedule, IsNoSche
 use Rattle.engine_commands.specs.Sessions.{given_up}
 use Rattle.engine_commands.specs.Tasks.{GivesTask, GivesUnder}
 use Rattle.engine_commands.specs.Making.{IsMade, GivesMade}
-use Rattle.checked_descriptions.specs.Checked.{Checked, AfterChecks}
-use Rattle.checked_descriptions.specs.Descriptions.{IsUnread, AfterSpelling}
-use Rattle.checked_descriptions.specs.DescriptionImages.{IsImageFor, IsNoImageFor, IsForAnother}
-use Rattle.description_commands.specs.Formats.{Formats}
-use Rattle.description_commands.specs.Checks.{Checks, counts_text, counts_of}
-use Rattle.description_commands.specs.Runs.{described_machine, GivesChecked, GivesRun}
+use Rattle.verilog_command.specs.checked_descriptions.Checked.{Checked, AfterChecks}
+use Rattle.verilog_command.specs.checked_descriptions.Descriptions.{IsUnread, AfterSpelling}
+use Rattle.verilog_command.specs.checked_descriptions.DescriptionImages.{IsImageFor, IsNoImageFor, IsForAnother}
+use Rattle.generator_commands.specs.description_commands.Formats.{Formats}
+use Rattle.generator_commands.specs.description_commands.Checks.{Checks, counts_text, counts_of}
+use Rattle.generator_commands.specs.description_commands.Runs.{described_machine, GivesChecked, GivesRun}
 use Rattle.module_commands.specs.Designs.{Design, IsDesign, IsNoDesign, no_module, no_image, clock_machine}
 use Rattle.module_commands.specs.Clocks.{GivesClock}
 use Rattle.verdict_promises.specs.Firsts.{IsAcceptedAs, IsFirstFaultOf, IsRefusedFirst}

@@ -9,9 +9,9 @@ use Rattle.lisa_object.specs.Objects.{PlainObject}
 use Rattle.lisa_object.specs.ObjectText.{object_text}
 use Rattle.lisa_object.specs.Texts.{image_text}
 use Rattle.lisa_object.specs.declared.faults.ObjectFault.TheVariants as objects
-use Rattle.lisa_assembler.specs.Objects.{IsObjectOf}
-use Rattle.lisa_assembler.specs.Memories.{memory_items}
-use Rattle.generated_programs.specs.Programs.{IsProgram}
+use Rattle.generator_commands.specs.lisa_assembler.Objects.{IsObjectOf}
+use Rattle.generator_commands.specs.lisa_assembler.Memories.{memory_items}
+use Rattle.generator_commands.specs.generated_programs.Programs.{IsProgram}
 use Rattle.verilog_text.specs.Trees.{ModuleTree}
 use Rattle.verilog_text.specs.Faults.{VAccepts}
 use Rattle.lisa_outcomes.specs.declared.status.Refusal.{Refusal}
@@ -19,15 +19,15 @@ use Rattle.lisa_outcomes.specs.declared.status.Refusal.TheVariants as refusals
 use Rattle.lisa_outcomes.specs.Outcomes.{Outcome, Finished, Refusing}
 use Rattle.engine_commands.specs.Images.{IsMissing}
 use Rattle.engine_commands.specs.Making.{IsMade}
-use Rattle.checked_descriptions.specs.Checked.{Checked}
-use Rattle.checked_descriptions.specs.Descriptions.{AfterSpelling}
-use Rattle.checked_descriptions.specs.DescriptionImages.{IsImageFor, IsNoImageFor}
-use Rattle.description_commands.specs.Runs.{described_machine}
+use Rattle.verilog_command.specs.checked_descriptions.Checked.{Checked}
+use Rattle.verilog_command.specs.checked_descriptions.Descriptions.{AfterSpelling}
+use Rattle.verilog_command.specs.checked_descriptions.DescriptionImages.{IsImageFor, IsNoImageFor}
+use Rattle.generator_commands.specs.description_commands.Runs.{described_machine}
 use Rattle.module_commands.specs.Designs.{IsUnreadModule, clock_machine}
-use Rattle.assembler_commands.specs.Assembled.{IsSource, IsNoSource, IsUnassembled, Assembles, AssemblesChecked, GivesObject}
-use Rattle.assembler_commands.specs.DescriptionObjects.{IsNoObject, IsUnspelled, IsElsewhere, AreObjectsFor, AreNoObjectsFor}
-use Rattle.assembler_commands.specs.Links.{IsLinked, IsUnlinked, stamped, Links, LinksChecked, GivesLink}
-use Rattle.assembler_commands.specs.Listed.{AreThere, IsListed, Lists, ListsChecked, GivesListing}
+use Rattle.generator_commands.specs.assembler_commands.Assembled.{IsSource, IsNoSource, IsUnassembled, Assembles, AssemblesChecked, GivesObject}
+use Rattle.generator_commands.specs.assembler_commands.DescriptionObjects.{IsNoObject, IsUnspelled, IsElsewhere, AreObjectsFor, AreNoObjectsFor}
+use Rattle.generator_commands.specs.assembler_commands.Links.{IsLinked, IsUnlinked, stamped, Links, LinksChecked, GivesLink}
+use Rattle.generator_commands.specs.assembler_commands.Listed.{AreThere, IsListed, Lists, ListsChecked, GivesListing}
 use Rattle.verilog_command.specs.Modules.{IsHeavy, WritesModule, refused, WritesVerilog}
 use Rattle.generator_commands.specs.Generates.{IsNoProgram, GeneratesChecked, GivesProgram}
 use Rattle.generator_commands.specs.Reports.{report_text, report_of}

@@ -5,19 +5,20 @@ ghost use Rattle.lisa_engine.specs.ScheduleLine.{Line};
 ghost use Rattle.lisa_outcomes.specs.Outcomes.{Finished};
 ghost use Rattle.lisa_outcomes.specs.RunFiles.{RunBytes};
 ghost use Rattle.engine_commands.specs.declared.tasks.Task.{Task};
+ghost use Rattle.engine_commands.specs.Tasks.{task_outcome};
 ghost use Rattle.lisa_engine.specs.Machines.{Machine};
-ghost use Rattle.checked_descriptions.specs.Descriptions.{AfterSpelling};
-ghost use Rattle.description_commands.specs.Formats.{Formats};
-ghost use Rattle.description_commands.specs.Checks.{Checks};
-ghost use Rattle.description_commands.specs.Runs.{GivesRun};
+ghost use Rattle.verilog_command.specs.checked_descriptions.Descriptions.{AfterSpelling};
+ghost use Rattle.generator_commands.specs.description_commands.Formats.{Formats};
+ghost use Rattle.generator_commands.specs.description_commands.Checks.{Checks};
+ghost use Rattle.generator_commands.specs.description_commands.Runs.{GivesRun};
 ghost use Rattle.module_commands.specs.Clocks.{GivesClock};
-ghost use Rattle.assembler_commands.specs.Assembled.{GivesObject};
-ghost use Rattle.assembler_commands.specs.Links.{GivesLink};
-ghost use Rattle.assembler_commands.specs.Listed.{GivesListing};
+ghost use Rattle.generator_commands.specs.assembler_commands.Assembled.{GivesObject};
+ghost use Rattle.generator_commands.specs.assembler_commands.Links.{GivesLink};
+ghost use Rattle.generator_commands.specs.assembler_commands.Listed.{GivesListing};
 ghost use Rattle.verilog_command.specs.Modules.{WritesVerilog};
 ghost use Rattle.generator_commands.specs.Generates.{GivesProgram};
 ghost use Rattle.generator_commands.specs.Soaks.{GivesSoak};
-ghost use Rattle.command_promises.specs.Runs.{IsSimulated, IsClocked, task_outcome};
+ghost use Rattle.command_promises.specs.Runs.{IsSimulated, IsClocked};
 ghost use Rattle.command_promises.specs.Refusals.{RefusesWith, RefusesFirsts, RefusesUnread, RefusesModules};
 
 /// What `run`, `trace` and `debug` give over an accepted description is the text of the states that it means, with its image's cells first and

@@ -2,9 +2,9 @@
 use Rattle.std.specs.Prelude.{ℕ, List, Option}
 use Rattle.lisa_tree.specs.Descriptions.{DescriptionTree}
 use Rattle.lisa_tree.specs.Texts.{SpellsText}
-use Rattle.machine_parts.specs.Parts.{arrays_of, pins_of}
-use Rattle.description_sizes.specs.Sizes.{items}
-use Rattle.lisa_meaning.specs.States.{state_of}
+use Rattle.lisa_sim.specs.machine_parts.Parts.{arrays_of, pins_of}
+use Rattle.checked_descriptions.specs.description_sizes.Sizes.{items}
+use Rattle.lisa_sim.specs.lisa_meaning.States.{state_of}
 use Rattle.lisa_engine.specs.Memory.{Memory}
 use Rattle.lisa_outcomes.specs.Outcomes.{Outcome}
 use Rattle.lisa_outcomes.specs.RunFiles.{RunBytes}

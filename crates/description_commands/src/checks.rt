@@ -4,7 +4,7 @@ ghost use Rattle.lisa_tree.specs.Descriptions.{description_tree};
 ghost use Rattle.checked_descriptions.specs.Descriptions.{AfterSpelling};
 ghost use Rattle.description_commands.specs.Checks.{counts_of, counts_text, Checks};
 ghost use Rattle.checked_descriptions.specs.ToolViews.{checked_of, AreTools};
-ghost use Rattle.lisa_machine.specs.Machines.{IsSpelled};
+ghost use Rattle.lisa_sim.specs.lisa_machine.Machines.{IsSpelled};
 ghost use Rattle.lisa_outcomes.specs.Replies.{Replies};
 ghost use Rattle.lisa_outcomes.specs.Writes.{Writes};
 

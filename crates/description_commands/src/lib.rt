@@ -9,5 +9,6 @@ mod printing;
 mod running;
 
 pub use checks::check_description;
+pub use lisa_sim::{Simulator, sizes_are_limited};
 pub use printing::format_description;
 pub use running::do_with_description;

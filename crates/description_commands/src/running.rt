@@ -2,7 +2,7 @@
 ghost use Rattle.std.specs.Prelude.{◌≡◌, ◌≤◌, ◌<◌, ◌^◌, length, false, IfSome};
 ghost use Rattle.lisa_tree.specs.Descriptions.{description_tree};
 ghost use Rattle.lisa_engine.specs.Images.{IsImage};
-ghost use Rattle.lisa_machine.specs.Machines.{IsSpelled};
+ghost use Rattle.lisa_sim.specs.lisa_machine.Machines.{IsSpelled};
 ghost use Rattle.lisa_outcomes.specs.Ends.{Ends};
 ghost use Rattle.lisa_outcomes.specs.RunViews.{bytes_of};
 ghost use Rattle.engine_commands.specs.Schedules.{schedule_bytes};

@@ -8,10 +8,10 @@ use Rattle.lisa_tree.specs.declared.declared.What.TheVariants as whats
 use Rattle.lisa_tree.specs.Operations.{is_alias}
 use Rattle.lisa_tree.specs.Declarations.{choices, entries, what_at, alternatives_at, plain_at}
 use Rattle.lisa_tree.specs.Paths.{Operation, Choosing, Declaring, leads}
-use Rattle.description_graph.proofs.Numbered.{chosen_within}
-use Rattle.description_graph.proofs.Meant.{meant_below}
-use Rattle.stage_checks.proofs.Nodes.{plain_within}
-use Rattle.lisa_machine.specs.Ranks.{Ranks}
+use Rattle.activation_trees.proofs.description_graph_proofs.Numbered.{chosen_within}
+use Rattle.activation_trees.proofs.description_graph_proofs.Meant.{meant_below}
+use Rattle.activation_trees.proofs.stage_checks_proofs.Nodes.{plain_within}
+use Rattle.activation_trees.specs.lisa_machine.Ranks.{Ranks}
 use Rattle.text_counts.specs.References.{MayMean, chosen, referenced, AreMeanings}
 use Rattle.description_sizes.specs.Texts.{may_choose, levels, chosen_by}
 use Rattle.description_sizes.proofs.Rising.{rises, same_list, passing_rise, passing_has, filter_passes, filter_in, some_below, some_of}

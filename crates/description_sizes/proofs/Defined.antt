@@ -7,20 +7,20 @@ use Rattle.std.proofs.lemmas.List.Quantifiers.{position-Some}
 use Rattle.lisa_tree.specs.Descriptions.{DescriptionTree}
 use Rattle.lisa_tree.specs.Statements.{StmtTrees}
 use Rattle.graph_paths.specs.Paths.{is_in}
-use Rattle.least_fixed_points.specs.Settles.{Settles}
-use Rattle.least_fixed_points.specs.Settles as settles
+use Rattle.activation_trees.specs.least_fixed_points.Settles.{Settles}
+use Rattle.activation_trees.specs.least_fixed_points.Settles as settles
 use Rattle.lisa_tree.specs.declared.declared.What.{What}
 use Rattle.lisa_tree.specs.declared.declared.What.TheVariants as whats
 use Rattle.lisa_tree.specs.Same.{same_name}
 use Rattle.lisa_tree.specs.Operations.{sections_at, behavior_in, expression_in, activation_in}
 use Rattle.lisa_tree.specs.Declarations.{Entry, Choice, choice, entries, choices, declared_at, what_at, plain_at}
 use Rattle.lisa_tree.specs.Paths.{Node, Operation, Choosing, Declaring, node_at, node_count, leads, choice_node, entry_node}
-use Rattle.description_graph.proofs.Nodes.{at_operation, at_choice, at_entry}
-use Rattle.stage_checks.proofs.Nodes.{plain_within}
-use Rattle.lisa_machine.specs.Ranks.{Ranks}
-use Rattle.lisa_machine.specs.Declaring.{Chooses}
-use Rattle.lisa_machine.proofs.Entries.{entry_chooses}
-use Rattle.lisa_machine.proofs.Named.{what_is}
+use Rattle.activation_trees.proofs.description_graph_proofs.Nodes.{at_operation, at_choice, at_entry}
+use Rattle.activation_trees.proofs.stage_checks_proofs.Nodes.{plain_within}
+use Rattle.activation_trees.specs.lisa_machine.Ranks.{Ranks}
+use Rattle.activation_trees.specs.lisa_machine.Declaring.{Chooses}
+use Rattle.activation_trees.proofs.lisa_machine_proofs.Entries.{entry_chooses}
+use Rattle.activation_trees.proofs.lisa_machine_proofs.Named.{what_is}
 use Rattle.text_counts.specs.Sums.{Counts, plus}
 use Rattle.text_counts.specs.References.{AreMeanings}
 use Rattle.text_counts.specs.Expressions.{counted_at, counted_of}

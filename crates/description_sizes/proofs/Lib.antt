@@ -8,3 +8,5 @@ pub mod Sums
 pub mod Resets
 pub mod Finding
 pub mod Limited
+pub mod activation_trees_proofs
+pub mod typed_values_proofs

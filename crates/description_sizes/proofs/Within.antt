@@ -7,8 +7,8 @@ use Rattle.graph_paths.specs.Paths.{is_in}
 use Rattle.lisa_tree.specs.Operations.{number_of}
 use Rattle.lisa_tree.specs.Declarations.{plain_at}
 use Rattle.lisa_tree.specs.Paths.{node_count}
-use Rattle.stage_checks.specs.Controls.{main_name}
-use Rattle.stage_checks.proofs.Nodes.{number_within, plain_within}
+use Rattle.activation_trees.specs.stage_checks.Controls.{main_name}
+use Rattle.activation_trees.proofs.stage_checks_proofs.Nodes.{number_within, plain_within}
 use Rattle.activation_trees.specs.declared.parts.Occurrence.{Occurrence}
 use Rattle.activation_trees.specs.Starting.{Activated, activation, alternatives, activated_by, activated, starts}
 use Rattle.activation_trees.specs.Unfolding.{child, children, in_turn, unfolded, whole, firsts, occurrences}

@@ -5,3 +5,6 @@ pub mod Cells
 pub mod Sizes
 pub mod Outcomes
 pub mod Laws
+pub mod activation_trees
+pub mod machine_parts
+pub mod typed_values

@@ -3,7 +3,7 @@ use Rattle.std.specs.Prelude.{codes, ℕ, List, [], ◌∷◌, ◌++◌, Option,
 use Rattle.std.specs.Option.{option_map_or}
 use Rattle.lisa_tree.specs.declared.faults.DescFault.{DescFault}
 use Rattle.lisa_tree.specs.Descriptions.{DescriptionTree}
-use Rattle.lisa_engine.specs.declared.parts.Item.{Item}
+use Rattle.activation_trees.specs.lisa_engine.declared.parts.Item.{Item}
 use Rattle.lisa_tree.specs.Resources.{stages}
 use Rattle.lisa_tree.specs.Operations.{number_of}
 use Rattle.machine_parts.specs.Parts.{arrays_of, pins_of, registers_of, reset_count}

@@ -7,7 +7,7 @@ ghost use Rattle.lisa_tree.specs.Resources.{stages_in};
 ghost use Rattle.machine_parts.specs.Parts.{item, array_in, pin_in, register_in, registers_of};
 ghost use Rattle.description_sizes.specs.Cells.{depth_in};
 
-use lisa_engine::Item;
+use activation_trees::Item;
 use lisa_tree::{Description, Resource, Shape};
 use lisa_words::{Name, NoMemory};
 use std::alloc::Global;

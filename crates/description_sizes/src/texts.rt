@@ -1,7 +1,7 @@
 //! How many statements and nodes the unfolded text has, by sums over the occurrences.
 
 ghost use Rattle.std.specs.Prelude.{◌≡◌, ◌-◌, ◌^◌, None, min, sum_by, IfOk};
-ghost use Rattle.description_graph.specs.Circles.{IsFirstCircularOperation};
+ghost use Rattle.activation_trees.specs.description_graph.Circles.{IsFirstCircularOperation};
 ghost use Rattle.activation_trees.specs.Unfolding.{occurrences};
 ghost use Rattle.text_counts.specs.Tables.{told_by, AreTextCounts};
 ghost use Rattle.description_sizes.specs.Sums.{statements_by, nodes_by};

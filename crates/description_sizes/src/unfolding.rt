@@ -1,7 +1,7 @@
 //! The first size of a description that exceeds its limit, or what the description unfolds to.
 
 ghost use Rattle.std.specs.Prelude.{◌≡◌, ◌∷◌, ◌++◌, [], None, Some, find, length, map, option_map, IfOk, MatchResult};
-ghost use Rattle.description_graph.specs.Circles.{IsFirstCircularOperation};
+ghost use Rattle.activation_trees.specs.description_graph.Circles.{IsFirstCircularOperation};
 ghost use Rattle.machine_parts.specs.Parts.{registers_of};
 ghost use Rattle.activation_trees.specs.Unfolding.{occurrences};
 ghost use Rattle.description_sizes.specs.Limits.{exceeds, told};
@@ -11,9 +11,9 @@ ghost use Rattle.description_sizes.specs.Outcomes.{IsUnfolded};
 use crate::resources::{count_arrays, count_cells, count_pins, count_stages, registers};
 use crate::sizes::{Measure, Size, amount, fault, first_exceeding};
 use crate::texts::{count_nodes, count_statements};
-use activation_trees::{Occurrence, count_items, count_occurrences, items, occurrences};
-use description_types::operation_count;
-use lisa_engine::Item;
+use activation_trees::{
+    Item, Occurrence, count_items, count_occurrences, items, occurrences, operation_count,
+};
 use lisa_tree::{DescFault, Names};
 use lisa_words::NoMemory;
 use std::alloc::Global;

@@ -8,7 +8,7 @@ use Rattle.lisa_tree.specs.declared.declared.What.TheVariants as whats
 use Rattle.lisa_tree.specs.Declarations.{what_at, plain_at}
 use Rattle.description_graph.specs.Circles.{IsFirstCircularOperation}
 use Rattle.stage_checks.proofs.Nodes.{plain_within}
-use Rattle.lisa_machine.proofs.Falling.{node_ranks}
+use Rattle.lisa_forms.proofs.lisa_machine_proofs.Falling.{node_ranks}
 use Rattle.text_counts.specs.References as references
 use Rattle.text_counts.specs.References.{AreMeanings}
 use Rattle.description_sizes.specs.Texts as texts

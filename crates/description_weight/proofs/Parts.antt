@@ -8,21 +8,21 @@ use Rattle.lisa_tree.specs.Descriptions.{DescriptionTree}
 use Rattle.lisa_tree.specs.Operations.{is_alias}
 use Rattle.lisa_tree.specs.Resources.{stages}
 use Rattle.description_graph.specs.Circles.{IsFirstCircularOperation}
-use Rattle.lisa_machine.proofs.Falling.{node_ranks}
-use Rattle.activation_trees.specs.declared.parts.Occurrence.{Occurrence}
-use Rattle.activation_trees.specs.Unfolding.{occurrences}
+use Rattle.lisa_forms.proofs.lisa_machine_proofs.Falling.{node_ranks}
+use Rattle.description_sizes.specs.activation_trees.declared.parts.Occurrence.{Occurrence}
+use Rattle.description_sizes.specs.activation_trees.Unfolding.{occurrences}
 use Rattle.text_counts.specs.Tables.{TextTable, AreTextCounts}
 use Rattle.description_sizes.specs.Texts.{texts}
 use Rattle.description_sizes.specs.Sums.{nodes_by}
 use Rattle.description_sizes.proofs.Defined.{nodes_same}
 use Rattle.description_sizes.proofs.Within.{IsThere, all_there}
 use Rattle.instruction_trees.specs.Trees.{Form, is_plain}
-use Rattle.coding_tables.specs.Instructions.{forms_of}
+use Rattle.instruction_forms.specs.coding_tables.Instructions.{forms_of}
 use Rattle.instruction_forms.specs.Trees.{FormTree, form_tree}
 use Rattle.instruction_forms.specs.Described.{instruction_form}
 use Rattle.instruction_forms.specs.declared.form.Form as made
 use Rattle.instruction_forms.specs.declared.form.Form.{out-Form}
-use Rattle.form_patterns.proofs.Views.{trees, tree_is, next_tree}
+use Rattle.lisa_forms.proofs.form_patterns_proofs.Views.{trees, tree_is, next_tree}
 use Rattle.lisa_forms.specs.declared.forms.Forms.{Forms}
 use Rattle.lisa_forms.specs.Parts.{AreFormsOf}
 use Rattle.access_counts.specs.Ledgers.{capped}

@@ -2,7 +2,7 @@
 use Rattle.std.specs.Prelude.{ℕ, List, sum_by}
 use Rattle.lisa_tree.specs.Descriptions.{DescriptionTree}
 use Rattle.lisa_tree.specs.Declarations.{what_at}
-use Rattle.activation_trees.specs.Unfolding.{occurrences}
+use Rattle.description_sizes.specs.activation_trees.Unfolding.{occurrences}
 use Rattle.text_counts.specs.References as references
 use Rattle.description_sizes.specs.Texts as texts
 use Rattle.description_sizes.specs.Texts.{levels}

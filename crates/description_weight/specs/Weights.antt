@@ -6,10 +6,10 @@ use Rattle.lisa_tree.specs.Resources.{stages}
 use Rattle.lisa_tree.specs.Operations.{is_alias}
 use Rattle.instruction_trees.specs.Bits.{one_if}
 use Rattle.instruction_trees.specs.Trees.{Form, is_plain}
-use Rattle.coding_tables.specs.Instructions.{forms_of}
+use Rattle.instruction_forms.specs.coding_tables.Instructions.{forms_of}
 use Rattle.instruction_forms.specs.Trees.{FormTree, FormTrees, Node, End, Then}
 use Rattle.instruction_forms.specs.Described.{instruction_form}
-use Rattle.activation_trees.specs.Unfolding.{occurrences}
+use Rattle.description_sizes.specs.activation_trees.Unfolding.{occurrences}
 use Rattle.description_sizes.specs.Texts.{texts}
 use Rattle.description_sizes.specs.Sums.{nodes_by}
 use Rattle.access_counts.specs.Unfolded.{of_resources}

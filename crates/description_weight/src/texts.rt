@@ -3,14 +3,14 @@
 ghost use Rattle.std.specs.Prelude.{◌≡◌, None, length, map, sum_by};
 ghost use Rattle.lisa_tree.specs.Descriptions.{resource_tree};
 ghost use Rattle.lisa_tree.specs.Resources.{stages_in};
-ghost use Rattle.activation_trees.specs.Unfolding.{occurrences};
+ghost use Rattle.description_sizes.specs.activation_trees.Unfolding.{occurrences};
 ghost use Rattle.description_graph.specs.Circles.{IsFirstCircularOperation};
 ghost use Rattle.text_counts.specs.Tables.{told_by, AreTextCounts};
 ghost use Rattle.description_sizes.specs.Sums.{nodes_by};
 ghost use Rattle.access_counts.specs.Ledgers.{capped};
 ghost use Rattle.description_weight.specs.Weights.{unfolded_nodes};
 
-use activation_trees::Occurrence;
+use description_sizes::Occurrence;
 use lisa_tree::Resource;
 use text_counts::TextCounts;
 

@@ -9,8 +9,8 @@ use Rattle.instruction_trees.proofs.Numbering.{filled_form, filled_values, value
 use Rattle.instruction_trees.proofs.FormWords.{form_is, read_is, read_values}
 use Rattle.instruction_trees.proofs.Placing.{values_fit, values_within}
 use Rattle.instruction_trees.proofs.Relabelled.{placed_relabel, owns_relabel, inners_relabel}
-use Rattle.coding_tables.specs.Codings.{coding_table}
-use Rattle.coding_tables.specs.Instructions.{instruction_items, forms_of, form_count}
+use Rattle.instruction_forms.specs.coding_tables.Codings.{coding_table}
+use Rattle.instruction_forms.specs.coding_tables.Instructions.{instruction_items, forms_of, form_count}
 use Rattle.pattern_tables.specs.Instructions.{form_at}
 use Rattle.pattern_tables.proofs.Decoding.{place_in}
 use Rattle.form_patterns.specs.Instructions.{field_places}

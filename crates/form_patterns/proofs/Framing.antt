@@ -8,8 +8,8 @@ use Rattle.lisa_tree.specs.Descriptions.{DescriptionTree}
 use Rattle.instruction_trees.specs.Bits.{Frame}
 use Rattle.instruction_trees.specs.Trees.{Item, Fixed, Free, Field, Child, Done, Pass, Value, Choose, Fits, AnyValue, coding, size, placed, form_bits}
 use Rattle.instruction_trees.specs.Trees as plain
-use Rattle.coding_tables.specs.Codings.{digit_item, first_digit, repeated, pattern_digits, items_of, coding_table}
-use Rattle.coding_tables.specs.Instructions.{instruction_items}
+use Rattle.instruction_forms.specs.coding_tables.Codings.{digit_item, first_digit, repeated, pattern_digits, items_of, coding_table}
+use Rattle.instruction_forms.specs.coding_tables.Instructions.{instruction_items}
 use Rattle.instruction_forms.specs.declared.form.Form.{Form, out-Form}
 use Rattle.instruction_forms.specs.Trees.{form_tree}
 use Rattle.instruction_forms.specs.Described.{items_at, children, instruction_form}

@@ -1,12 +1,12 @@
 -- Going over the items of a form's operation.
 use Rattle.std.proofs.Common.{◌≡◌, ◌<◌, ◌≤◌, ◌+◌, ◌++◌, ℕ, zero, suc, List, [], ◌∷◌, None, length, map, drop, get_or, replicate, refl, sym, ap, ◌∙◌, subst, arith}
-use Rattle.description_graph.proofs.Lists.{one_more}
+use Rattle.instruction_forms.proofs.description_graph_proofs.Lists.{one_more}
 use Rattle.lisa_tree.specs.declared.descriptions.Pattern.{Pattern}
 use Rattle.lisa_tree.specs.declared.descriptions.CodingItem.{CodingItem}
 use Rattle.lisa_tree.specs.declared.descriptions.CodingItem.TheVariants as items
 use Rattle.lisa_tree.specs.Descriptions.{DescriptionTree}
-use Rattle.coded_names.specs.Codings.{pattern_width}
-use Rattle.coding_tables.specs.Codings.{items_of}
+use Rattle.instruction_forms.specs.coded_names.Codings.{pattern_width}
+use Rattle.instruction_forms.specs.coding_tables.Codings.{items_of}
 use Rattle.instruction_trees.specs.Bits.{Frame}
 use Rattle.instruction_forms.specs.declared.form.Form.{Form, out-Form}
 use Rattle.instruction_forms.specs.Trees.{FormTree, form_tree, in_turn}

@@ -8,3 +8,5 @@ pub mod Listing
 pub mod Narrow
 pub mod Filling
 pub mod Rowed
+pub mod coding_tables_proofs
+pub mod instruction_forms_proofs

@@ -7,8 +7,8 @@ use Rattle.lisa_tree.specs.Descriptions.{DescriptionTree}
 use Rattle.instruction_trees.specs.Trees.{Item, Fixed, Free, Field, Child, Tree, Done, Pass, Value, Choose, Fits, AnyValue, coding, size, placed}
 use Rattle.instruction_trees.specs.Trees as plain
 use Rattle.instruction_trees.specs.Values.{own_values, inner_values}
-use Rattle.coding_tables.specs.Codings.{digit_item, pattern_digits, items_of, coding_table}
-use Rattle.coding_tables.specs.Instructions.{instruction_items}
+use Rattle.instruction_forms.specs.coding_tables.Codings.{digit_item, pattern_digits, items_of, coding_table}
+use Rattle.instruction_forms.specs.coding_tables.Instructions.{instruction_items}
 use Rattle.instruction_forms.specs.declared.form.Field as fields
 use Rattle.instruction_forms.specs.declared.form.Form.{Form, out-Form}
 use Rattle.instruction_forms.specs.Trees.{FormTree, in_turn, form_tree}

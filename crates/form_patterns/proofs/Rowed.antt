@@ -6,7 +6,7 @@ use Rattle.std.proofs.lemmas.List.{length-map, get_or-map}
 use Rattle.lisa_tree.specs.Descriptions.{DescriptionTree}
 use Rattle.instruction_trees.specs.Trees.{Done}
 use Rattle.instruction_trees.specs.Values.{AreWithin, none, more}
-use Rattle.coding_tables.specs.Instructions.{forms_of, form_count}
+use Rattle.instruction_forms.specs.coding_tables.Instructions.{forms_of, form_count}
 use Rattle.instruction_forms.specs.declared.form.Form.{Form}
 use Rattle.instruction_forms.specs.Trees.{FormTree, form_tree}
 use Rattle.instruction_forms.specs.Described.{instruction_form, AreForms}

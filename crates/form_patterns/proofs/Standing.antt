@@ -9,8 +9,8 @@ use Rattle.instruction_trees.specs.Bits.{Frame}
 use Rattle.instruction_trees.specs.Trees.{Form, Fits, AnyValue, In, here, there, form_bits, is_plain, instructions}
 use Rattle.instruction_trees.specs.Forms.{forms}
 use Rattle.instruction_trees.proofs.Listing.{forms_fit}
-use Rattle.coding_tables.specs.Codings.{choice_alternatives, coding_table}
-use Rattle.coding_tables.specs.Instructions.{instruction_choice, instruction_items, forms_of}
+use Rattle.instruction_forms.specs.coding_tables.Codings.{choice_alternatives, coding_table}
+use Rattle.instruction_forms.specs.coding_tables.Instructions.{instruction_choice, instruction_items, forms_of}
 use Rattle.instruction_forms.specs.declared.form.Form as made
 use Rattle.instruction_forms.specs.Trees.{FormTree, form_tree, is_plain_tree}
 use Rattle.instruction_forms.specs.Described.{instruction_form, AreForms}

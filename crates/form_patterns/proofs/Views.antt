@@ -1,6 +1,6 @@
 -- Forms as their plain trees.
 use Rattle.std.proofs.Common.{◌≡◌, ◌<◌, ◌+◌, ℕ, List, length, map, drop, get_or, ap}
-use Rattle.description_graph.proofs.Lists.{one_more}
+use Rattle.instruction_forms.proofs.description_graph_proofs.Lists.{one_more}
 use Rattle.instruction_forms.specs.declared.form.Form.{Form, out-Form}
 use Rattle.instruction_forms.specs.declared.form.Form.TheFolds.{fold_out-Form}
 use Rattle.instruction_forms.specs.Trees.{FormTree, FormTrees, Node, Then, in_turn, layer_tree, form_tree}

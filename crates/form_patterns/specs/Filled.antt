@@ -3,8 +3,8 @@ use Rattle.std.specs.Prelude.{◌≡◌, ◌<◌, ℕ, List}
 use Rattle.lisa_tree.specs.Descriptions.{DescriptionTree}
 use Rattle.instruction_trees.specs.Trees.{Tree, Fits, IsBelow, form}
 use Rattle.instruction_trees.specs.Values.{AreWithin, values}
-use Rattle.coding_tables.specs.Codings.{coding_table}
-use Rattle.coding_tables.specs.Instructions.{instruction_items, forms_of, form_count}
+use Rattle.instruction_forms.specs.coding_tables.Codings.{coding_table}
+use Rattle.instruction_forms.specs.coding_tables.Instructions.{instruction_items, forms_of, form_count}
 use Rattle.pattern_tables.specs.Instructions.{form_at}
 use Rattle.form_patterns.specs.Instructions.{field_places}
 

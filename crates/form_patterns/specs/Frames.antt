@@ -4,7 +4,7 @@ use Rattle.lisa_tree.specs.declared.descriptions.Pattern.{Pattern}
 use Rattle.lisa_tree.specs.Descriptions.{DescriptionTree}
 use Rattle.instruction_trees.specs.Bits.{Frame}
 use Rattle.instruction_trees.specs.Trees.{Item, Fixed, Free, Field, Child, coding}
-use Rattle.coding_tables.specs.Codings.{pattern_digits, coding_table}
+use Rattle.instruction_forms.specs.coding_tables.Codings.{pattern_digits, coding_table}
 use Rattle.instruction_forms.specs.Trees.{FormTree, FormTrees, Node, End, Then}
 use Rattle.pattern_tables.specs.declared.bit_pattern.BitPattern.{BitPattern}
 use Rattle.pattern_tables.specs.Patterns.{Stands}

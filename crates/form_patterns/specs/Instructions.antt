@@ -5,8 +5,8 @@ use Rattle.lisa_tree.specs.Operations.{is_alias}
 use Rattle.instruction_trees.specs.Bits.{Frame}
 use Rattle.instruction_trees.specs.Trees.{Form, placed}
 use Rattle.instruction_trees.specs.Values.{values}
-use Rattle.coding_tables.specs.Codings.{coding_table}
-use Rattle.coding_tables.specs.Instructions.{instruction_items, forms_of}
+use Rattle.instruction_forms.specs.coding_tables.Codings.{coding_table}
+use Rattle.instruction_forms.specs.coding_tables.Instructions.{instruction_items, forms_of}
 use Rattle.instruction_forms.specs.Trees.{FormTree, FormTrees, Node, End, Then}
 use Rattle.instruction_forms.specs.declared.form.Field.{Field}
 use Rattle.pattern_tables.specs.Instructions.{frames_of, plain_of}

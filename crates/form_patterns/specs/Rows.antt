@@ -2,7 +2,7 @@
 use Rattle.std.specs.Prelude.{◌≡◌, ℕ, List, [], map, slice_index_or}
 use Rattle.std.specs.Global.{Vec}
 use Rattle.lisa_tree.specs.Descriptions.{DescriptionTree}
-use Rattle.coding_tables.specs.Instructions.{forms_of}
+use Rattle.instruction_forms.specs.coding_tables.Instructions.{forms_of}
 use Rattle.pattern_tables.specs.declared.fields.Place.{Place}
 use Rattle.pattern_tables.specs.Places.{pair_of}
 use Rattle.form_patterns.specs.Instructions.{field_places}

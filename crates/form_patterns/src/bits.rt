@@ -2,7 +2,7 @@
 
 ghost use Rattle.std.specs.Prelude.{◌≡◌, ◌<◌, ◌+◌, ◌*◌, ◌^◌, [], ◌∷◌, map, replicate};
 ghost use Rattle.instruction_trees.specs.Bits.{one_if, mask_bit, pattern_bit};
-ghost use Rattle.coding_tables.specs.Codings.{first_digit};
+ghost use Rattle.instruction_forms.specs.coding_tables.Codings.{first_digit};
 ghost use Rattle.form_patterns.specs.Frames.{digit_bit, pattern_frame, Adds};
 
 use lisa_tree::Pattern;

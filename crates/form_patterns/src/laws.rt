@@ -3,8 +3,8 @@
 ghost use Rattle.std.specs.Prelude.{◌≡◌, ℕ, List, map};
 ghost use Rattle.lisa_tree.specs.Descriptions.{DescriptionTree};
 ghost use Rattle.instruction_trees.specs.Trees.{Tree, Form, Fits, AnyValue};
-ghost use Rattle.coding_tables.specs.Codings.{coding_table};
-ghost use Rattle.coding_tables.specs.Instructions.{instruction_items};
+ghost use Rattle.instruction_forms.specs.coding_tables.Codings.{coding_table};
+ghost use Rattle.instruction_forms.specs.coding_tables.Instructions.{instruction_items};
 ghost use Rattle.instruction_forms.specs.Described.{instruction_form};
 ghost use Rattle.form_patterns.specs.Instructions.{field_places, tree_fields};
 ghost use Rattle.form_patterns.specs.Filled.{AreValuesOf, IsInstruction};

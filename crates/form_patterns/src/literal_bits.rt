@@ -8,11 +8,9 @@ ghost use Rattle.form_patterns.specs.Frames.{tree_frame, Adds, StandsFor};
 ghost use Rattle.form_patterns.specs.Instructions.{ArePatterns};
 
 use crate::bits::{add_pattern, add_repeated};
-use coded_names::pattern_width;
 use description_types::sections;
-use instruction_forms::Form;
+use instruction_forms::{Form, NoMemory, pattern_width};
 use lisa_tree::{CodingItem, CodingPart, Names, coding};
-use lisa_words::NoMemory;
 use pattern_tables::BitPattern;
 use std::alloc::Global;
 

@@ -6,9 +6,8 @@ ghost use Rattle.instruction_forms.specs.Trees.{form_tree, is_plain_tree};
 ghost use Rattle.instruction_forms.specs.Described.{AreForms};
 ghost use Rattle.form_patterns.specs.Instructions.{instruction_plain};
 
-use instruction_forms::Form;
+use instruction_forms::{Form, NoMemory};
 use lisa_tree::Names;
-use lisa_words::NoMemory;
 use std::alloc::Global;
 
 // Whether an operation is an alias.

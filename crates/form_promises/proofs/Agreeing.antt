@@ -4,7 +4,7 @@ use Rattle.std.specs.Prelude.{slice_index_or}
 use Rattle.std.specs.List.{AllByRecursion}
 use Rattle.instruction_trees.specs.Trees.{Item, Fixed, Free, Field, Child, Table, coding, Tree, Done, Pass, Value, Choose, Fits, AnyValue, In}
 use Rattle.instruction_trees.specs.Values.{numbered, owns, inners}
-use Rattle.instruction_texts.specs.Symbols.{Kind, Content, Text, Number, Part, Element, Sym, Byte, Gap, Shown, own_fields, shown_at, text_sym, written_by, gap, others, assemble, parts_of, symbols, AreWide}
+use Rattle.form_texts.specs.instruction_texts.Symbols.{Kind, Content, Text, Number, Part, Element, Sym, Byte, Gap, Shown, own_fields, shown_at, text_sym, written_by, gap, others, assemble, parts_of, symbols, AreWide}
 
 -- each field has some bit, and each alternative of a child passes
 abbrev pub AreGood : (ℕ → Type 0) → List Item → Type 0

@@ -9,10 +9,10 @@ use Rattle.std.proofs.lemmas.Slice.Eq.{bytes_eq-Decides}
 use Rattle.lisa_tree.specs.declared.descriptions.CodingItem.{CodingItem}
 use Rattle.lisa_tree.specs.declared.descriptions.CodingItem.TheVariants as items
 use Rattle.lisa_tree.specs.Same.{same_name}
-use Rattle.coded_names.specs.Codings.{items_width, items_child, pattern_width}
-use Rattle.coding_checks.specs.Written.{item_count}
-use Rattle.name_checks.specs.Doubled.{earlier}
-use Rattle.instruction_forms.specs.Described.{labels}
+use Rattle.lisa_machine.specs.coded_names.Codings.{items_width, items_child, pattern_width}
+use Rattle.form_texts.specs.coding_checks.Written.{item_count}
+use Rattle.lisa_machine.specs.name_checks.Doubled.{earlier}
+use Rattle.form_texts.specs.instruction_forms.Described.{labels}
 use Rattle.form_texts.specs.Syntaxes.{child_names, place_in}
 use Rattle.lisa_machine.proofs.Decoding.{position_is, position_there}
 

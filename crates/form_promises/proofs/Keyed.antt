@@ -8,12 +8,12 @@ use Rattle.lisa_tree.specs.declared.descriptions.CodingItem.{CodingItem}
 use Rattle.lisa_tree.specs.declared.descriptions.SyntaxItem.{SyntaxItem}
 use Rattle.lisa_tree.specs.declared.descriptions.SyntaxPart.{SyntaxPart}
 use Rattle.lisa_tree.specs.declared.descriptions.SyntaxPart.TheVariants as parts
-use Rattle.coding_checks.specs.Written.{is_shown, part_count}
-use Rattle.instruction_forms.specs.Described.{labels}
+use Rattle.form_texts.specs.coding_checks.Written.{is_shown, part_count}
+use Rattle.form_texts.specs.instruction_forms.Described.{labels}
 use Rattle.instruction_trees.specs.Trees.{In, here, there}
 use Rattle.instruction_trees.specs.Forms.{Distinct, none, more}
 use Rattle.instruction_trees.proofs.Listing.{in_left, in_right, in_append, distinct_append}
-use Rattle.instruction_texts.specs.Once.{Key, OfField, OfPart, own_keys, keys}
+use Rattle.form_texts.specs.instruction_texts.Once.{Key, OfField, OfPart, own_keys, keys}
 use Rattle.form_texts.specs.Syntaxes.{child_names, place_in, content, element}
 use Rattle.form_promises.proofs.Counted.{same_is, place_is, count, label_once, child_once, either_once}
 

@@ -7,3 +7,5 @@ pub mod Spelled
 pub mod Agreeing
 pub mod Readable
 pub mod Placed
+pub mod lisa_machine_proofs
+pub mod spelled_promises_proofs

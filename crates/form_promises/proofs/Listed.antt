@@ -8,8 +8,8 @@ use Rattle.lisa_tree.specs.Operations.{number_of, numbers_of}
 use Rattle.lisa_tree.specs.Declarations.{Choice, choices, alternatives_at}
 use Rattle.instruction_trees.specs.Trees.{In, here, there}
 use Rattle.instruction_trees.specs.Forms.{Distinct, none, more}
-use Rattle.coding_tables.specs.Instructions.{forms_of}
-use Rattle.coding_tables.proofs.Heights.{listed_once}
+use Rattle.form_texts.specs.coding_tables.Instructions.{forms_of}
+use Rattle.form_texts.proofs.coding_tables_proofs.Heights.{listed_once}
 use Rattle.lisa_machine.specs.Distinctness.{AreDistinct}
 use Rattle.lisa_machine.specs.Soundness.{IsSound}
 use Rattle.lisa_machine.proofs.Choosing.{alternatives_are}

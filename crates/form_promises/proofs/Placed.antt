@@ -8,16 +8,16 @@ use Rattle.lisa_tree.specs.Expressions as exprs
 use Rattle.lisa_tree.specs.Expressions.{ExprTree}
 use Rattle.lisa_tree.specs.Descriptions as trees
 use Rattle.lisa_tree.specs.Descriptions.{ResourceTree, DescriptionTree}
-use Rattle.description_places.specs.Places.{coding_places}
+use Rattle.lisa_machine.specs.description_places.Places.{coding_places}
 use Rattle.lisa_tree.specs.Same.{same_name}
 use Rattle.lisa_tree.specs.Resources.{fields_in, shape_in, field_shape, fields}
 use Rattle.lisa_tree.specs.Operations.{coding_in, sections_at}
 use Rattle.lisa_tree.specs.Paths.{choice_node}
-use Rattle.stage_checks.specs.Resets.{is_scalar}
+use Rattle.lisa_machine.specs.stage_checks.Resets.{is_scalar}
 use Rattle.lisa_machine.specs.Machines.{IsSpelled}
-use Rattle.coding_checks.specs.Widths.{AreWidths, choice_width, child_width}
-use Rattle.coding_checks.specs.Uneven.{IsFirstGroupWidth, child_uneven, root_uneven, register_width, shape_width, place_width, are_apart, uneven_fault, group_width}
-use Rattle.instruction_forms.specs.Widths.{HasWidth}
+use Rattle.form_texts.specs.coding_checks.Widths.{AreWidths, choice_width, child_width}
+use Rattle.form_texts.specs.coding_checks.Uneven.{IsFirstGroupWidth, child_uneven, root_uneven, register_width, shape_width, place_width, are_apart, uneven_fault, group_width}
+use Rattle.form_texts.specs.instruction_forms.Widths.{HasWidth}
 use Rattle.lisa_machine.specs.Codings.{FitsWord}
 use Rattle.lisa_machine.specs.Resolving.{IsWidth, FitsResource}
 use Rattle.lisa_machine.specs.Freedom.{IsFree}

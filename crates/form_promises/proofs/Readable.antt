@@ -6,23 +6,23 @@ use Rattle.lisa_tree.specs.declared.descriptions.CodingItem.{CodingItem}
 use Rattle.lisa_tree.specs.declared.descriptions.CodingItem.TheVariants as items
 use Rattle.lisa_tree.specs.Descriptions as trees
 use Rattle.lisa_tree.specs.Descriptions.{CodingTree, DescriptionTree}
-use Rattle.description_places.specs.Places.{item_places, items_places, coding_places}
+use Rattle.lisa_machine.specs.description_places.Places.{item_places, items_places, coding_places}
 use Rattle.lisa_tree.specs.Operations.{coding_in, sections_at}
 use Rattle.lisa_tree.specs.Declarations.{alternatives_at}
-use Rattle.coded_names.specs.Codings.{is_coding}
-use Rattle.coding_checks.specs.Widths.{choice_named, child_width}
-use Rattle.coding_checks.specs.Uneven.{lacks_coding, is_too_wide, known_widths, differ, is_uneven, choice_uneven, child_uneven, root_uneven, place_width, are_apart, uneven_fault, group_width}
-use Rattle.coding_checks.specs.Written.{not_written}
+use Rattle.lisa_machine.specs.coded_names.Codings.{is_coding}
+use Rattle.form_texts.specs.coding_checks.Widths.{choice_named, child_width}
+use Rattle.form_texts.specs.coding_checks.Uneven.{lacks_coding, is_too_wide, known_widths, differ, is_uneven, choice_uneven, child_uneven, root_uneven, place_width, are_apart, uneven_fault, group_width}
+use Rattle.form_texts.specs.coding_checks.Written.{not_written}
 use Rattle.instruction_trees.specs.Trees.{Item, Fixed, Free, coding, Form, Choose, Fits, AnyValue, In, here, there}
 use Rattle.instruction_trees.specs.Forms.{Distinct, none}
 use Rattle.instruction_trees.specs.Values.{numbered, owns}
-use Rattle.coding_tables.specs.Codings.{digit_item, pattern_digits, choice_alternatives, items_of, coding_items, coding_table}
-use Rattle.coding_tables.specs.Instructions.{instruction_choice, instruction_items}
-use Rattle.coding_tables.proofs.Levels as levels
-use Rattle.instruction_texts.specs.Symbols.{Element, Sym, is_clean, shown_values, AreWide}
-use Rattle.instruction_texts.specs.Once.{IsWrittenOnce}
-use Rattle.instruction_texts.specs.Texts.{form_symbols, IsReadable}
-use Rattle.instruction_texts.proofs.Tiles.{may_be_compared}
+use Rattle.form_texts.specs.coding_tables.Codings.{digit_item, pattern_digits, choice_alternatives, items_of, coding_items, coding_table}
+use Rattle.form_texts.specs.coding_tables.Instructions.{instruction_choice, instruction_items}
+use Rattle.form_texts.proofs.coding_tables_proofs.Levels as levels
+use Rattle.form_texts.specs.instruction_texts.Symbols.{Element, Sym, is_clean, shown_values, AreWide}
+use Rattle.form_texts.specs.instruction_texts.Once.{IsWrittenOnce}
+use Rattle.form_texts.specs.instruction_texts.Texts.{form_symbols, IsReadable}
+use Rattle.form_texts.proofs.instruction_texts_proofs.Tiles.{may_be_compared}
 use Rattle.form_texts.specs.Syntaxes.{elements_at, syntax_table}
 use Rattle.lisa_machine.specs.Codings.{FitsItem}
 use Rattle.lisa_machine.specs.Freedom.{AreFree, IsFree}

@@ -9,8 +9,8 @@ use Rattle.lisa_tree.specs.Descriptions.{CodingTree, OperationTree, DescriptionT
 use Rattle.lisa_tree.specs.declared.declared.What.{What}
 use Rattle.lisa_tree.specs.declared.declared.What.TheVariants as whats
 use Rattle.lisa_tree.specs.Operations.{operation_at, coding_in, sections_at, is_root}
-use Rattle.coding_checks.specs.Widths.{choice_of, choice_named}
-use Rattle.coding_tables.specs.Instructions.{root, root_group, root_from, choice_of_root, instruction_choice}
+use Rattle.form_texts.specs.coding_checks.Widths.{choice_of, choice_named}
+use Rattle.form_texts.specs.coding_tables.Instructions.{root, root_group, root_from, choice_of_root, instruction_choice}
 use Rattle.lisa_machine.specs.Declaring.{IsDeclared, IsGroup}
 use Rattle.lisa_machine.specs.Soundness.{IsSound}
 use Rattle.lisa_machine.proofs.Standing.{coding_stand}

@@ -11,20 +11,20 @@ use Rattle.lisa_tree.specs.declared.descriptions.SyntaxPart.{SyntaxPart}
 use Rattle.lisa_tree.specs.declared.descriptions.SyntaxPart.TheVariants as parts
 use Rattle.lisa_tree.specs.Descriptions as trees
 use Rattle.lisa_tree.specs.Descriptions.{CodingTree, SectionTree, DescriptionTree}
-use Rattle.description_places.specs.Places.{part_places, parts_places}
+use Rattle.lisa_machine.specs.description_places.Places.{part_places, parts_places}
 use Rattle.lisa_tree.specs.declared.declared.What.{What}
 use Rattle.lisa_tree.specs.declared.declared.What.TheVariants as whats
 use Rattle.lisa_tree.specs.Operations.{coding_in, syntax_in, sections_at}
 use Rattle.lisa_tree.specs.Declarations.{declared_at}
-use Rattle.description_graph.proofs.Hits.{found}
-use Rattle.coded_names.specs.Codings.{in_coding, is_coding, field_width}
-use Rattle.coding_checks.specs.Written.{coded_count, shown_count, is_written, is_to_write, writing_in, writing_named, not_written}
+use Rattle.lisa_machine.proofs.description_graph_proofs.Hits.{found}
+use Rattle.lisa_machine.specs.coded_names.Codings.{in_coding, is_coding, field_width}
+use Rattle.form_texts.specs.coding_checks.Written.{coded_count, shown_count, is_written, is_to_write, writing_in, writing_named, not_written}
 use Rattle.instruction_trees.specs.Trees.{Item, In, coding}
-use Rattle.coding_tables.specs.Codings.{digit_item, pattern_digits, items_of, coding_items, coding_table}
-use Rattle.coding_tables.proofs.Levels as levels
-use Rattle.instruction_forms.specs.Described.{labels, own_items}
-use Rattle.instruction_texts.specs.Symbols.{Element}
-use Rattle.instruction_texts.specs.Once.{Key, OfField, OfPart, fields_of, children_of, IsWrittenOnce}
+use Rattle.form_texts.specs.coding_tables.Codings.{digit_item, pattern_digits, items_of, coding_items, coding_table}
+use Rattle.form_texts.proofs.coding_tables_proofs.Levels as levels
+use Rattle.form_texts.specs.instruction_forms.Described.{labels, own_items}
+use Rattle.form_texts.specs.instruction_texts.Symbols.{Element}
+use Rattle.form_texts.specs.instruction_texts.Once.{Key, OfField, OfPart, fields_of, children_of, IsWrittenOnce}
 use Rattle.form_texts.specs.Syntaxes.{child_names, elements_in, elements_at, syntax_from, syntax_table}
 use Rattle.lisa_machine.specs.Codings.{FitsItem, FitsPart}
 use Rattle.lisa_machine.specs.Declaring.{IsDeclared, IsLabel, IsChild}

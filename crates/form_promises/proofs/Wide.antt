@@ -9,18 +9,18 @@ use Rattle.lisa_tree.specs.declared.descriptions.CodingItem.{CodingItem}
 use Rattle.lisa_tree.specs.declared.descriptions.CodingItem.TheVariants as items
 use Rattle.lisa_tree.specs.Descriptions as trees
 use Rattle.lisa_tree.specs.Descriptions.{CodingTree, DescriptionTree}
-use Rattle.description_places.specs.Places.{item_places, items_places, coding_places}
+use Rattle.lisa_machine.specs.description_places.Places.{item_places, items_places, coding_places}
 use Rattle.lisa_tree.specs.declared.declared.What.TheVariants as whats
 use Rattle.lisa_tree.specs.Operations.{coding_in, sections_at, is_alias}
 use Rattle.lisa_tree.specs.Declarations.{choices, alternatives_at}
 use Rattle.lisa_tree.specs.Paths.{choice_node}
-use Rattle.description_graph.proofs.Nodes.{at_operation, at_choice}
-use Rattle.graph_paths.specs.Paths.{is_in}
-use Rattle.least_fixed_points.specs.Settles.{settled}
-use Rattle.coded_names.specs.Codings.{is_coding, pattern_width}
-use Rattle.coding_checks.specs.Widths.{AreWidths, has_width, shared_width, alternatives_width, choice_width, choice_named, child_width, item_width, items_width, coding_width, node_width, width_step, added, capped}
-use Rattle.coding_checks.specs.Uneven.{lacks_coding, is_too_wide, known_widths, differ, is_uneven, choice_uneven, child_uneven, root_uneven, place_width, are_apart, uneven_fault, group_width}
-use Rattle.coding_tables.proofs.Owning.{owned}
+use Rattle.lisa_machine.proofs.description_graph_proofs.Nodes.{at_operation, at_choice}
+use Rattle.lisa_machine.specs.graph_paths.Paths.{is_in}
+use Rattle.lisa_machine.specs.least_fixed_points.Settles.{settled}
+use Rattle.lisa_machine.specs.coded_names.Codings.{is_coding, pattern_width}
+use Rattle.form_texts.specs.coding_checks.Widths.{AreWidths, has_width, shared_width, alternatives_width, choice_width, choice_named, child_width, item_width, items_width, coding_width, node_width, width_step, added, capped}
+use Rattle.form_texts.specs.coding_checks.Uneven.{lacks_coding, is_too_wide, known_widths, differ, is_uneven, choice_uneven, child_uneven, root_uneven, place_width, are_apart, uneven_fault, group_width}
+use Rattle.form_texts.proofs.coding_tables_proofs.Owning.{owned}
 use Rattle.lisa_machine.specs.Codings.{FitsItem}
 use Rattle.lisa_machine.specs.Declaring.{IsChildOf}
 use Rattle.lisa_machine.specs.Freedom.{AreFree, IsFree}

@@ -5,10 +5,10 @@ ghost use Rattle.lisa_tree.specs.Descriptions.{DescriptionTree};
 ghost use Rattle.lisa_tree.specs.Operations.{is_root};
 ghost use Rattle.lisa_machine.specs.Machines.{IsSpelled};
 ghost use Rattle.lisa_machine.specs.Verdicts.{IsAccepted};
-ghost use Rattle.coding_checks.specs.Uneven.{IsFirstGroupWidth};
+ghost use Rattle.form_texts.specs.coding_checks.Uneven.{IsFirstGroupWidth};
 ghost use Rattle.instruction_trees.specs.Forms.{Distinct};
-ghost use Rattle.coding_tables.specs.Instructions.{instruction_choice, forms_of};
-ghost use Rattle.instruction_forms.specs.Widths.{HasInstructionWidth, HasWidth};
+ghost use Rattle.form_texts.specs.coding_tables.Instructions.{instruction_choice, forms_of};
+ghost use Rattle.form_texts.specs.instruction_forms.Widths.{HasInstructionWidth, HasWidth};
 
 /// In an accepted description in which each child's alternatives have codings of one width, the group of all instructions has a width. It is
 /// from 1 to 64, that of the place that holds the root's word. Where there is no such group, there are no instructions to have one.

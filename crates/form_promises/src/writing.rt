@@ -2,18 +2,18 @@
 
 ghost use Rattle.std.specs.Prelude.{◌≡◌, ℕ, List, [], None, true, slice_index_or};
 ghost use Rattle.lisa_tree.specs.Descriptions.{DescriptionTree};
-ghost use Rattle.description_places.specs.Places.{first, description_places};
+ghost use Rattle.lisa_machine.specs.description_places.Places.{first, description_places};
 ghost use Rattle.lisa_tree.specs.Operations.{coding_in, sections_at};
-ghost use Rattle.coded_names.specs.Codings.{is_coding};
+ghost use Rattle.lisa_machine.specs.coded_names.Codings.{is_coding};
 ghost use Rattle.lisa_machine.specs.Verdicts.{IsAccepted};
-ghost use Rattle.coding_checks.specs.Uneven.{IsFirstGroupWidth};
-ghost use Rattle.coding_checks.specs.Written.{not_written};
+ghost use Rattle.form_texts.specs.coding_checks.Uneven.{IsFirstGroupWidth};
+ghost use Rattle.form_texts.specs.coding_checks.Written.{not_written};
 ghost use Rattle.instruction_trees.specs.Trees.{Form, Choose, Fits, AnyValue, coding};
-ghost use Rattle.coding_tables.specs.Codings.{coding_table};
-ghost use Rattle.coding_tables.specs.Instructions.{instruction_items};
-ghost use Rattle.instruction_texts.specs.Symbols.{is_clean};
-ghost use Rattle.instruction_texts.specs.Once.{IsWrittenOnce};
-ghost use Rattle.instruction_texts.specs.Texts.{form_symbols, IsReadable};
+ghost use Rattle.form_texts.specs.coding_tables.Codings.{coding_table};
+ghost use Rattle.form_texts.specs.coding_tables.Instructions.{instruction_items};
+ghost use Rattle.form_texts.specs.instruction_texts.Symbols.{is_clean};
+ghost use Rattle.form_texts.specs.instruction_texts.Once.{IsWrittenOnce};
+ghost use Rattle.form_texts.specs.instruction_texts.Texts.{form_symbols, IsReadable};
 ghost use Rattle.form_texts.specs.Syntaxes.{syntax_table};
 
 /// In an accepted description in which each label, and each child of a coding, stands once in the coding and once in the syntax, an

@@ -7,7 +7,7 @@ use Rattle.lisa_tree.specs.declared.descriptions.CodingItem.TheVariants as items
 use Rattle.lisa_tree.specs.declared.descriptions.SyntaxItem.{SyntaxItem}
 use Rattle.lisa_tree.specs.Descriptions.{OperationTree, DescriptionTree}
 use Rattle.instruction_trees.specs.Trees.{Item, Fixed, Free, coding}
-use Rattle.coding_tables.specs.Codings.{digit_item, pattern_digits, items_of, coding_table}
+use Rattle.instruction_forms.specs.coding_tables.Codings.{digit_item, pattern_digits, items_of, coding_table}
 use Rattle.instruction_forms.specs.Described.{labels, items_at}
 use Rattle.instruction_forms.proofs.Whole.{items_list}
 use Rattle.instruction_texts.specs.Once.{fields_of}

@@ -2,7 +2,7 @@
 use Rattle.std.proofs.Common.{◌≡◌, ◌<◌, ◌≤◌, ◌+◌, ℕ, zero, suc, List, [], ◌∷◌, None, Some, Bool, true, false, cond, length, get_or, drop, take, map, refl, sym, ap, ◌∙◌, arith}
 use Rattle.std.proofs.Math.ListN.{drop_of_length-le}
 use Rattle.lisa_tree.specs.Descriptions.{DescriptionTree}
-use Rattle.description_graph.proofs.Lists as lists
+use Rattle.instruction_forms.proofs.description_graph_proofs.Lists as lists
 use Rattle.instruction_forms.specs.declared.form.Form.{Form}
 use Rattle.instruction_forms.specs.Trees.{FormTree, form_tree}
 use Rattle.instruction_forms.specs.Described.{AreForms}

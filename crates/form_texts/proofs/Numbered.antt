@@ -5,9 +5,9 @@ use Rattle.lisa_tree.specs.Descriptions.{DescriptionTree}
 use Rattle.instruction_trees.specs.Trees as plain
 use Rattle.instruction_trees.specs.Trees.{Item, Fixed, Free, Field, Child, Table, Done, Pass, Value, Choose, Fits, AnyValue, In, here, there, coding, size, placed}
 use Rattle.instruction_trees.specs.Values.{own_values, owns, inners, numbered}
-use Rattle.coding_tables.specs.Codings.{coding_table}
-use Rattle.coding_tables.specs.Instructions.{instruction_items, forms_of}
-use Rattle.coding_tables.proofs.Heights.{listed_fit}
+use Rattle.instruction_forms.specs.coding_tables.Codings.{coding_table}
+use Rattle.instruction_forms.specs.coding_tables.Instructions.{instruction_items, forms_of}
+use Rattle.instruction_forms.proofs.coding_tables_proofs.Heights.{listed_fit}
 use Rattle.instruction_forms.specs.declared.form.Field as fields
 use Rattle.instruction_forms.specs.Trees.{FormTree, FormTrees}
 use Rattle.instruction_forms.specs.Described.{labels, labelled, items_at, children, described, instruction_form}

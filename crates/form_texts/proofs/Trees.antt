@@ -9,7 +9,7 @@ use Rattle.lisa_tree.specs.Descriptions.{DescriptionTree}
 use Rattle.lisa_tree.specs.declared.descriptions.SyntaxItem.{SyntaxItem}
 use Rattle.lisa_tree.specs.declared.descriptions.CodingItem.{CodingItem}
 use Rattle.lisa_tree.specs.Operations.{syntax_in, sections_at}
-use Rattle.description_graph.proofs.Lists as lists
+use Rattle.instruction_forms.proofs.description_graph_proofs.Lists as lists
 use Rattle.instruction_forms.specs.declared.form.Field.{Field}
 use Rattle.instruction_forms.specs.declared.form.Form.{Form, out-Form}
 use Rattle.instruction_forms.specs.declared.form.Form.TheFolds.{fold_out-Form}

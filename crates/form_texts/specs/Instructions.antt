@@ -2,8 +2,8 @@
 use Rattle.std.specs.Prelude.{ℕ, ◌≡◌, ◌+◌, List, [], ◌∷◌, Option, None, Some, cond, map}
 use Rattle.lisa_tree.specs.Descriptions.{DescriptionTree}
 use Rattle.instruction_trees.specs.Trees.{Form, Choose}
-use Rattle.coding_tables.specs.Codings.{coding_table}
-use Rattle.coding_tables.specs.Instructions.{forms_of}
+use Rattle.instruction_forms.specs.coding_tables.Codings.{coding_table}
+use Rattle.instruction_forms.specs.coding_tables.Instructions.{forms_of}
 use Rattle.instruction_texts.specs.declared.shapes.Shape.{Shape}
 use Rattle.instruction_texts.specs.Symbols.{Sym, gather, shown_values, is_instruction_text}
 use Rattle.instruction_texts.specs.Texts.{form_symbols}

@@ -11,14 +11,14 @@ use Rattle.instruction_trees.specs.Bits.{Frame}
 use Rattle.coding_tables.specs.Instructions.{instruction_items, forms_of, form_count}
 use Rattle.pattern_tables.specs.Patterns.{IsPlain, IsAlias}
 use Rattle.pattern_tables.specs.Overlaps.{AnswersUncovered, IsCovered}
-use Rattle.form_patterns.specs.Instructions.{instruction_frames, instruction_plain}
-use Rattle.lisa_machine.specs.Verdicts.{IsAccepted}
+use Rattle.lisa_syntax.specs.form_patterns.Instructions.{instruction_frames, instruction_plain}
+use Rattle.lisa_syntax.specs.lisa_machine.Verdicts.{IsAccepted}
 use Rattle.instruction_forms.specs.Widths.{HasWidth}
-use Rattle.lisa_machine.proofs.Sound.{sound}
+use Rattle.lisa_syntax.proofs.lisa_machine_proofs.Sound.{sound}
 use Rattle.coding_tables.proofs.Heights.{are_listed}
 use Rattle.pattern_tables.proofs.Decoding.{in_place}
 use Rattle.instruction_trees.proofs.Relabelled.{fits_relabel}
-use Rattle.lisa_forms.specs.Coverage.{not_an_alias, IsUncoveredVerdict}
+use Rattle.lisa_syntax.specs.lisa_forms.Coverage.{not_an_alias, IsUncoveredVerdict}
 use Rattle.generated_programs.specs.Draws.{marked_from, plain_forms}
 use Rattle.generated_programs.proofs.Growing.{some_instruction}
 

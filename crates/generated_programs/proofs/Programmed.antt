@@ -2,9 +2,9 @@
 use Rattle.std.proofs.Common.{◌≡◌, ◌<◌, ℕ, List, Option, None, Some, length, sym, ap, ◌∙◌}
 use Rattle.std.proofs.lemmas.Option.{same_Some}
 use Rattle.lisa_tree.specs.Descriptions.{DescriptionTree}
-use Rattle.lisa_machine.specs.Verdicts.{IsAccepted}
+use Rattle.lisa_syntax.specs.lisa_machine.Verdicts.{IsAccepted}
 use Rattle.instruction_forms.specs.Widths.{HasWidth}
-use Rattle.lisa_forms.specs.Coverage.{IsUncoveredVerdict}
+use Rattle.lisa_syntax.specs.lisa_forms.Coverage.{IsUncoveredVerdict}
 use Rattle.generated_programs.specs.Memories.{memory_of_width, IsProgramMemory}
 use Rattle.generated_programs.specs.Draws.{plain_forms}
 use Rattle.generated_programs.specs.Programs.{program_text, IsProgram}

@@ -2,8 +2,8 @@
 
 ghost use Rattle.std.specs.Prelude.{◌≡◌, ◌⊎◌, ◌++◌, ◌∷◌, [], codes, option_copied, IfOk, IfErr, None, Some, Err};
 ghost use Rattle.lisa_tree.specs.Descriptions.{description_tree};
-ghost use Rattle.lisa_forms.specs.Parts.{AreFormsOf};
-ghost use Rattle.lisa_forms.specs.Coverage.{IsUncoveredVerdict};
+ghost use Rattle.lisa_syntax.specs.lisa_forms.Parts.{AreFormsOf};
+ghost use Rattle.lisa_syntax.specs.lisa_forms.Coverage.{IsUncoveredVerdict};
 ghost use Rattle.lisa_syntax.specs.Parts.{IsSyntaxOf};
 ghost use Rattle.lisa_object.specs.declared.faults.GenFault.TheVariants as faults;
 ghost use Rattle.generated_programs.specs.Memories.{IsProgramMemory};
@@ -11,10 +11,8 @@ ghost use Rattle.generated_programs.specs.Programs.{program_text, IsProgram};
 
 use crate::choices::Choices;
 use crate::memories::first_memory;
-use lisa_forms::Forms;
-use lisa_machine::Machine;
 use lisa_object::GenFault;
-use lisa_syntax::Syntax;
+use lisa_syntax::{Forms, Machine, Syntax};
 use lisa_words::{Name, NoMemory};
 use rand_pcg::Lcg128Xsl64;
 use std::alloc::{AllocError, Global};

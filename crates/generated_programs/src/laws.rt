@@ -3,10 +3,10 @@
 ghost use Rattle.std.specs.Prelude.{◌≡◌, ℕ, List, true, None, Some};
 ghost use Rattle.lisa_tree.specs.Descriptions.{DescriptionTree};
 ghost use Rattle.lisa_tree.specs.Operations.{is_alias};
-ghost use Rattle.lisa_machine.specs.Verdicts.{IsAccepted};
+ghost use Rattle.lisa_syntax.specs.lisa_machine.Verdicts.{IsAccepted};
 ghost use Rattle.instruction_trees.specs.Trees.{is_plain};
-ghost use Rattle.form_patterns.specs.Filled.{IsInstruction};
-ghost use Rattle.lisa_forms.specs.Coverage.{IsUncoveredVerdict};
+ghost use Rattle.lisa_syntax.specs.form_patterns.Filled.{IsInstruction};
+ghost use Rattle.lisa_syntax.specs.lisa_forms.Coverage.{IsUncoveredVerdict};
 ghost use Rattle.rand_pcg.specs.Lcg.{Lcg};
 ghost use Rattle.rand_pcg.specs.Pcg.{pcg64};
 ghost use Rattle.generated_programs.specs.Memories.{IsProgramMemory};

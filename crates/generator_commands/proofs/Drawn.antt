@@ -7,15 +7,15 @@ use Rattle.lisa_object.specs.declared.faults.GenFault.TheVariants as faults
 use Rattle.generated_programs.specs.Memories.{IsProgramMemory}
 use Rattle.generated_programs.specs.Programs.{IsProgram}
 use Rattle.generated_programs.proofs.Programmed.{some_or_none}
-use Rattle.lisa_forms.specs.Coverage.{IsOverlapVerdict, IsUncoveredVerdict}
-use Rattle.lisa_syntax.specs.Texts.{IsAmbiguityVerdict}
+use Rattle.assembler_commands.specs.lisa_forms.Coverage.{IsOverlapVerdict, IsUncoveredVerdict}
+use Rattle.generated_programs.specs.lisa_syntax.Texts.{IsAmbiguityVerdict}
 use Rattle.lisa_outcomes.specs.declared.status.Refusal.TheVariants as refusals
 use Rattle.lisa_outcomes.specs.Stages.{Finds}
 use Rattle.lisa_outcomes.proofs.Finding.{found_ok, found_memory, found_refused}
 use Rattle.lisa_outcomes.proofs.Refusals.{program_refusal}
 use Rattle.lisa_outcomes.proofs.Told.{none_is_no_some}
-use Rattle.lisa_machine.specs.Verdicts.{before, nothing, Verdict}
-use Rattle.checked_descriptions.specs.Instructions.{HasInstructions, from_aliases, from_ambiguities, from_overlaps}
+use Rattle.assembler_commands.specs.lisa_machine.Verdicts.{before, nothing, Verdict}
+use Rattle.assembler_commands.specs.checked_descriptions.Instructions.{HasInstructions, from_aliases, from_ambiguities, from_overlaps}
 use Rattle.generator_commands.specs.Generates.{IsNoProgram}
 use Rattle.generator_commands.specs.Undrawn.{undrawn_end}
 

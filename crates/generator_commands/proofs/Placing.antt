@@ -11,13 +11,13 @@ use Rattle.lisa_engine.specs.Memory.{Memory}
 use Rattle.lisa_engine.specs.Images.{is_array, missing_memory}
 use Rattle.lisa_engine.specs.declared.parts.ArrayItem.{ArrayItem}
 use Rattle.lisa_object.specs.Objects.{PlainObject}
-use Rattle.machine_parts.specs.Parts.{arrays_of, memories_of}
+use Rattle.description_commands.specs.machine_parts.Parts.{arrays_of, memories_of}
 use Rattle.placed_programs.specs.Entries.{Entry}
 use Rattle.placed_programs.specs.Addresses.{Counts, no_cells}
 use Rattle.placed_programs.specs.Symbols.{with_counts}
 use Rattle.placed_programs.specs.Placed.{Sense, is_some_cell, object_sense, placed_memory, placed_image}
-use Rattle.object_links.specs.LineNames.{parts_of}
-use Rattle.lisa_assembler.specs.Memories.{marked, memory_items}
+use Rattle.assembler_commands.specs.object_links.LineNames.{parts_of}
+use Rattle.assembler_commands.specs.lisa_assembler.Memories.{marked, memory_items}
 use Rattle.assembler_commands.specs.Links.{IsLinked}
 
 -- ---- a memory among arrays

@@ -7,8 +7,8 @@ use Rattle.generated_programs.specs.Programs.{IsProgram}
 use Rattle.lisa_outcomes.specs.declared.status.Refusal.{Refusal}
 use Rattle.lisa_outcomes.specs.declared.status.Refusal.TheVariants as refusals
 use Rattle.lisa_outcomes.specs.Outcomes.{Outcome, Finished, After}
-use Rattle.checked_descriptions.specs.Descriptions.{AfterSpelling}
-use Rattle.checked_descriptions.specs.Checked.{Checked, AfterChecks}
+use Rattle.assembler_commands.specs.checked_descriptions.Descriptions.{AfterSpelling}
+use Rattle.assembler_commands.specs.checked_descriptions.Checked.{Checked, AfterChecks}
 
 -- no memory is as wide as an instruction, or there is no instruction
 abbrev pub IsNoProgram : DescriptionTree → Refusal → Type 0

@@ -2,3 +2,11 @@ pub mod Generates
 pub mod Undrawn
 pub mod Reports
 pub mod Soaks
+pub mod assembler_commands
+pub mod description_commands
+pub mod description_sizes
+pub mod generated_programs
+pub mod lisa_assembler
+pub mod lisa_forms
+pub mod lisa_meaning
+pub mod module_commands

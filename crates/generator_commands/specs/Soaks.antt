@@ -4,14 +4,14 @@ use Rattle.asm_source.specs.Plain.{PlainLine}
 use Rattle.lisa_tree.specs.Descriptions.{DescriptionTree}
 use Rattle.lisa_engine.specs.Memory.{Memory}
 use Rattle.lisa_object.specs.Objects.{PlainObject}
-use Rattle.lisa_assembler.specs.Objects.{IsObjectOf}
+use Rattle.assembler_commands.specs.lisa_assembler.Objects.{IsObjectOf}
 use Rattle.verilog_text.specs.Trees.{ModuleTree}
 use Rattle.verilog_text.specs.Faults.{VAccepts}
 use Rattle.lisa_outcomes.specs.Outcomes.{Outcome, Finished, After}
 use Rattle.engine_commands.specs.Images.{IsMissing}
 use Rattle.engine_commands.specs.Making.{IsMade}
-use Rattle.checked_descriptions.specs.Descriptions.{AfterSpelling}
-use Rattle.checked_descriptions.specs.Checked.{Checked, AfterChecks}
+use Rattle.assembler_commands.specs.checked_descriptions.Descriptions.{AfterSpelling}
+use Rattle.assembler_commands.specs.checked_descriptions.Checked.{Checked, AfterChecks}
 use Rattle.description_commands.specs.Runs.{described_machine}
 use Rattle.module_commands.specs.Designs.{IsUnreadModule, clock_machine}
 use Rattle.assembler_commands.specs.Assembled.{AfterSource, IsUnassembled}

@@ -1,17 +1,16 @@
 //! The command that writes a program.
 ghost use Rattle.std.specs.Prelude.{◌≡◌, ◌<◌, ◌^◌, length};
 ghost use Rattle.lisa_tree.specs.Descriptions.{description_tree};
-ghost use Rattle.lisa_machine.specs.Machines.{IsSpelled};
+ghost use Rattle.assembler_commands.specs.lisa_machine.Machines.{IsSpelled};
 ghost use Rattle.lisa_outcomes.specs.Replies.{Replies};
 ghost use Rattle.lisa_outcomes.specs.Stages.{Finds};
-ghost use Rattle.checked_descriptions.specs.Checked.{AfterChecks};
-ghost use Rattle.checked_descriptions.specs.ToolViews.{checked_of, AreTools};
+ghost use Rattle.assembler_commands.specs.checked_descriptions.Checked.{AfterChecks};
+ghost use Rattle.assembler_commands.specs.checked_descriptions.ToolViews.{checked_of, AreTools};
 ghost use Rattle.generated_programs.specs.Programs.{IsProgram};
 ghost use Rattle.generator_commands.specs.Generates.{IsNoProgram, GeneratesChecked, GivesProgram};
 ghost use Rattle.generator_commands.specs.Undrawn.{undrawn_end};
 
-use assembler_commands::write_text;
-use checked_descriptions::{Tools, description_of, tools_of};
+use assembler_commands::{Tools, description_of, tools_of, write_text};
 use generated_programs::{GenFault, generate, programs_are_one};
 use lisa_io::Sink;
 use lisa_outcomes::{End, Refusal};

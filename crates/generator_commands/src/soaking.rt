@@ -3,8 +3,8 @@ ghost use Rattle.std.specs.Prelude.{◌≡◌, ◌<◌, ◌^◌, List, ℕ, [], 
 ghost use Rattle.asm_source.specs.Plain.{line_tree};
 ghost use Rattle.lisa_tree.specs.Descriptions.{description_tree};
 ghost use Rattle.lisa_engine.specs.Images.{IsImage, missing_memory};
-ghost use Rattle.lisa_machine.specs.Machines.{IsSpelled};
-ghost use Rattle.machine_parts.specs.Parts.{arrays_of};
+ghost use Rattle.assembler_commands.specs.lisa_machine.Machines.{IsSpelled};
+ghost use Rattle.description_commands.specs.machine_parts.Parts.{arrays_of};
 ghost use Rattle.description_digest.specs.Digests.{digest_of};
 ghost use Rattle.lisa_object.specs.Objects.{object_tree};
 ghost use Rattle.lisa_object.specs.ObjectRules.{IsObject};
@@ -13,8 +13,8 @@ ghost use Rattle.verilog_text.specs.Trees.{module_tree};
 ghost use Rattle.verilog_text.specs.Clockable.{IsClockable};
 ghost use Rattle.lisa_outcomes.specs.Outcomes.{Finished};
 ghost use Rattle.lisa_outcomes.specs.Replies.{Replies};
-ghost use Rattle.checked_descriptions.specs.Checked.{AfterChecks};
-ghost use Rattle.checked_descriptions.specs.ToolViews.{checked_of, AreTools};
+ghost use Rattle.assembler_commands.specs.checked_descriptions.Checked.{AfterChecks};
+ghost use Rattle.assembler_commands.specs.checked_descriptions.ToolViews.{checked_of, AreTools};
 ghost use Rattle.description_commands.specs.Runs.{described_machine};
 ghost use Rattle.assembler_commands.specs.Assembled.{IsSource};
 ghost use Rattle.assembler_commands.specs.Links.{stamped};
@@ -26,22 +26,21 @@ use crate::generating::program_of;
 use crate::plans::Plan;
 use crate::reports::{Report, report_text};
 use asm_source::SourceLine;
-use assembler_commands::{image_of, lines_of, object_of, write_text};
-use checked_descriptions::{Tools, description_of, tools_of};
+use assembler_commands::{
+    Tools, description_of, image_of, lines_of, machines_show, object_of,
+    objects_of_sources_keep_rules, sizes_are_limited, tools_of, write_text,
+};
+use description_commands::Simulator;
 use description_digest::digest;
 use engine_commands::unmade;
-use item_promises::sizes_are_limited;
 use lisa_engine::{Engine, Image};
 use lisa_io::Sink;
 use lisa_object::{Object, Stamped, print_image};
 use lisa_outcomes::End;
-use lisa_sim::Simulator;
 use lisa_tree::Description;
 use lisa_words::NoMemory;
 use module_commands::module_of;
-use source_promises::objects_of_sources_keep_rules;
 use std::alloc::Global;
-use use_promises::machines_show;
 use verilog_clock::Clock;
 use verilog_text::Module;
 

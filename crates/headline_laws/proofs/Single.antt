@@ -8,7 +8,7 @@ use Rattle.lisa_engine.specs.declared.schedule.ScheduleFault.{ScheduleFault}
 use Rattle.lisa_object.specs.declared.parts.Stamped.{Stamped}
 use Rattle.lisa_object.specs.Rules.{IsStamped}
 use Rattle.lisa_object.specs.Texts.{image_text}
-use Rattle.verilog_reader.proofs.TextLaws.{one_spelled}
+use Rattle.module_commands.proofs.verilog_reader_proofs.TextLaws.{one_spelled}
 use Rattle.lisa_outcomes.specs.Outcomes.{Finished, FileMap, passed, stopped}
 use Rattle.lisa_outcomes.specs.NamedFiles.{NamedFile, AreFiles}
 use Rattle.lisa_outcomes.specs.RunFiles.{RunNames, RunBytes, run_files, run_bytes}
@@ -19,9 +19,9 @@ use Rattle.lisa_engine.specs.Machines.{Machine}
 use Rattle.engine_commands.specs.Schedules.{schedule_bytes}
 use Rattle.engine_commands.specs.Tasks.{takes_input, GivesTask, GivesUnder}
 use Rattle.engine_commands.specs.Making.{GivesMade}
-use Rattle.checked_descriptions.specs.Checked.{Checked, AfterChecks}
-use Rattle.checked_descriptions.specs.Descriptions.{description_limit}
-use Rattle.checked_descriptions.specs.DescriptionImages.{IsImageFor}
+use Rattle.verilog_command.specs.checked_descriptions.Checked.{Checked, AfterChecks}
+use Rattle.verilog_command.specs.checked_descriptions.Descriptions.{description_limit}
+use Rattle.verilog_command.specs.checked_descriptions.DescriptionImages.{IsImageFor}
 use Rattle.description_commands.specs.Runs.{described_machine, GivesChecked, GivesRun}
 use Rattle.module_commands.specs.Designs.{Design, IsDesign, clock_machine}
 use Rattle.module_commands.specs.Clocks.{module_limit, GivesClock}

@@ -9,7 +9,7 @@ use Rattle.lisa_engine.specs.Images.{IsImage}
 use Rattle.lisa_object.specs.declared.parts.Stamped.{Stamped}
 use Rattle.verilog_text.specs.Trees.{ModuleTree}
 use Rattle.verilog_text.specs.Faults.{VAccepts}
-use Rattle.verilog_reader.proofs.TextLaws.{one_spelled, accepted_unbroken}
+use Rattle.module_commands.proofs.verilog_reader_proofs.TextLaws.{one_spelled, accepted_unbroken}
 use Rattle.lisa_outcomes.specs.declared.status.Refusal.{Refusal}
 use Rattle.lisa_outcomes.specs.Outcomes.{Outcome, Finished, Refusing, passed, stopped}
 use Rattle.lisa_outcomes.specs.RunFiles.{RunBytes}
@@ -18,8 +18,8 @@ use Rattle.engine_commands.specs.Images.{IsImageOf, memories_of}
 use Rattle.engine_commands.specs.Schedules.{schedule_bytes}
 use Rattle.engine_commands.specs.Tasks.{takes_input}
 use Rattle.engine_commands.specs.Making.{GivesMade}
-use Rattle.checked_descriptions.specs.Checked.{Checked, IsChecked, IsFaulty, AfterChecks}
-use Rattle.checked_descriptions.specs.DescriptionImages.{HasDigest, IsImageFor, IsForAnother}
+use Rattle.verilog_command.specs.checked_descriptions.Checked.{Checked, IsChecked, IsFaulty, AfterChecks}
+use Rattle.verilog_command.specs.checked_descriptions.DescriptionImages.{HasDigest, IsImageFor, IsForAnother}
 use Rattle.description_commands.specs.Runs.{described_machine, GivesChecked, GivesRun}
 use Rattle.module_commands.specs.Designs.{Design, IsDesign, no_module, no_image, clock_machine}
 use Rattle.module_commands.specs.Clocks.{GivesClock}

@@ -2,7 +2,7 @@
 use Rattle.std.proofs.Common.{◌≡◌, ◌<◌, ◌≤◌, ◌+◌, ◌-◌, ◌++◌, ℕ, List, Option, length, drop, get_or, sym, ap, ◌∙◌, arith, append_assoc}
 use Rattle.lisa_tree.specs.declared.descriptions.CodingItem.{CodingItem}
 use Rattle.lisa_tree.specs.Descriptions.{DescriptionTree}
-use Rattle.description_graph.proofs.Lists as lists
+use Rattle.coding_tables.proofs.description_graph_proofs.Lists as lists
 use Rattle.instruction_forms.specs.declared.form.Field.{Field}
 use Rattle.instruction_forms.specs.Picks.{item_span, span, item_fields, own_fields}
 use Rattle.instruction_forms.proofs.Walking.{span_at}

@@ -9,3 +9,5 @@ pub mod Whole
 pub mod Wide
 pub mod Numbered
 pub mod Commas
+pub mod coding_tables_proofs
+pub mod description_graph_proofs

@@ -5,7 +5,7 @@ use Rattle.std.proofs.lemmas.List.{map-append}
 use Rattle.lisa_tree.specs.Descriptions.{DescriptionTree}
 use Rattle.lisa_tree.specs.Declarations.{choices, alternatives_at}
 use Rattle.lisa_tree.specs.Paths.{node_count, choice_node}
-use Rattle.description_graph.proofs.Nodes.{alternatives_below}
+use Rattle.coding_tables.proofs.description_graph_proofs.Nodes.{alternatives_below}
 use Rattle.instruction_trees.specs.Trees.{Form, Done, In, instructions}
 use Rattle.instruction_trees.specs.Forms.{forms}
 use Rattle.coding_tables.specs.Codings.{choice_alternatives, coding_table}

@@ -7,8 +7,8 @@ use Rattle.lisa_tree.specs.declared.descriptions.CodingItem.{CodingItem}
 use Rattle.lisa_tree.specs.declared.descriptions.CodingItem.TheVariants as items
 use Rattle.lisa_tree.specs.Descriptions.{DescriptionTree}
 use Rattle.lisa_tree.specs.Paths.{node_at, node_count}
-use Rattle.coded_names.specs.Codings.{pattern_width}
-use Rattle.coding_checks.specs.Widths.{items_width, capped}
+use Rattle.coding_tables.specs.coded_names.Codings.{pattern_width}
+use Rattle.coding_tables.specs.coding_checks.Widths.{items_width, capped}
 use Rattle.instruction_trees.specs.Trees.{Item, Fixed, Free, Form, Pass, Value, Choose, Tree, In, here, there, coding, size, placed, Table}
 use Rattle.instruction_trees.specs.Forms.{listed, forms}
 use Rattle.instruction_trees.specs.Values.{own_values}

@@ -10,10 +10,10 @@ use Rattle.lisa_tree.specs.Descriptions.{DescriptionTree}
 use Rattle.lisa_tree.specs.Operations.{coding_in, sections_at}
 use Rattle.lisa_tree.specs.Declarations.{choices, alternatives_at}
 use Rattle.lisa_tree.specs.Paths.{Node, Operation, Choosing, Declaring, node_at, choice_node}
-use Rattle.description_graph.proofs.Nodes.{at_operation, at_choice, alternatives_below}
+use Rattle.coding_tables.proofs.description_graph_proofs.Nodes.{at_operation, at_choice, alternatives_below}
 use Rattle.least_fixed_points.specs.Settles.{Settles, settled}
-use Rattle.coded_names.specs.Codings.{pattern_width}
-use Rattle.coding_checks.specs.Widths.{has_width, shared_width, alternatives_width, choice_named, choice_width, item_width, items_width, coding_width, node_width, width_step, capped}
+use Rattle.coding_tables.specs.coded_names.Codings.{pattern_width}
+use Rattle.coding_tables.specs.coding_checks.Widths.{has_width, shared_width, alternatives_width, choice_named, choice_width, item_width, items_width, coding_width, node_width, width_step, capped}
 use Rattle.instruction_trees.specs.Trees.{Item, Fixed, Free, Field, Child, Form, Done, Pass, Value, Choose, Fits, AnyValue, In, here, there, coding, size, form_bits}
 use Rattle.instruction_trees.proofs.Trees.{length-open}
 use Rattle.coding_tables.specs.Codings.{digit_item, pattern_digits, choice_alternatives, child_alternatives, items_of, coding_items, coding_table}

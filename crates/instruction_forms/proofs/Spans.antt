@@ -7,11 +7,11 @@ use Rattle.lisa_tree.specs.declared.descriptions.CodingItem.{CodingItem}
 use Rattle.lisa_tree.specs.Descriptions as trees
 use Rattle.lisa_tree.specs.Descriptions.{CodingTree, DescriptionTree}
 use Rattle.lisa_tree.specs.Operations.{coding_in, sections_at}
-use Rattle.description_graph.proofs.Nodes.{at_operation}
+use Rattle.coding_tables.proofs.description_graph_proofs.Nodes.{at_operation}
 use Rattle.least_fixed_points.specs.Settles.{Settles, settled}
-use Rattle.coded_names.specs.Codings.{pattern_width, times_or}
-use Rattle.coding_checks.specs.Widths.{item_width, items_width, coding_width, node_width, width_step, added, capped, AreWidths}
-use Rattle.coding_checks.specs.Steady.{widths_monotone}
+use Rattle.coding_tables.specs.coded_names.Codings.{pattern_width, times_or}
+use Rattle.coding_tables.specs.coding_checks.Widths.{item_width, items_width, coding_width, node_width, width_step, added, capped, AreWidths}
+use Rattle.coding_tables.specs.coding_checks.Steady.{widths_monotone}
 use Rattle.coding_tables.specs.Codings.{first_digit, repeated, pattern_digits}
 use Rattle.instruction_forms.specs.Described.{own_items, items_at}
 use Rattle.instruction_forms.specs.Picks.{item_span, span}

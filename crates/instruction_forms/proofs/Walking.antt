@@ -9,14 +9,14 @@ use Rattle.lisa_tree.specs.declared.descriptions.CodingItem.TheVariants as items
 use Rattle.lisa_tree.specs.Descriptions.{DescriptionTree}
 use Rattle.lisa_tree.specs.Declarations.{choices, alternatives_at}
 use Rattle.lisa_tree.specs.Paths.{choice_node}
-use Rattle.coding_checks.specs.Widths.{choice_named, capped}
+use Rattle.coding_tables.specs.coding_checks.Widths.{choice_named, capped}
 use Rattle.coding_tables.specs.Codings.{pattern_digits, choice_alternatives, child_alternatives, items_of}
 use Rattle.coding_tables.specs.Instructions.{below_count, total, AreFormCounts}
 use Rattle.coding_tables.proofs.Counted.{product_digits}
 use Rattle.coding_tables.proofs.Owning.{owned}
 use Rattle.coding_tables.proofs.Ways.{in_is}
-use Rattle.description_graph.proofs.Lists as lists
-use Rattle.description_graph.proofs.Nodes.{alternatives_below}
+use Rattle.coding_tables.proofs.description_graph_proofs.Lists as lists
+use Rattle.coding_tables.proofs.description_graph_proofs.Nodes.{alternatives_below}
 use Rattle.instruction_forms.specs.declared.picking.Pick.{Pick}
 use Rattle.instruction_forms.specs.declared.picking.Walk.{Walk}
 use Rattle.instruction_forms.specs.Picks.{pick, told, left, item_span, span, child_picks, IsWalk}

@@ -10,9 +10,9 @@ use Rattle.lisa_tree.specs.Descriptions.{CodingTree, DescriptionTree}
 use Rattle.lisa_tree.specs.Operations.{coding_in, sections_at}
 use Rattle.lisa_tree.specs.Declarations.{choices, alternatives_at}
 use Rattle.lisa_tree.specs.Paths.{node_at, node_count, choice_node}
-use Rattle.description_graph.specs.Circles.{IsFirstCircularOperation}
-use Rattle.description_graph.proofs.Nodes.{at_choice}
-use Rattle.coding_checks.specs.Widths.{choice_named, choice_width, item_width, items_width, alternatives_width, node_width, capped, AreWidths}
+use Rattle.coding_tables.specs.description_graph.Circles.{IsFirstCircularOperation}
+use Rattle.coding_tables.proofs.description_graph_proofs.Nodes.{at_choice}
+use Rattle.coding_tables.specs.coding_checks.Widths.{choice_named, choice_width, item_width, items_width, alternatives_width, node_width, capped, AreWidths}
 use Rattle.instruction_trees.specs.Trees.{Item, Form, In, here, coding, placed}
 use Rattle.instruction_trees.specs.Forms.{listed, forms}
 use Rattle.instruction_trees.specs.Values.{own_values}

@@ -3,7 +3,7 @@ use Rattle.std.proofs.Common.{◌≡◌, ◌≤◌, ◌+◌, ◌&&◌, ℕ, List
 use Rattle.lisa_tree.specs.Descriptions.{DescriptionTree}
 use Rattle.lisa_tree.specs.Declarations.{alternatives_at}
 use Rattle.lisa_tree.specs.Paths.{Node, Choosing, choice_node}
-use Rattle.description_graph.proofs.Nodes.{at_choice}
+use Rattle.coding_tables.proofs.description_graph_proofs.Nodes.{at_choice}
 use Rattle.instruction_trees.specs.Trees.{Item, Fixed, Free, Field, Child, Table, Tree, Done, Pass, Value, Choose, Form, Fits, AnyValue, coding, size, placed, is_plain, instructions}
 use Rattle.coding_tables.specs.Codings.{choice_alternatives, coding_table}
 use Rattle.coding_tables.specs.Instructions.{instruction_choice, instruction_items}

@@ -1,13 +1,13 @@
 -- The forms of a description, with the labels of their fields.
 use Rattle.std.specs.Prelude.{◌≡◌, ℕ, Bool, false, true, List, [], ◌∷◌, Option, Some, map}
-use Rattle.lisa_words.specs.declared.words.Kind.{Kind}
-use Rattle.lisa_words.specs.declared.words.Kind.TheVariants as kinds
+use Rattle.coding_tables.specs.lisa_words.declared.words.Kind.{Kind}
+use Rattle.coding_tables.specs.lisa_words.declared.words.Kind.TheVariants as kinds
 use Rattle.lisa_tree.specs.declared.descriptions.CodingItem.{CodingItem}
 use Rattle.lisa_tree.specs.declared.descriptions.CodingItem.TheVariants as items
 use Rattle.lisa_tree.specs.Descriptions as trees
 use Rattle.lisa_tree.specs.Descriptions.{CodingTree, DescriptionTree}
 use Rattle.lisa_tree.specs.Operations.{coding_in, syntax_in, sections_at}
-use Rattle.coded_names.specs.Codings.{number_kind}
+use Rattle.coding_tables.specs.coded_names.Codings.{number_kind}
 use Rattle.instruction_trees.specs.Trees.{Tree, Done, Pass, Value, Choose, coding, placed}
 use Rattle.instruction_trees.specs.Trees as plain
 use Rattle.instruction_trees.specs.Values.{own_values}

@@ -3,3 +3,6 @@ pub mod Described
 pub mod Picks
 pub mod Widths
 pub mod Naming
+pub mod coded_names
+pub mod coding_checks
+pub mod coding_tables

@@ -3,8 +3,8 @@ use Rattle.std.specs.Prelude.{ℕ, zero, suc, ◌≡◌, ◌<◌, ◌≤◌, ◌
 use Rattle.lisa_tree.specs.declared.descriptions.CodingItem.{CodingItem}
 use Rattle.lisa_tree.specs.declared.descriptions.CodingItem.TheVariants as items
 use Rattle.lisa_tree.specs.Descriptions.{DescriptionTree}
-use Rattle.coding_checks.specs.Widths.{item_width}
-use Rattle.coded_names.specs.Codings.{pattern_width}
+use Rattle.coding_tables.specs.coding_checks.Widths.{item_width}
+use Rattle.coding_tables.specs.coded_names.Codings.{pattern_width}
 use Rattle.instruction_trees.specs.Trees.{Done, Form}
 use Rattle.coding_tables.specs.Codings.{child_alternatives, items_of}
 use Rattle.coding_tables.specs.Instructions.{forms_below, below_count, product}

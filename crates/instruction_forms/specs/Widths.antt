@@ -3,7 +3,7 @@ use Rattle.std.specs.Prelude.{ℕ, ◌≡◌, Option, None, Some}
 use Rattle.lisa_tree.specs.Descriptions.{DescriptionTree}
 use Rattle.lisa_tree.specs.Paths.{choice_node}
 use Rattle.least_fixed_points.specs.Settles.{Settles}
-use Rattle.coding_checks.specs.Widths.{width_step}
+use Rattle.coding_tables.specs.coding_checks.Widths.{width_step}
 use Rattle.coding_tables.specs.Instructions.{instruction_choice}
 
 -- the group of all instructions has this width

@@ -4,18 +4,16 @@ ghost use Rattle.std.specs.Prelude.{◌≡◌, ◌<◌, ◌+◌, ◌++◌, lengt
 ghost use Rattle.least_fixed_points.specs.Settles.{entry};
 ghost use Rattle.lisa_tree.specs.Descriptions.{section_tree};
 ghost use Rattle.lisa_tree.specs.Operations.{sections_at, syntax_in};
-ghost use Rattle.coded_names.specs.Codings.{number_kind};
-ghost use Rattle.coding_checks.specs.Widths.{AreWidths};
+ghost use Rattle.coding_tables.specs.coded_names.Codings.{number_kind};
+ghost use Rattle.coding_tables.specs.coding_checks.Widths.{AreWidths};
 ghost use Rattle.instruction_forms.specs.Described.{is_signed_kind, field, items_at};
 ghost use Rattle.instruction_forms.specs.Picks.{item_fields, own_fields, IsPick};
 
 use crate::form::Field;
 use crate::picking::{Pick, end, item_span, own_items};
 use crate::sources::Sources;
-use coded_names::{CodedNames, pattern_width};
-use description_types::sections;
+use coding_tables::{CodedNames, Kind, Name, NoMemory, pattern_width, sections};
 use lisa_tree::{CodingItem, Names};
-use lisa_words::{Kind, Name, NoMemory};
 use std::alloc::Global;
 
 // Whether the label's number is written with a sign.

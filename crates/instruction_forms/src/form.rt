@@ -1,6 +1,6 @@
 //! Forms of instructions as values.
 
-use lisa_words::Name;
+use coding_tables::Name;
 
 /// A field of a form.
 #[derive(Debug, Drop)]

@@ -4,8 +4,8 @@ ghost use Rattle.std.specs.Prelude.{◌≡◌, ◌<◌, ◌≤◌, ℕ, None, So
 ghost use Rattle.least_fixed_points.specs.Settles.{entry};
 ghost use Rattle.lisa_tree.specs.Declarations.{choices, alternatives_at};
 ghost use Rattle.lisa_tree.specs.Paths.{choice_node};
-ghost use Rattle.description_graph.specs.Circles.{IsFirstCircularOperation};
-ghost use Rattle.coding_checks.specs.Widths.{AreWidths};
+ghost use Rattle.coding_tables.specs.description_graph.Circles.{IsFirstCircularOperation};
+ghost use Rattle.coding_tables.specs.coding_checks.Widths.{AreWidths};
 ghost use Rattle.coding_tables.specs.Instructions.{below_count, total, form_count};
 ghost use Rattle.coding_tables.specs.Ways.{IsShallow};
 ghost use Rattle.instruction_forms.specs.Trees.{form_tree};
@@ -17,11 +17,8 @@ use crate::fields::fields;
 use crate::form::Form;
 use crate::picking::{Pick, pick_among, picks};
 use crate::sources::Sources;
-use coding_checks::Widths;
-use coding_tables::{FormCounts, instruction_choice};
-use description_types::operation_count;
+use coding_tables::{FormCounts, NoMemory, Widths, instruction_choice, operation_count};
 use lisa_tree::Names;
-use lisa_words::NoMemory;
 use std::alloc::Global;
 
 // A number of 32 bits. More operations than those count would want more memory than there is.

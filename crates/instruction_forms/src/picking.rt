@@ -3,18 +3,15 @@
 ghost use Rattle.std.specs.Prelude.{◌≡◌, ◌<◌, ◌≤◌, ◌+◌, ◌*◌, ◌/◌, ◌%◌, ◌^◌, ◌++◌, ℕ, length, drop, IfOk};
 ghost use Rattle.std.specs.Option.{option_to_list};
 ghost use Rattle.least_fixed_points.specs.Settles.{entry};
-ghost use Rattle.coding_checks.specs.Widths.{AreWidths};
+ghost use Rattle.coding_tables.specs.coding_checks.Widths.{AreWidths};
 ghost use Rattle.coding_tables.specs.Codings.{child_alternatives};
 ghost use Rattle.coding_tables.specs.Instructions.{below_count, total};
 ghost use Rattle.instruction_forms.specs.Described.{items_at};
 ghost use Rattle.instruction_forms.specs.Picks.{pick, told, item_span, span, child_picks, IsWalk, IsPick};
 
 use crate::sources::Sources;
-use coded_names::pattern_width;
-use coding_tables::{FormCounts, choice_named};
-use description_types::sections;
+use coding_tables::{FormCounts, Name, NoMemory, choice_named, pattern_width, sections};
 use lisa_tree::{CodingItem, CodingPart, Names, coding};
-use lisa_words::{Name, NoMemory};
 use std::alloc::Global;
 
 /// One of an operation's forms, by its number, where so many bits stand below it.

@@ -1,12 +1,11 @@
 //! What the forms of a description are made from.
 
 ghost use Rattle.std.specs.Prelude.{None};
-ghost use Rattle.description_graph.specs.Circles.{IsFirstCircularOperation};
+ghost use Rattle.coding_tables.specs.description_graph.Circles.{IsFirstCircularOperation};
 ghost use Rattle.least_fixed_points.specs.Settles.{entry};
 ghost use Rattle.coding_tables.specs.Instructions.{AreFormCounts};
 
-use coding_checks::Widths;
-use coding_tables::FormCounts;
+use coding_tables::{FormCounts, Widths};
 use lisa_tree::Names;
 
 /// The names of a description in which no operation reaches itself, with the widths of its codings, and how many forms each has.

@@ -1,14 +1,12 @@
 //! Descriptions from text, and calls that are made only where their conditions hold.
 ghost use Rattle.std.specs.Prelude.{◌≡◌, ◌<◌, ℕ, IfOk};
 ghost use Rattle.lisa_tree.specs.Descriptions.{description_tree};
-ghost use Rattle.lisa_forms.specs.Parts.{AreFormsOf};
-ghost use Rattle.lisa_forms.specs.Codings.{IsCodingOf, HasField};
+ghost use Rattle.lisa_syntax.specs.lisa_forms.Parts.{AreFormsOf};
+ghost use Rattle.lisa_syntax.specs.lisa_forms.Codings.{IsCodingOf, HasField};
 ghost use Rattle.lisa_syntax.specs.Parts.{IsSyntaxOf};
 
-use lisa_forms::{Coding, Forms};
-use lisa_machine::{Machine, check};
 use lisa_reader::read_description;
-use lisa_syntax::Syntax;
+use lisa_syntax::{Coding, Forms, Machine, Syntax, check};
 use lisa_tree::DescFault;
 use lisa_words::NoMemory;
 use std::alloc::Global;

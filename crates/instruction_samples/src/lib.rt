@@ -7,6 +7,7 @@ mod samples;
 
 pub use instructions::{Instruction, Instructions, machine};
 pub use lines::{read, tokens};
+pub use lisa_syntax::{Form, Forms, LineFault, Operand, form_name};
 pub use samples::{
     BRANCHES, COUNTER, FAR, FREE, MOVES, NESTED, PAIR, PINS, PROCESSOR, SIGNED, WHOLE, WIDE,
 };

@@ -1,9 +1,9 @@
 // Lines of sources, and the forms of which they are.
 use asm_source::SourceFault;
 use instruction_samples::{
-    COUNTER, FREE, Instructions, MOVES, NESTED, PAIR, PROCESSOR, SIGNED, WHOLE, WIDE, tokens,
+    COUNTER, FREE, Instructions, LineFault, MOVES, NESTED, Operand, PAIR, PROCESSOR, SIGNED, WHOLE,
+    WIDE, tokens,
 };
-use lisa_syntax::{LineFault, Operand};
 use std::alloc::Global;
 use std::test::Fail;
 

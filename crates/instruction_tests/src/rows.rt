@@ -1,8 +1,8 @@
 // Instructions with their words and texts, as a manual lists them.
 ghost use Rattle.std.specs.Prelude.{◌≡◌};
 ghost use Rattle.lisa_tree.specs.Descriptions.{description_tree};
-ghost use Rattle.lisa_forms.specs.Codings.{IsCodingOf};
-ghost use Rattle.lisa_syntax.specs.Parts.{IsSyntaxOf};
+ghost use Rattle.generated_programs.specs.lisa_forms.Codings.{IsCodingOf};
+ghost use Rattle.instruction_samples.specs.lisa_syntax.Parts.{IsSyntaxOf};
 
 use instruction_samples::{
     FREE, Instruction, Instructions, MOVES, NESTED, PAIR, PROCESSOR, SIGNED, WHOLE, WIDE, read,

@@ -1,8 +1,8 @@
 // Words and their forms, and values that are none of a form's.
 ghost use Rattle.std.specs.Prelude.{◌≡◌, ◌<◌};
 
+use generated_programs::{Coding, Steps};
 use instruction_samples::{COUNTER, FREE, Instructions, MOVES, NESTED, PROCESSOR, SIGNED, WIDE};
-use lisa_forms::{Coding, Steps};
 use std::alloc::Global;
 use std::marker::Brand;
 use std::sync::ledger::{Blank, Ledger};

@@ -12,15 +12,15 @@ use Rattle.lisa_engine.specs.declared.parts.ArrayItem.{ArrayItem}
 use Rattle.lisa_engine.specs.Shape.{HaveDistinctNames}
 use Rattle.lisa_tree.specs.Resources.{stages, stages_in, fields}
 use Rattle.lisa_tree.specs.Operations.{name_at, operation_at}
-use Rattle.machine_parts.specs.Parts.{arrays_of, pins_of, registers_of, register_in}
-use Rattle.spelled_promises.specs.Words.{IsName}
-use Rattle.spelled_promises.specs.Trees.{IsWellFormed, IsWellFormedResource, IsWellFormedOperation}
-use Rattle.lisa_machine.specs.Distinctness.{AreDistinct, field_names}
+use Rattle.use_promises.specs.machine_parts.Parts.{arrays_of, pins_of, registers_of, register_in}
+use Rattle.lisa_forms.specs.spelled_promises.Words.{IsName}
+use Rattle.lisa_forms.specs.spelled_promises.Trees.{IsWellFormed, IsWellFormedResource, IsWellFormedOperation}
+use Rattle.use_promises.specs.lisa_machine.Distinctness.{AreDistinct, field_names}
 use Rattle.use_promises.specs.Showing.{FitsShown, shown_names}
-use Rattle.activation_trees.specs.declared.parts.Occurrence.{Occurrence}
-use Rattle.activation_trees.specs.Unfolding.{occurrences}
-use Rattle.activation_trees.specs.Items.{boundary_items, root_stage, word_item, word_items, has_bit, bit_item, bits_from, bit_items, field_item}
-use Rattle.description_sizes.specs.Sizes.{items}
+use Rattle.lisa_forms.specs.activation_trees.declared.parts.Occurrence.{Occurrence}
+use Rattle.lisa_forms.specs.activation_trees.Unfolding.{occurrences}
+use Rattle.lisa_forms.specs.activation_trees.Items.{boundary_items, root_stage, word_item, word_items, has_bit, bit_item, bits_from, bit_items, field_item}
+use Rattle.lisa_forms.specs.description_sizes.Sizes.{items}
 use Rattle.item_promises.proofs.Apart.{Apart, IsAbsent, apart_from_pairs, apart_drop, each_drop, pairs_by}
 use Rattle.item_promises.proofs.Titles.{Title, Alone, Across, Held, Standing, text, IsWhole}
 use Rattle.item_promises.proofs.Listed.{Bit, AreNames, boundary_titles, stage_titles, bit_titles, titles, texts_apart}

@@ -10,25 +10,25 @@ use Rattle.lisa_engine.specs.declared.parts.Item.{Item}
 use Rattle.lisa_engine.specs.declared.parts.ArrayItem.{ArrayItem}
 use Rattle.lisa_engine.specs.Shape.{IsWidth, HaveWidths}
 use Rattle.lisa_tree.specs.Resources.{stages, fields, fields_in}
-use Rattle.machine_parts.specs.Parts.{arrays_of, pins_of, registers_of}
-use Rattle.lisa_machine.specs.Soundness.{IsSound}
-use Rattle.lisa_machine.specs.Resolving.{FitsResource}
-use Rattle.lisa_machine.proofs.Resolved.{resource_fits}
+use Rattle.use_promises.specs.machine_parts.Parts.{arrays_of, pins_of, registers_of}
+use Rattle.use_promises.specs.lisa_machine.Soundness.{IsSound}
+use Rattle.use_promises.specs.lisa_machine.Resolving.{FitsResource}
+use Rattle.use_promises.proofs.lisa_machine_proofs.Resolved.{resource_fits}
 use Rattle.use_promises.specs.Showing.{FitsArray, FitsItem, FitsShown}
-use Rattle.activation_trees.specs.declared.parts.Occurrence.{Occurrence}
-use Rattle.activation_trees.specs.Unfolding.{occurrences}
-use Rattle.activation_trees.specs.Items.{boundary_items, root_stage, word_item, word_items, has_bit, bit_item, bits_from, bit_items, field_item}
-use Rattle.coding_checks.specs.Uneven.{IsFirstGroupWidth}
-use Rattle.coding_tables.specs.Instructions.{form_count}
-use Rattle.instruction_forms.specs.Widths.{HasWidth}
-use Rattle.instruction_forms.proofs.Wide.{small_width}
-use Rattle.description_sizes.specs.Sizes.{items, first_too_many}
-use Rattle.description_sizes.specs.Limits.{fault}
-use Rattle.description_sizes.specs.Laws.{AreWithinLimits}
-use Rattle.description_sizes.proofs.Limited.{within_limits}
-use Rattle.lisa_machine.specs.Machines.{IsSpelled}
-use Rattle.lisa_machine.specs.Verdicts.{Verdict, before}
-use Rattle.form_promises.proofs.Placed.{some_width}
+use Rattle.lisa_forms.specs.activation_trees.declared.parts.Occurrence.{Occurrence}
+use Rattle.lisa_forms.specs.activation_trees.Unfolding.{occurrences}
+use Rattle.lisa_forms.specs.activation_trees.Items.{boundary_items, root_stage, word_item, word_items, has_bit, bit_item, bits_from, bit_items, field_item}
+use Rattle.lisa_forms.specs.coding_checks.Uneven.{IsFirstGroupWidth}
+use Rattle.lisa_forms.specs.coding_tables.Instructions.{form_count}
+use Rattle.lisa_forms.specs.instruction_forms.Widths.{HasWidth}
+use Rattle.lisa_forms.proofs.instruction_forms_proofs.Wide.{small_width}
+use Rattle.lisa_forms.specs.description_sizes.Sizes.{items, first_too_many}
+use Rattle.lisa_forms.specs.description_sizes.Limits.{fault}
+use Rattle.lisa_forms.specs.description_sizes.Laws.{AreWithinLimits}
+use Rattle.lisa_forms.proofs.description_sizes_proofs.Limited.{within_limits}
+use Rattle.use_promises.specs.lisa_machine.Machines.{IsSpelled}
+use Rattle.use_promises.specs.lisa_machine.Verdicts.{Verdict, before}
+use Rattle.lisa_forms.proofs.form_promises_proofs.Placed.{some_width}
 use Rattle.lisa_forms.specs.Verdicts.{HasForms, from_writings, from_roots, from_sizes, from_texts, IsSizeVerdict}
 use Rattle.item_promises.proofs.Apart.{each_append, each_map, each_map_of}
 

@@ -4,4 +4,6 @@
 
 mod promises;
 
+pub use lisa_forms::{Coding, Forms};
 pub use promises::{shown_names_differ, shown_widths_fit, sizes_are_limited};
+pub use use_promises::{Machine, machines_show};

@@ -3,13 +3,13 @@
 ghost use Rattle.std.specs.Prelude.{ℕ, Option};
 ghost use Rattle.lisa_tree.specs.Descriptions.{DescriptionTree};
 ghost use Rattle.lisa_engine.specs.Shape.{HaveWidths, HaveDistinctNames};
-ghost use Rattle.lisa_machine.specs.Verdicts.{IsAccepted};
-ghost use Rattle.lisa_machine.specs.Machines.{IsSpelled};
-ghost use Rattle.machine_parts.specs.Parts.{arrays_of, pins_of};
-ghost use Rattle.coding_tables.specs.Instructions.{form_count};
-ghost use Rattle.instruction_forms.specs.Widths.{HasWidth};
-ghost use Rattle.description_sizes.specs.Sizes.{items};
-ghost use Rattle.description_sizes.specs.Laws.{AreWithinLimits};
+ghost use Rattle.use_promises.specs.lisa_machine.Verdicts.{IsAccepted};
+ghost use Rattle.use_promises.specs.lisa_machine.Machines.{IsSpelled};
+ghost use Rattle.use_promises.specs.machine_parts.Parts.{arrays_of, pins_of};
+ghost use Rattle.lisa_forms.specs.coding_tables.Instructions.{form_count};
+ghost use Rattle.lisa_forms.specs.instruction_forms.Widths.{HasWidth};
+ghost use Rattle.lisa_forms.specs.description_sizes.Sizes.{items};
+ghost use Rattle.lisa_forms.specs.description_sizes.Laws.{AreWithinLimits};
 ghost use Rattle.lisa_forms.specs.Verdicts.{HasForms};
 
 /// No two items of a machine share a name, nor two arrays, nor two pins.

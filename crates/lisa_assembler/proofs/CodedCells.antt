@@ -8,8 +8,8 @@ use Rattle.asm_source.specs.declared.flaw.SourceFault.TheVariants as faults
 use Rattle.instruction_trees.specs.Trees.{Tree, Form}
 use Rattle.instruction_trees.specs.Values.{filled}
 use Rattle.instruction_trees.specs.Words.{word_of}
-use Rattle.coding_tables.specs.Codings.{coding_table}
-use Rattle.coding_tables.specs.Instructions.{instruction_items, forms_of, form_count}
+use Rattle.instruction_forms.specs.coding_tables.Codings.{coding_table}
+use Rattle.instruction_forms.specs.coding_tables.Instructions.{instruction_items, forms_of, form_count}
 use Rattle.pattern_tables.specs.Instructions.{form_at}
 use Rattle.instruction_forms.specs.declared.form.Field.{Field}
 use Rattle.instruction_forms.specs.Trees.{form_tree}
@@ -19,9 +19,9 @@ use Rattle.form_patterns.specs.Instructions.{tree_fields}
 use Rattle.form_patterns.proofs.Filling.{nth, filled_with, instruction_of}
 use Rattle.form_patterns.proofs.Listing.{one_made, all_made}
 use Rattle.instruction_texts.specs.Lines.{Plain, Value, Added}
-use Rattle.lisa_forms.specs.declared.forms.Forms.{Forms}
-use Rattle.lisa_forms.specs.Parts.{AreFormsOf}
-use Rattle.lisa_forms.specs.Verdicts.{form_name_at}
+use Rattle.lisa_syntax.specs.lisa_forms.declared.forms.Forms.{Forms}
+use Rattle.lisa_syntax.specs.lisa_forms.Parts.{AreFormsOf}
+use Rattle.lisa_syntax.specs.lisa_forms.Verdicts.{form_name_at}
 use Rattle.lisa_syntax.specs.Lines.{all_shapes, IsLineFault}
 use Rattle.lisa_syntax.specs.declared.reading.LineFault.{LineFault}
 use Rattle.lisa_syntax.specs.declared.reading.LineFault.TheVariants as line_faults

@@ -5,12 +5,12 @@ use Rattle.std.specs.List.{All}
 use Rattle.std.proofs.lemmas.Nat.{pow_pos}
 use Rattle.std.proofs.lemmas.Option.{slice_get-map}
 use Rattle.lisa_tree.specs.Descriptions.{DescriptionTree}
-use Rattle.lisa_machine.specs.Verdicts.{IsAccepted}
+use Rattle.lisa_syntax.specs.lisa_machine.Verdicts.{IsAccepted}
 use Rattle.asm_source.specs.Plain.{PlainToken}
 use Rattle.instruction_trees.specs.Trees.{Tree, Done, Choose, Form, In}
 use Rattle.instruction_trees.specs.Values.{AreWithin, none, more, owns, inners}
-use Rattle.coding_tables.specs.Codings.{coding_table}
-use Rattle.coding_tables.specs.Instructions.{forms_of}
+use Rattle.instruction_forms.specs.coding_tables.Codings.{coding_table}
+use Rattle.instruction_forms.specs.coding_tables.Instructions.{forms_of}
 use Rattle.pattern_tables.specs.Instructions.{form_at}
 use Rattle.pattern_tables.proofs.Decoding.{place_in}
 use Rattle.form_patterns.specs.Filled.{AreValuesOf, IsInstruction}
@@ -24,10 +24,10 @@ use Rattle.instruction_texts.specs.Texts.{form_shape, order}
 use Rattle.instruction_texts.specs.Written.{spelled}
 use Rattle.instruction_texts.proofs.OneText.{one_values}
 use Rattle.instruction_texts.proofs.SpelledTexts.{spelled_spells}
-use Rattle.form_texts.specs.Syntaxes.{syntax_table}
-use Rattle.form_texts.specs.Instructions.{instruction_shapes, instruction_order}
+use Rattle.lisa_syntax.specs.form_texts.Syntaxes.{syntax_table}
+use Rattle.lisa_syntax.specs.form_texts.Instructions.{instruction_shapes, instruction_order}
 use Rattle.text_tables.specs.Shared.{shapes_at}
-use Rattle.lisa_forms.specs.Verdicts.{HasForms}
+use Rattle.lisa_syntax.specs.lisa_forms.Verdicts.{HasForms}
 use Rattle.lisa_syntax.specs.declared.syntax.Syntax.{Syntax}
 use Rattle.lisa_syntax.specs.Lines.{all_shapes, all_orders}
 use Rattle.lisa_syntax.specs.Operands.{AreGiven, IsLineOf}

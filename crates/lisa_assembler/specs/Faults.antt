@@ -8,7 +8,7 @@ use Rattle.asm_source.specs.Plain.{PlainToken, PlainValue, Number, PlainPart, No
 use Rattle.asm_source.specs.Plain as sources
 use Rattle.asm_source.specs.declared.flaw.SourceFault.{SourceFault}
 use Rattle.asm_source.specs.declared.flaw.SourceFault.TheVariants as faults
-use Rattle.lisa_forms.specs.Verdicts.{form_name_at}
+use Rattle.lisa_syntax.specs.lisa_forms.Verdicts.{form_name_at}
 use Rattle.lisa_syntax.specs.Lines.{all_shapes, IsLineFault}
 use Rattle.lisa_syntax.specs.declared.reading.LineFault.TheVariants as line_faults
 use Rattle.lisa_assembler.specs.Memories.{memory_named}

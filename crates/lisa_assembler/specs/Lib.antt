@@ -10,3 +10,9 @@ pub mod Seen
 pub mod Cells
 pub mod Steps
 pub mod Tooling
+pub mod coding_tables
+pub mod form_patterns
+pub mod instruction_forms
+pub mod lisa_forms
+pub mod lisa_machine
+pub mod lisa_syntax

@@ -3,7 +3,7 @@ use Rattle.std.specs.Prelude.{ℕ, Bool, true, false, List, [], ◌∷◌, Optio
 use Rattle.std.specs.Str.{bytes_eq}
 use Rattle.lisa_tree.specs.Descriptions.{DescriptionTree}
 use Rattle.lisa_engine.specs.declared.parts.ArrayItem.{ArrayItem}
-use Rattle.machine_parts.specs.Parts.{arrays_of, memories_of}
+use Rattle.lisa_syntax.specs.machine_parts.Parts.{arrays_of, memories_of}
 
 -- those of the arrays that are marked
 abbrev pub marked : List ArrayItem → List Bool → List ArrayItem

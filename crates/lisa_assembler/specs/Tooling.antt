@@ -1,8 +1,8 @@
 -- What the sources of a description are assembled by.
 use Rattle.std.specs.Prelude.{◌≡◌, map}
 use Rattle.lisa_tree.specs.Descriptions.{DescriptionTree, description_tree}
-use Rattle.lisa_forms.specs.Parts.{AreFormsOf}
-use Rattle.lisa_forms.specs.Codings.{IsCodingOf}
+use Rattle.lisa_syntax.specs.lisa_forms.Parts.{AreFormsOf}
+use Rattle.lisa_syntax.specs.lisa_forms.Codings.{IsCodingOf}
 use Rattle.lisa_syntax.specs.Parts.{IsSyntaxOf}
 use Rattle.lisa_assembler.specs.declared.tools.Tools.{Tools}
 use Rattle.lisa_assembler.specs.Fields.{AreFieldBits}

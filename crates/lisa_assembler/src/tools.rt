@@ -1,8 +1,8 @@
 // What the sources of a description are assembled by.
 ghost use Rattle.std.specs.Prelude.{◌≡◌, All, IfOk};
 ghost use Rattle.lisa_tree.specs.Descriptions.{description_tree};
-ghost use Rattle.lisa_forms.specs.Parts.{AreFormsOf};
-ghost use Rattle.lisa_forms.specs.Codings.{IsCodingOf};
+ghost use Rattle.lisa_syntax.specs.lisa_forms.Parts.{AreFormsOf};
+ghost use Rattle.lisa_syntax.specs.lisa_forms.Codings.{IsCodingOf};
 ghost use Rattle.lisa_syntax.specs.Parts.{IsSyntaxOf};
 ghost use Rattle.lisa_assembler.specs.Memories.{memory_items};
 ghost use Rattle.lisa_assembler.specs.Places.{HasWords};
@@ -11,9 +11,7 @@ ghost use Rattle.lisa_assembler.specs.Tooling.{AreToolsOf};
 use crate::fields::{FieldBits, all_fields};
 use crate::memories::Memories;
 use lisa_engine::ArrayItem;
-use lisa_forms::{Coding, Forms};
-use lisa_machine::Machine;
-use lisa_syntax::Syntax;
+use lisa_syntax::{Coding, Forms, Machine, Syntax};
 use lisa_words::NoMemory;
 use std::alloc::Global;
 

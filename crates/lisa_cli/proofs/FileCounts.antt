@@ -7,9 +7,9 @@ use Rattle.std.proofs.lemmas.List.{length-map}
 use Rattle.std.proofs.lemmas.List.Elements.{All-drop, All-from_recursion}
 use Rattle.lisa_outcomes.specs.NamedFiles.{NamedFile, named, file_at}
 use Rattle.lisa_outcomes.specs.RunFiles.{any_file, image_limit, schedule_limit}
-use Rattle.checked_descriptions.specs.Descriptions.{description_limit}
-use Rattle.module_commands.specs.Clocks.{module_limit}
-use Rattle.assembler_commands.specs.Links.{object_limit}
+use Rattle.verilog_command.specs.checked_descriptions.Descriptions.{description_limit}
+use Rattle.generator_commands.specs.module_commands.Clocks.{module_limit}
+use Rattle.generator_commands.specs.assembler_commands.Links.{object_limit}
 use Rattle.command_words.specs.Requests.{Request, Format, Check, Verilog, Assemble, Link, Disassemble, Generate, Soak, Simulate, Clock, IsAllowed}
 use Rattle.lisa_cli.specs.Files.{files_of}
 

@@ -11,8 +11,8 @@ use Rattle.lisa_outcomes.specs.declared.status.Status.TheVariants as statuses
 use Rattle.lisa_outcomes.specs.Outcomes.{Finished, Refusing, Given}
 use Rattle.lisa_outcomes.specs.Ends.{Ends}
 use Rattle.lisa_outcomes.proofs.Told.{not_ok}
-use Rattle.description_commands.proofs.Stopped.{run_kept}
-use Rattle.module_commands.proofs.Stopped.{clock_kept}
+use Rattle.generator_commands.proofs.description_commands_proofs.Stopped.{run_kept}
+use Rattle.generator_commands.proofs.module_commands_proofs.Stopped.{clock_kept}
 use Rattle.lisa_outcomes.specs.RunFiles.{run_bytes}
 use Rattle.command_words.specs.Requests.{Request, Format, Check, Verilog, Assemble, Link, Disassemble, Generate, Soak, Simulate, Clock, Asks, reads_input}
 use Rattle.lisa_cli.specs.Gives.{Gives}

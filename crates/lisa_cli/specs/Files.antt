@@ -2,10 +2,10 @@
 use Rattle.std.specs.Prelude.{ℕ, List, [], ◌∷◌, map}
 use Rattle.lisa_outcomes.specs.NamedFiles.{NamedFile, named}
 use Rattle.lisa_outcomes.specs.RunFiles.{run_files, image_limit}
-use Rattle.checked_descriptions.specs.Descriptions.{description_limit}
-use Rattle.module_commands.specs.Clocks.{module_limit}
-use Rattle.assembler_commands.specs.Links.{object_limit}
-use Rattle.assembler_commands.specs.Assembled.{source_limit}
+use Rattle.verilog_command.specs.checked_descriptions.Descriptions.{description_limit}
+use Rattle.generator_commands.specs.module_commands.Clocks.{module_limit}
+use Rattle.generator_commands.specs.assembler_commands.Links.{object_limit}
+use Rattle.generator_commands.specs.assembler_commands.Assembled.{source_limit}
 use Rattle.command_words.specs.Requests.{Request, Format, Check, Verilog, Assemble, Link, Disassemble, Generate, Soak, Simulate, Clock}
 
 -- the files that it reads, in this order, each with the most bytes that it may have

@@ -3,15 +3,15 @@ use Rattle.std.specs.Prelude.{ℕ, List, drop}
 use Rattle.lisa_outcomes.specs.Outcomes.{Outcome, Given}
 use Rattle.lisa_outcomes.specs.NamedFiles.{AfterFiles, file_at}
 use Rattle.lisa_outcomes.specs.RunFiles.{run_bytes}
-use Rattle.checked_descriptions.specs.Descriptions.{AfterSpelling}
-use Rattle.description_commands.specs.Formats.{Formats}
-use Rattle.description_commands.specs.Checks.{Checks}
-use Rattle.description_commands.specs.Runs.{GivesRun}
+use Rattle.verilog_command.specs.checked_descriptions.Descriptions.{AfterSpelling}
+use Rattle.generator_commands.specs.description_commands.Formats.{Formats}
+use Rattle.generator_commands.specs.description_commands.Checks.{Checks}
+use Rattle.generator_commands.specs.description_commands.Runs.{GivesRun}
 use Rattle.verilog_command.specs.Modules.{WritesVerilog}
-use Rattle.module_commands.specs.Clocks.{GivesClock}
-use Rattle.assembler_commands.specs.Assembled.{GivesObject}
-use Rattle.assembler_commands.specs.Links.{GivesLink}
-use Rattle.assembler_commands.specs.Listed.{GivesListing}
+use Rattle.generator_commands.specs.module_commands.Clocks.{GivesClock}
+use Rattle.generator_commands.specs.assembler_commands.Assembled.{GivesObject}
+use Rattle.generator_commands.specs.assembler_commands.Links.{GivesLink}
+use Rattle.generator_commands.specs.assembler_commands.Listed.{GivesListing}
 use Rattle.generator_commands.specs.Generates.{GivesProgram}
 use Rattle.generator_commands.specs.Soaks.{GivesSoak}
 use Rattle.command_words.specs.Requests.{Request, Format, Check, Verilog, Assemble, Link, Disassemble, Generate, Soak, Simulate, Clock}

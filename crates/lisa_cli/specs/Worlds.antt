@@ -6,8 +6,8 @@ use Rattle.lisa_io.specs.Contents.{Held}
 use Rattle.lisa_outcomes.specs.Outcomes.{FileMap, Given}
 use Rattle.lisa_outcomes.specs.NamedFiles.{AreFiles, SomeFailed}
 use Rattle.lisa_outcomes.specs.RunFiles.{run_bytes}
-use Rattle.description_commands.specs.Runs.{IsCutRun}
-use Rattle.module_commands.specs.Clocks.{IsCutClock}
+use Rattle.generator_commands.specs.description_commands.Runs.{IsCutRun}
+use Rattle.generator_commands.specs.module_commands.Clocks.{IsCutClock}
 use Rattle.command_words.specs.Requests.{Request, Format, Check, Verilog, Assemble, Link, Disassemble, Generate, Soak, Simulate, Clock, reads_input}
 use Rattle.lisa_cli.specs.Files.{files_of}
 

@@ -6,23 +6,23 @@ ghost use Rattle.lisa_outcomes.specs.FileViews.{named_of};
 ghost use Rattle.lisa_outcomes.specs.NamedFiles.{file_at, named};
 ghost use Rattle.lisa_outcomes.specs.RunFiles.{any_file, run_files};
 ghost use Rattle.lisa_outcomes.specs.RunViews.{names_of};
-ghost use Rattle.checked_descriptions.specs.Descriptions.{description_limit};
-ghost use Rattle.assembler_commands.specs.Links.{object_limit};
-ghost use Rattle.module_commands.specs.Clocks.{module_limit};
+ghost use Rattle.verilog_command.specs.checked_descriptions.Descriptions.{description_limit};
+ghost use Rattle.generator_commands.specs.assembler_commands.Links.{object_limit};
+ghost use Rattle.generator_commands.specs.module_commands.Clocks.{module_limit};
 ghost use Rattle.command_words.specs.Requests.{reads_input};
 ghost use Rattle.lisa_cli.specs.Files.{files_of};
 ghost use Rattle.command_words.specs.Asked.{request_of};
 ghost use Rattle.lisa_cli.specs.Gives.{Gives, GivesOver};
 ghost use Rattle.lisa_cli.specs.Worlds.{readings, IsGiven, IsHeard, HasFailed, IsCutOver, Blamed};
 
-use assembler_commands::{assemble_source, link_objects, list_image};
 use command_words::Command;
-use description_commands::{check_description, do_with_description, format_description};
-use generator_commands::{soak, write_program};
+use generator_commands::{
+    assemble_source, check_description, do_with_description, do_with_module, format_description,
+    link_objects, list_image, soak, write_program,
+};
 use lisa_io::{Files, Flush, Source};
 use lisa_outcomes::{End, NamedFile, RunNames, file_at, load_files, run_bytes};
 use lisa_words::NoMemory;
-use module_commands::do_with_module;
 use std::alloc::Global;
 use verilog_command::write_verilog;
 

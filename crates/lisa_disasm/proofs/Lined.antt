@@ -5,15 +5,15 @@ use Rattle.std.proofs.lemmas.Option.{same_Some}
 use Rattle.lisa_tree.specs.Descriptions.{DescriptionTree}
 use Rattle.lisa_tree.specs.Paths.{choice_node}
 use Rattle.least_fixed_points.specs.Settles.{Settles, settled, IsMonotone, IsWithin}
-use Rattle.coding_checks.specs.Widths.{width_step}
-use Rattle.coding_checks.specs.Steady.{widths_monotone}
+use Rattle.lisa_syntax.specs.coding_checks.Widths.{width_step}
+use Rattle.lisa_syntax.specs.coding_checks.Steady.{widths_monotone}
 use Rattle.instruction_trees.specs.Trees.{Tree}
-use Rattle.instruction_forms.specs.Widths.{HasWidth, IsInstructionWidth}
-use Rattle.form_patterns.specs.Instructions.{instruction_frames, instruction_plain}
+use Rattle.lisa_syntax.specs.instruction_forms.Widths.{HasWidth, IsInstructionWidth}
+use Rattle.lisa_syntax.specs.form_patterns.Instructions.{instruction_frames, instruction_plain}
 use Rattle.lisa_engine.specs.Memory.{Memory}
-use Rattle.lisa_forms.specs.declared.coding.Coding.{Coding}
-use Rattle.lisa_forms.specs.Codings.{HasTree, IsCodingOf, IsDecodedAs}
-use Rattle.lisa_forms.proofs.Decoded.{decoded}
+use Rattle.lisa_syntax.specs.lisa_forms.declared.coding.Coding.{Coding}
+use Rattle.lisa_syntax.specs.lisa_forms.Codings.{HasTree, IsCodingOf, IsDecodedAs}
+use Rattle.lisa_syntax.proofs.lisa_forms_proofs.Decoded.{decoded}
 use Rattle.lisa_disasm.specs.Listings.{value_line, instruction_line, IsInstructionLine, known as listed, unknown as unlisted, IsCellLine, holds_instructions, listing, IsListing}
 use Rattle.lisa_disasm.proofs.Finding.{decoded_or_not}
 

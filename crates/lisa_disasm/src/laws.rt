@@ -3,8 +3,8 @@
 ghost use Rattle.std.specs.Prelude.{◌≡◌, ℕ, List};
 ghost use Rattle.lisa_tree.specs.Descriptions.{DescriptionTree};
 ghost use Rattle.lisa_engine.specs.Memory.{Memory};
-ghost use Rattle.lisa_forms.specs.declared.coding.Coding.{Coding};
-ghost use Rattle.lisa_forms.specs.Codings.{IsCodingOf};
+ghost use Rattle.lisa_syntax.specs.lisa_forms.declared.coding.Coding.{Coding};
+ghost use Rattle.lisa_syntax.specs.lisa_forms.Codings.{IsCodingOf};
 ghost use Rattle.lisa_disasm.specs.Listings.{IsListing};
 
 /// An image has one listing.

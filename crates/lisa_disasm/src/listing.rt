@@ -6,16 +6,15 @@ ghost use Rattle.lisa_io.specs.Contents.{Puts};
 ghost use Rattle.lisa_tree.specs.Descriptions.{DescriptionTree};
 ghost use Rattle.lisa_engine.specs.Traces.{PutsUnless};
 ghost use Rattle.lisa_object.specs.Texts.{text_of};
-ghost use Rattle.lisa_forms.specs.Parts.{AreFormsOf};
-ghost use Rattle.lisa_forms.specs.Codings.{IsCodingOf};
+ghost use Rattle.lisa_syntax.specs.lisa_forms.Parts.{AreFormsOf};
+ghost use Rattle.lisa_syntax.specs.lisa_forms.Codings.{IsCodingOf};
 ghost use Rattle.lisa_syntax.specs.Parts.{IsSyntaxOf};
 ghost use Rattle.lisa_disasm.specs.Listings.{IsCellLine, holds_instructions, memory_lines, listing, IsListing};
 
 use crate::lines::cell_line;
 use lisa_engine::{Image, ImageMemory, TraceEnd};
-use lisa_forms::{Coding, Forms};
 use lisa_io::{Failed, Sink, put_all};
-use lisa_syntax::Syntax;
+use lisa_syntax::{Coding, Forms, Syntax};
 use std::alloc::Global;
 
 // The line of a memory.

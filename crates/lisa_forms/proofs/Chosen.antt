@@ -4,15 +4,15 @@ use Rattle.std.specs.Prelude.{slice_get, option_map, is_some}
 use Rattle.std.proofs.lemmas.Bool.{eq-eqb, eqb-true}
 use Rattle.std.proofs.lemmas.Option.{same_Some}
 use Rattle.lisa_tree.specs.Descriptions.{DescriptionTree}
-use Rattle.instruction_forms.specs.declared.form.Form.{Form}
-use Rattle.instruction_forms.specs.declared.form.Form.TheViews.{out-Form}
-use Rattle.instruction_forms.specs.declared.form.Form.TheFolds.{fold_out-Form}
-use Rattle.instruction_forms.specs.Trees.{FormTree, in_turn, layer_tree, form_tree}
-use Rattle.activation_trees.specs.declared.parts.Occurrence.{Occurrence}
-use Rattle.activation_trees.specs.Unfolding.{occurrences}
-use Rattle.activation_trees.specs.Activators.{HasActivator, IsChild}
-use Rattle.activation_trees.specs.Places.{IsBelow, name_by}
-use Rattle.activation_trees.proofs.Lying.{has_activator}
+use Rattle.form_patterns.specs.instruction_forms.declared.form.Form.{Form}
+use Rattle.form_patterns.specs.instruction_forms.declared.form.Form.TheViews.{out-Form}
+use Rattle.form_patterns.specs.instruction_forms.declared.form.Form.TheFolds.{fold_out-Form}
+use Rattle.form_patterns.specs.instruction_forms.Trees.{FormTree, in_turn, layer_tree, form_tree}
+use Rattle.description_sizes.specs.activation_trees.declared.parts.Occurrence.{Occurrence}
+use Rattle.description_sizes.specs.activation_trees.Unfolding.{occurrences}
+use Rattle.description_sizes.specs.activation_trees.Activators.{HasActivator, IsChild}
+use Rattle.description_sizes.specs.activation_trees.Places.{IsBelow, name_by}
+use Rattle.description_sizes.proofs.activation_trees_proofs.Lying.{has_activator}
 use Rattle.lisa_forms.specs.declared.way.Way.{Way}
 use Rattle.lisa_forms.specs.declared.way.Way.TheVariants as ways
 use Rattle.lisa_forms.specs.Choosing.{child_place, tree_at, child_at, operation_of, Stands, whole, child, other, further, Chooses}

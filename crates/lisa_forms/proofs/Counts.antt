@@ -2,15 +2,15 @@
 use Rattle.std.proofs.Common.{◌≡◌, ◌≤◌, ◌<◌, ℕ, ◌-◌, ◌^◌, None, Some, Option, Result, Ok, MatchResult, min, option_map, subst, sym, ap, ◌∙◌, arith}
 use Rattle.lisa_tree.specs.declared.faults.DescFault.{DescFault}
 use Rattle.lisa_tree.specs.Descriptions.{DescriptionTree}
-use Rattle.coding_checks.specs.Widths.{capped}
-use Rattle.coding_tables.specs.Instructions.{form_count}
+use Rattle.form_patterns.specs.coding_checks.Widths.{capped}
+use Rattle.form_patterns.specs.coding_tables.Instructions.{form_count}
 use Rattle.description_sizes.specs.declared.unfolding.Unfolded.{Unfolded}
 use Rattle.description_sizes.specs.Limits.{fault}
 use Rattle.description_sizes.specs.Outcomes.{IsUnfolded}
 use Rattle.description_sizes.specs.Sizes.{first_too_many, size_fault}
 use Rattle.description_sizes.specs.Laws.{AreWithinLimits}
 use Rattle.description_sizes.proofs.Limited.{within_limits, forms_alike}
-use Rattle.instruction_forms.specs.Widths.{HasWidth}
+use Rattle.form_patterns.specs.instruction_forms.Widths.{HasWidth}
 use Rattle.lisa_forms.specs.Verdicts.{IsSizeVerdict}
 
 min_small : (n m k : ℕ) → min n m ≤ k → k < m → n ≤ k

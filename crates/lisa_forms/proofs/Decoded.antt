@@ -3,11 +3,11 @@ use Rattle.std.proofs.Common.{◌<◌, ◌^◌, ℕ, Bool, List, Option, None, S
 use Rattle.std.specs.Prelude.{unwrap_or}
 use Rattle.lisa_tree.specs.Descriptions.{DescriptionTree}
 use Rattle.lisa_tree.specs.Operations.{is_alias}
-use Rattle.lisa_machine.specs.Verdicts.{IsAccepted}
+use Rattle.form_promises.specs.lisa_machine.Verdicts.{IsAccepted}
 use Rattle.instruction_trees.specs.Trees.{tree_at}
 use Rattle.instruction_trees.proofs.FormWords.{read_values}
-use Rattle.coding_tables.specs.Codings.{coding_table}
-use Rattle.coding_tables.specs.Instructions.{instruction_items, forms_of}
+use Rattle.form_patterns.specs.coding_tables.Codings.{coding_table}
+use Rattle.form_patterns.specs.coding_tables.Instructions.{instruction_items, forms_of}
 use Rattle.pattern_tables.specs.declared.bit_pattern.BitPattern.{BitPattern}
 use Rattle.pattern_tables.specs.Patterns.{AllStand}
 use Rattle.pattern_tables.specs.Overlaps.{AnswersOverlap}

@@ -2,14 +2,14 @@
 use Rattle.std.proofs.Common.{◌≡◌, ◌<◌, ◌+◌, ℕ, List, None, Some, true, map, sym, ap, ◌∙◌, subst}
 use Rattle.lisa_tree.specs.Descriptions.{DescriptionTree}
 use Rattle.lisa_tree.specs.Operations.{is_alias}
-use Rattle.lisa_machine.specs.Verdicts.{IsAccepted}
+use Rattle.form_promises.specs.lisa_machine.Verdicts.{IsAccepted}
 use Rattle.instruction_trees.specs.Trees as plain
 use Rattle.instruction_trees.specs.Trees.{Tree, bits, form, is_plain, slice}
 use Rattle.instruction_trees.specs.Values.{values, sum_of, weigh}
 use Rattle.instruction_trees.specs.Words.{word_of}
 use Rattle.instruction_trees.proofs.FormWords.{only_tree, pattern_has, read_values}
-use Rattle.coding_tables.specs.Codings.{coding_table}
-use Rattle.coding_tables.specs.Instructions.{instruction_items, forms_of, form_count}
+use Rattle.form_patterns.specs.coding_tables.Codings.{coding_table}
+use Rattle.form_patterns.specs.coding_tables.Instructions.{instruction_items, forms_of, form_count}
 use Rattle.pattern_tables.specs.Overlaps.{AnswersOverlap}
 use Rattle.pattern_tables.specs.Instructions.{form_at}
 use Rattle.pattern_tables.proofs.Treed.{one_plain_tree}

@@ -16,10 +16,10 @@ use Rattle.instruction_trees.proofs.FormWords.{word_below}
 use Rattle.instruction_trees.proofs.Placing.{places_inside}
 use Rattle.instruction_trees.proofs.Relabelled.{bits_relabel}
 use Rattle.instruction_trees.proofs.Weighed.{word_of_values}
-use Rattle.coding_tables.specs.Codings.{coding_table}
-use Rattle.coding_tables.specs.Instructions.{instruction_items, forms_of, form_count}
-use Rattle.instruction_forms.specs.Widths.{HasWidth}
-use Rattle.instruction_forms.proofs.Wide.{small_width}
+use Rattle.form_patterns.specs.coding_tables.Codings.{coding_table}
+use Rattle.form_patterns.specs.coding_tables.Instructions.{instruction_items, forms_of, form_count}
+use Rattle.form_patterns.specs.instruction_forms.Widths.{HasWidth}
+use Rattle.form_patterns.proofs.instruction_forms_proofs.Wide.{small_width}
 use Rattle.pattern_tables.specs.declared.bit_pattern.BitPattern.{BitPattern}
 use Rattle.pattern_tables.specs.declared.fields.Place.{Place}
 use Rattle.pattern_tables.specs.Patterns.{frame_at}

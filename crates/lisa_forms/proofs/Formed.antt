@@ -6,13 +6,13 @@ use Rattle.instruction_trees.specs.Trees.{Tree, Done, Fits, IsBelow, In, form}
 use Rattle.instruction_trees.specs.Values.{values}
 use Rattle.instruction_trees.specs.Forms.{Distinct, none, more}
 use Rattle.instruction_trees.proofs.Relabelled.{fits_relabel}
-use Rattle.coding_tables.specs.Codings.{coding_table}
-use Rattle.coding_tables.specs.Instructions.{instruction_items}
-use Rattle.coding_tables.proofs.Heights.{are_listed}
+use Rattle.form_patterns.specs.coding_tables.Codings.{coding_table}
+use Rattle.form_patterns.specs.coding_tables.Instructions.{instruction_items}
+use Rattle.form_patterns.proofs.coding_tables_proofs.Heights.{are_listed}
 use Rattle.pattern_tables.proofs.Decoding.{in_place, place_in}
 use Rattle.form_patterns.specs.Filled.{IsInstruction}
 use Rattle.form_patterns.proofs.Filling.{its_values}
-use Rattle.lisa_machine.specs.Soundness.{IsSound}
+use Rattle.form_promises.specs.lisa_machine.Soundness.{IsSound}
 use Rattle.form_promises.proofs.Listed.{forms_distinct}
 
 -- what is listed once stands at one place

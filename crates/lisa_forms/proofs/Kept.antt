@@ -12,14 +12,14 @@ use Rattle.lisa_tree.specs.Descriptions.{DescriptionTree}
 use Rattle.lisa_tree.specs.Same.{same_name}
 use Rattle.stage_checks.specs.Graphs.{names_in}
 use Rattle.stage_checks.proofs.Rows.{regroup}
-use Rattle.instruction_forms.specs.Described.{items_at}
-use Rattle.lisa_machine.proofs.Entries.{get_left, get_right}
-use Rattle.activation_trees.specs.declared.parts.Occurrence.{Occurrence}
-use Rattle.activation_trees.specs.Activators.{HasActivator, IsChild}
-use Rattle.activation_trees.specs.Starting.{activating_names}
-use Rattle.activation_trees.specs.Unfolding.{occurrences}
-use Rattle.activation_trees.specs.Places.{AreParentsBefore, ArePlaces, name_by, place}
-use Rattle.activation_trees.proofs.Lying.{has_activator}
+use Rattle.form_patterns.specs.instruction_forms.Described.{items_at}
+use Rattle.form_promises.proofs.lisa_machine_proofs.Entries.{get_left, get_right}
+use Rattle.description_sizes.specs.activation_trees.declared.parts.Occurrence.{Occurrence}
+use Rattle.description_sizes.specs.activation_trees.Activators.{HasActivator, IsChild}
+use Rattle.description_sizes.specs.activation_trees.Starting.{activating_names}
+use Rattle.description_sizes.specs.activation_trees.Unfolding.{occurrences}
+use Rattle.description_sizes.specs.activation_trees.Places.{AreParentsBefore, ArePlaces, name_by, place}
+use Rattle.description_sizes.proofs.activation_trees_proofs.Lying.{has_activator}
 use Rattle.lisa_forms.specs.declared.way.Way.{Way}
 use Rattle.lisa_forms.specs.declared.way.Way.TheVariants as ways
 use Rattle.lisa_forms.specs.Choosing.{child_place, child_name, child_names}

@@ -5,7 +5,7 @@ use Rattle.std.proofs.lemmas.Bool.{cases_order}
 use Rattle.std.proofs.lemmas.List.{get_or-map}
 use Rattle.lisa_tree.specs.Descriptions.{DescriptionTree}
 use Rattle.lisa_tree.specs.Operations.{is_alias}
-use Rattle.lisa_machine.specs.Verdicts.{IsAccepted}
+use Rattle.form_promises.specs.lisa_machine.Verdicts.{IsAccepted}
 use Rattle.instruction_trees.specs.Bits.{Frame, Has}
 use Rattle.instruction_trees.specs.Trees as plain
 use Rattle.instruction_trees.specs.Trees.{Tree, Done, Fits, IsBelow, form, is_plain, tree_at, bits, form_bits}
@@ -13,8 +13,8 @@ use Rattle.instruction_trees.specs.Words.{word_of}
 use Rattle.instruction_trees.proofs.Trees.{form_has}
 use Rattle.instruction_trees.proofs.Relabelled.{bits_relabel, plain_relabel}
 use Rattle.instruction_trees.proofs.FormWords.{pattern_has}
-use Rattle.coding_tables.specs.Codings.{coding_table}
-use Rattle.coding_tables.specs.Instructions.{instruction_items, forms_of, form_count}
+use Rattle.form_patterns.specs.coding_tables.Codings.{coding_table}
+use Rattle.form_patterns.specs.coding_tables.Instructions.{instruction_items, forms_of, form_count}
 use Rattle.pattern_tables.specs.Overlaps.{AnswersOverlap, AnswersUncovered}
 use Rattle.pattern_tables.specs.Tables.{IsDecoded}
 use Rattle.pattern_tables.specs.Instructions.{form_at}

@@ -1,14 +1,14 @@
 -- Instruction trees of an accepted description are of forms that are listed.
 use Rattle.lisa_tree.specs.Descriptions.{DescriptionTree}
 use Rattle.lisa_tree.specs.Operations.{is_alias}
-use Rattle.lisa_machine.specs.Verdicts.{IsAccepted}
-use Rattle.lisa_machine.proofs.Sound.{sound}
+use Rattle.form_promises.specs.lisa_machine.Verdicts.{IsAccepted}
+use Rattle.form_promises.proofs.lisa_machine_proofs.Sound.{sound}
 use Rattle.std.proofs.Common.{ℕ}
 use Rattle.instruction_trees.specs.Trees.{Tree, Fits, IsBelow, form}
 use Rattle.instruction_trees.proofs.Relabelled.{fits_relabel}
-use Rattle.coding_tables.specs.Codings.{coding_table}
-use Rattle.coding_tables.specs.Instructions.{instruction_items, forms_of}
-use Rattle.coding_tables.proofs.Heights.{are_listed}
+use Rattle.form_patterns.specs.coding_tables.Codings.{coding_table}
+use Rattle.form_patterns.specs.coding_tables.Instructions.{instruction_items, forms_of}
+use Rattle.form_patterns.proofs.coding_tables_proofs.Heights.{are_listed}
 use Rattle.pattern_tables.specs.Instructions.{IsListed, IsPlainTree}
 use Rattle.lisa_forms.specs.Codings.{HasTree}
 

@@ -8,8 +8,8 @@ use Rattle.instruction_trees.specs.Bits.{Frame, Has, mask, pattern}
 use Rattle.instruction_trees.specs.Trees.{Tree, Done, Form, form, form_bits, is_plain, tree_at}
 use Rattle.instruction_trees.proofs.Relabelled.{bits_relabel, plain_relabel}
 use Rattle.instruction_trees.proofs.Trees.{form_has}
-use Rattle.coding_tables.specs.Codings.{coding_table}
-use Rattle.coding_tables.specs.Instructions.{instruction_items, forms_of, form_count}
+use Rattle.form_patterns.specs.coding_tables.Codings.{coding_table}
+use Rattle.form_patterns.specs.coding_tables.Instructions.{instruction_items, forms_of, form_count}
 use Rattle.pattern_tables.specs.declared.bit_pattern.BitPattern.{BitPattern}
 use Rattle.pattern_tables.specs.Instructions.{form_at}
 use Rattle.pattern_tables.specs.Overlaps.{IsOverlap}

@@ -6,15 +6,15 @@ use Rattle.lisa_tree.specs.Descriptions.{DescriptionTree}
 use Rattle.lisa_tree.specs.Operations.{is_alias, name_at}
 use Rattle.instruction_trees.specs.Trees as plain
 use Rattle.instruction_trees.specs.Trees.{Done}
-use Rattle.coding_tables.specs.Instructions.{forms_of}
+use Rattle.form_patterns.specs.coding_tables.Instructions.{forms_of}
 use Rattle.pattern_tables.specs.Instructions.{form_at}
-use Rattle.instruction_forms.specs.declared.form.Form.{Form}
-use Rattle.instruction_forms.specs.Trees.{FormTree, form_tree}
-use Rattle.instruction_forms.specs.Described.{instruction_form, AreForms}
-use Rattle.instruction_forms.specs.Naming.{form_text}
-use Rattle.instruction_texts.specs.Symbols.{is_instruction_text}
+use Rattle.form_patterns.specs.instruction_forms.declared.form.Form.{Form}
+use Rattle.form_patterns.specs.instruction_forms.Trees.{FormTree, form_tree}
+use Rattle.form_patterns.specs.instruction_forms.Described.{instruction_form, AreForms}
+use Rattle.form_patterns.specs.instruction_forms.Naming.{form_text}
+use Rattle.form_promises.specs.instruction_texts.Symbols.{is_instruction_text}
 use Rattle.form_patterns.specs.Instructions.{instruction_plain}
-use Rattle.form_texts.specs.Instructions.{instruction_symbols, first_bad_from, first_bad_text}
+use Rattle.form_promises.specs.form_texts.Instructions.{instruction_symbols, first_bad_from, first_bad_text}
 use Rattle.lisa_forms.specs.Verdicts.{form_name_at}
 
 pub as_many : (d : DescriptionTree) (all : List Form) → AreForms d all → length all ≡ length (forms_of d)

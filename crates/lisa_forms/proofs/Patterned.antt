@@ -9,11 +9,11 @@ use Rattle.lisa_tree.specs.Operations.{is_alias}
 use Rattle.instruction_trees.specs.Bits.{Frame, pattern}
 use Rattle.instruction_trees.specs.Trees as plain
 use Rattle.instruction_trees.specs.Trees.{form_bits, is_plain}
-use Rattle.coding_tables.specs.Codings.{coding_table}
-use Rattle.coding_tables.specs.Instructions.{instruction_items, forms_of, form_count}
-use Rattle.instruction_forms.specs.declared.form.Form.{Form}
-use Rattle.instruction_forms.specs.Trees.{form_tree}
-use Rattle.instruction_forms.specs.Described.{instruction_form, AreForms}
+use Rattle.form_patterns.specs.coding_tables.Codings.{coding_table}
+use Rattle.form_patterns.specs.coding_tables.Instructions.{instruction_items, forms_of, form_count}
+use Rattle.form_patterns.specs.instruction_forms.declared.form.Form.{Form}
+use Rattle.form_patterns.specs.instruction_forms.Trees.{form_tree}
+use Rattle.form_patterns.specs.instruction_forms.Described.{instruction_form, AreForms}
 use Rattle.pattern_tables.specs.Patterns.{frame_at, AllStand}
 use Rattle.pattern_tables.specs.Overlaps.{AnswersOverlap, AnswersUncovered}
 use Rattle.pattern_tables.specs.Clashes.{IsFirstClash}

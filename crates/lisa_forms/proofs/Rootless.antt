@@ -3,9 +3,9 @@ use Rattle.std.proofs.Common.{◌≡◌, ℕ, false, Option, None, Some, refl, i
 use Rattle.std.proofs.lemmas.Bool.{cases_Bool}
 use Rattle.lisa_tree.specs.Descriptions.{DescriptionTree}
 use Rattle.lisa_tree.specs.Operations.{is_root}
-use Rattle.lisa_machine.specs.Verdicts.{IsAccepted}
-use Rattle.instruction_forms.specs.Widths.{HasWidth}
-use Rattle.lisa_machine.proofs.Sound.{sound}
+use Rattle.form_promises.specs.lisa_machine.Verdicts.{IsAccepted}
+use Rattle.form_patterns.specs.instruction_forms.Widths.{HasWidth}
+use Rattle.form_promises.proofs.lisa_machine_proofs.Sound.{sound}
 use Rattle.form_promises.proofs.Rooted.{root_chosen, without_root}
 
 module _ (d : DescriptionTree) where

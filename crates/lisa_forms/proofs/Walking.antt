@@ -2,7 +2,7 @@
 use Rattle.std.proofs.Common.{◌≡◌, ◌⊎◌, Option, None, Some, Result, Ok, Err, IfOk, IfErr, refl, inl, inr, ⊎_elim}
 use Rattle.lisa_tree.specs.declared.faults.DescFault.{DescFault}
 use Rattle.lisa_tree.specs.declared.faults.DescFault.TheVariants as faults
-use Rattle.lisa_machine.specs.Verdicts.{before}
+use Rattle.form_promises.specs.lisa_machine.Verdicts.{before}
 
 -- the condition is broken
 pub here : (verdict rest : Option DescFault → Type 0) (f : DescFault) → verdict (Some f) → before verdict rest (Some f)

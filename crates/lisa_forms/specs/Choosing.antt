@@ -5,12 +5,12 @@ use Rattle.lisa_tree.specs.declared.descriptions.CodingItem.{CodingItem}
 use Rattle.lisa_tree.specs.declared.descriptions.CodingItem.TheVariants as items
 use Rattle.lisa_tree.specs.Descriptions.{DescriptionTree}
 use Rattle.lisa_tree.specs.Same.{same_name}
-use Rattle.coding_tables.specs.Instructions.{forms_of}
+use Rattle.form_patterns.specs.coding_tables.Instructions.{forms_of}
 use Rattle.pattern_tables.specs.Instructions.{form_at}
-use Rattle.instruction_forms.specs.Trees.{FormTree, FormTrees, Node, End, Then}
-use Rattle.instruction_forms.specs.Described.{items_at, instruction_form}
-use Rattle.activation_trees.specs.declared.parts.Occurrence.{Occurrence}
-use Rattle.activation_trees.specs.Places.{IsBelow, IsBelowBy}
+use Rattle.form_patterns.specs.instruction_forms.Trees.{FormTree, FormTrees, Node, End, Then}
+use Rattle.form_patterns.specs.instruction_forms.Described.{items_at, instruction_form}
+use Rattle.description_sizes.specs.activation_trees.declared.parts.Occurrence.{Occurrence}
+use Rattle.description_sizes.specs.activation_trees.Places.{IsBelow, IsBelowBy}
 
 -- ---- the children of a form
 

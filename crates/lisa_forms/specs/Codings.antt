@@ -3,13 +3,13 @@ use Rattle.std.specs.Prelude.{◌≡◌, ◌<◌, ℕ, Option, None, true, lengt
 use Rattle.lisa_tree.specs.declared.faults.DescFault.TheVariants as faults
 use Rattle.lisa_tree.specs.Descriptions.{DescriptionTree}
 use Rattle.lisa_tree.specs.Operations.{is_alias}
-use Rattle.lisa_machine.specs.Verdicts.{IsAccepted}
+use Rattle.form_promises.specs.lisa_machine.Verdicts.{IsAccepted}
 use Rattle.instruction_trees.specs.Bits.{Has}
 use Rattle.instruction_trees.specs.Trees.{Tree, Fits, IsBelow, bits, form, is_plain, slice}
 use Rattle.instruction_trees.specs.Values.{values}
-use Rattle.coding_tables.specs.Codings.{coding_table}
-use Rattle.coding_tables.specs.Instructions.{instruction_items, forms_of, form_count}
-use Rattle.instruction_forms.specs.Widths.{HasWidth}
+use Rattle.form_patterns.specs.coding_tables.Codings.{coding_table}
+use Rattle.form_patterns.specs.coding_tables.Instructions.{instruction_items, forms_of, form_count}
+use Rattle.form_patterns.specs.instruction_forms.Widths.{HasWidth}
 use Rattle.pattern_tables.specs.Overlaps.{AnswersOverlap}
 use Rattle.pattern_tables.specs.Tables.{HoldPlain}
 use Rattle.pattern_tables.specs.Instructions.{form_at}

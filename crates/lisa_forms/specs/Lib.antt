@@ -6,3 +6,17 @@ pub mod Standings
 pub mod Rows
 pub mod Coverage
 pub mod Codings
+pub mod activation_trees
+pub mod coding_checks
+pub mod coding_tables
+pub mod description_sizes
+pub mod form_patterns
+pub mod form_texts
+pub mod instruction_forms
+pub mod kind_checks
+pub mod lisa_machine
+pub mod machine_parts
+pub mod pattern_tables
+pub mod spelled_promises
+pub mod stage_checks
+pub mod typed_values

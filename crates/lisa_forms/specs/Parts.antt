@@ -1,13 +1,13 @@
 -- What is kept of a description's forms and occurrences.
 use Rattle.std.specs.Prelude.{◌≡◌, ℕ, Option}
 use Rattle.lisa_tree.specs.Descriptions.{DescriptionTree}
-use Rattle.coding_tables.specs.Instructions.{form_count}
-use Rattle.activation_trees.specs.Unfolding.{occurrences}
+use Rattle.form_patterns.specs.coding_tables.Instructions.{form_count}
+use Rattle.description_sizes.specs.activation_trees.Unfolding.{occurrences}
 use Rattle.description_sizes.specs.Sizes.{items}
 use Rattle.description_sizes.specs.Laws.{AreWithinLimits}
-use Rattle.lisa_machine.specs.Verdicts.{IsAccepted}
-use Rattle.instruction_forms.specs.Described.{AreForms}
-use Rattle.instruction_forms.specs.Widths.{HasWidth}
+use Rattle.form_promises.specs.lisa_machine.Verdicts.{IsAccepted}
+use Rattle.form_patterns.specs.instruction_forms.Described.{AreForms}
+use Rattle.form_patterns.specs.instruction_forms.Widths.{HasWidth}
 use Rattle.form_patterns.specs.Instructions.{instruction_plain}
 use Rattle.lisa_forms.specs.declared.forms.Forms.{Forms}
 use Rattle.lisa_forms.specs.Ways.{AreWays}

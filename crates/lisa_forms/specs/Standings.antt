@@ -1,6 +1,6 @@
 -- How an occurrence stands to a form: chosen at a part or at none, or not chosen.
 use Rattle.std.specs.Prelude.{ℕ, Option, None, Some, cond, nat_eq}
-use Rattle.instruction_forms.specs.Trees.{FormTree, form_tree}
+use Rattle.form_patterns.specs.instruction_forms.Trees.{FormTree, form_tree}
 use Rattle.lisa_forms.specs.declared.way.Way.{Way}
 use Rattle.lisa_forms.specs.declared.way.Way.TheVariants as ways
 use Rattle.lisa_forms.specs.declared.standing.Standing.{Standing}

@@ -4,17 +4,17 @@ use Rattle.lisa_tree.specs.declared.faults.DescFault.{DescFault}
 use Rattle.lisa_tree.specs.declared.faults.DescFault.TheVariants as faults
 use Rattle.lisa_tree.specs.Descriptions.{DescriptionTree}
 use Rattle.lisa_tree.specs.Operations.{name_at}
-use Rattle.coding_checks.specs.Uneven.{IsFirstGroupWidth}
-use Rattle.coding_checks.specs.Written.{not_written}
-use Rattle.coding_tables.specs.Instructions.{forms_of, form_count}
-use Rattle.activation_trees.specs.Twice.{first_root_twice}
+use Rattle.form_patterns.specs.coding_checks.Uneven.{IsFirstGroupWidth}
+use Rattle.form_patterns.specs.coding_checks.Written.{not_written}
+use Rattle.form_patterns.specs.coding_tables.Instructions.{forms_of, form_count}
+use Rattle.description_sizes.specs.activation_trees.Twice.{first_root_twice}
 use Rattle.description_sizes.specs.Sizes.{size_fault}
 use Rattle.pattern_tables.specs.Instructions.{form_at}
-use Rattle.instruction_forms.specs.Described.{instruction_form}
-use Rattle.instruction_forms.specs.Naming.{form_text}
-use Rattle.instruction_forms.specs.Widths.{HasWidth}
-use Rattle.form_texts.specs.Instructions.{first_bad_text}
-use Rattle.lisa_machine.specs.Verdicts.{Verdict, before, at_places, nothing}
+use Rattle.form_patterns.specs.instruction_forms.Described.{instruction_form}
+use Rattle.form_patterns.specs.instruction_forms.Naming.{form_text}
+use Rattle.form_patterns.specs.instruction_forms.Widths.{HasWidth}
+use Rattle.form_promises.specs.form_texts.Instructions.{first_bad_text}
+use Rattle.form_promises.specs.lisa_machine.Verdicts.{Verdict, before, at_places, nothing}
 
 -- how the form of a number is written
 abbrev pub form_name_at : DescriptionTree → ℕ → List ℕ

@@ -4,10 +4,10 @@ use Rattle.std.specs.Option.{option_map_or}
 use Rattle.std.specs.Borrow.{Bor}
 use Rattle.lisa_tree.specs.Descriptions.{DescriptionTree}
 use Rattle.lisa_tree.specs.Same.{same_name}
-use Rattle.activation_trees.specs.declared.parts.Occurrence.{Occurrence}
-use Rattle.activation_trees.specs.Starting.{activating_names}
-use Rattle.activation_trees.specs.Unfolding.{occurrences}
-use Rattle.activation_trees.specs.Places.{name_by}
+use Rattle.description_sizes.specs.activation_trees.declared.parts.Occurrence.{Occurrence}
+use Rattle.description_sizes.specs.activation_trees.Starting.{activating_names}
+use Rattle.description_sizes.specs.activation_trees.Unfolding.{occurrences}
+use Rattle.description_sizes.specs.activation_trees.Places.{name_by}
 use Rattle.lisa_forms.specs.declared.way.Way.{Way}
 use Rattle.lisa_forms.specs.declared.way.Way.TheVariants as ways
 use Rattle.lisa_forms.specs.Choosing.{child_place}

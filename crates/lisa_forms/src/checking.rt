@@ -1,33 +1,30 @@
 //! The conditions on codings, sizes and texts, in the order of their numbers.
 
 ghost use Rattle.std.specs.Prelude.{◌≡◌, ◌⊎◌, ◌<◌, ℕ, None, Some, length, min, option_map, IfOk, IfErr, MatchResult};
-ghost use Rattle.least_fixed_points.specs.Settles.{entry};
+ghost use Rattle.form_promises.specs.least_fixed_points.Settles.{entry};
 ghost use Rattle.lisa_tree.specs.declared.faults.DescFault.TheVariants as faults;
 ghost use Rattle.lisa_tree.specs.Operations.{name_at};
-ghost use Rattle.coding_checks.specs.Uneven.{IsFirstGroupWidth};
-ghost use Rattle.coding_checks.specs.Widths.{AreWidths, capped};
-ghost use Rattle.coding_tables.specs.Instructions.{form_count};
-ghost use Rattle.activation_trees.specs.Twice.{first_root_twice};
+ghost use Rattle.form_patterns.specs.coding_checks.Uneven.{IsFirstGroupWidth};
+ghost use Rattle.form_patterns.specs.coding_checks.Widths.{AreWidths, capped};
+ghost use Rattle.form_patterns.specs.coding_tables.Instructions.{form_count};
+ghost use Rattle.description_sizes.specs.activation_trees.Twice.{first_root_twice};
 ghost use Rattle.description_sizes.specs.Outcomes.{IsUnfolded};
-ghost use Rattle.description_graph.specs.Circles.{IsFirstCircularOperation};
-ghost use Rattle.instruction_forms.specs.Described.{AreForms};
-ghost use Rattle.instruction_forms.specs.Widths.{HasInstructionWidth, HasWidth};
-ghost use Rattle.form_texts.specs.Instructions.{first_bad_text};
-ghost use Rattle.lisa_machine.specs.Verdicts.{IsAccepted};
+ghost use Rattle.form_promises.specs.description_graph.Circles.{IsFirstCircularOperation};
+ghost use Rattle.form_patterns.specs.instruction_forms.Described.{AreForms};
+ghost use Rattle.form_patterns.specs.instruction_forms.Widths.{HasInstructionWidth, HasWidth};
+ghost use Rattle.form_promises.specs.form_texts.Instructions.{first_bad_text};
+ghost use Rattle.form_promises.specs.lisa_machine.Verdicts.{IsAccepted};
 ghost use Rattle.lisa_forms.specs.Parts.{AreFormsOf};
 ghost use Rattle.lisa_forms.specs.Verdicts.{HasForms, form_name_at, from_texts, from_sizes, from_roots, from_writings, from_group_widths};
 
 use crate::forms::Forms;
 use crate::ways::ways;
-use activation_trees::first_root_twice;
-use coding_checks::{Widths, first_group_width, first_not_written};
-use coding_tables::{count_forms, instruction_choice};
-use description_sizes::{Unfolded, unfold};
-use description_types::operation_name;
-use form_patterns::plain_forms;
-use form_promises::instructions_have_a_width;
-use form_texts::first_bad_text;
-use instruction_forms::{Form, form_name, forms};
+use description_sizes::{Unfolded, first_root_twice, unfold};
+use form_patterns::{
+    Form, Widths, count_forms, first_group_width, first_not_written, form_name, forms,
+    instruction_choice, operation_name, plain_forms,
+};
+use form_promises::{first_bad_text, instructions_have_a_width};
 use lisa_tree::{DescFault, Names};
 use lisa_words::NoMemory;
 use std::alloc::Global;

@@ -2,7 +2,7 @@
 
 ghost use Rattle.std.specs.Prelude.{◌≡◌, ◌↔◌, ◌<◌, true, Option, Some, length, option_map};
 ghost use Rattle.lisa_tree.specs.Descriptions.{DescriptionTree};
-ghost use Rattle.instruction_forms.specs.Trees.{FormTree, form_tree};
+ghost use Rattle.form_patterns.specs.instruction_forms.Trees.{FormTree, form_tree};
 ghost use Rattle.lisa_forms.specs.Choosing.{Stands, Chooses, numbered_form};
 ghost use Rattle.lisa_forms.specs.Standings.{told, matched, matched_child, beside, stood};
 ghost use Rattle.lisa_forms.specs.Parts.{AreFormsOf};
@@ -10,7 +10,7 @@ ghost use Rattle.lisa_forms.specs.Parts.{AreFormsOf};
 use crate::forms::Forms;
 use crate::standing::Standing;
 use crate::way::Way;
-use instruction_forms::Form;
+use form_patterns::Form;
 
 // A part of a form, where it has this operation.
 fn at(part: &Form, operation: u32) -> Standing<'_>

@@ -12,9 +12,8 @@ ghost use Rattle.lisa_forms.specs.Coverage.{overlap, IsOverlapVerdict, IsUncover
 
 use crate::coding::Coding;
 use crate::{Forms, form_name};
-use description_tables::Tables;
 use form_patterns::{all_places, patterns};
-use lisa_machine::Machine;
+use form_promises::{Machine, Tables};
 use lisa_tree::DescFault;
 use lisa_words::{Name, NoMemory};
 use pattern_tables::{BitPattern, Decoder, Overlap, first_overlap, first_uncovered};

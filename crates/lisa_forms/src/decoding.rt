@@ -3,11 +3,11 @@
 ghost use Rattle.std.specs.Prelude.{◌≡◌, ◌↔◌, ℕ, Option, None, true, MatchOption};
 ghost use Rattle.lisa_tree.specs.Descriptions.{DescriptionTree};
 ghost use Rattle.lisa_tree.specs.Operations.{is_alias};
-ghost use Rattle.lisa_machine.specs.Verdicts.{IsAccepted};
+ghost use Rattle.form_promises.specs.lisa_machine.Verdicts.{IsAccepted};
 ghost use Rattle.instruction_trees.specs.Trees.{Tree, Fits, IsBelow, form, is_plain};
 ghost use Rattle.instruction_trees.specs.Words.{word_of};
-ghost use Rattle.coding_tables.specs.Codings.{coding_table};
-ghost use Rattle.coding_tables.specs.Instructions.{instruction_items, forms_of};
+ghost use Rattle.form_patterns.specs.coding_tables.Codings.{coding_table};
+ghost use Rattle.form_patterns.specs.coding_tables.Instructions.{instruction_items, forms_of};
 ghost use Rattle.pattern_tables.specs.Instructions.{form_at};
 ghost use Rattle.pattern_tables.specs.Overlaps.{IsOverlap};
 ghost use Rattle.form_patterns.specs.Instructions.{instruction_frames, instruction_plain};

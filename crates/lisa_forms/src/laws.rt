@@ -2,15 +2,15 @@
 
 ghost use Rattle.std.specs.Prelude.{◌≡◌, ℕ, List, true, Some, slice_get};
 ghost use Rattle.lisa_tree.specs.Descriptions.{DescriptionTree};
-ghost use Rattle.lisa_machine.specs.Verdicts.{IsAccepted};
+ghost use Rattle.form_promises.specs.lisa_machine.Verdicts.{IsAccepted};
 ghost use Rattle.instruction_trees.specs.Trees.{Tree, Fits, IsBelow};
 ghost use Rattle.instruction_trees.specs.Values.{values};
-ghost use Rattle.coding_tables.specs.Codings.{coding_table};
-ghost use Rattle.coding_tables.specs.Instructions.{instruction_items};
+ghost use Rattle.form_patterns.specs.coding_tables.Codings.{coding_table};
+ghost use Rattle.form_patterns.specs.coding_tables.Instructions.{instruction_items};
 ghost use Rattle.form_patterns.specs.Filled.{IsInstruction};
-ghost use Rattle.instruction_forms.specs.Trees.{FormTree};
-ghost use Rattle.activation_trees.specs.declared.parts.Occurrence.{Occurrence};
-ghost use Rattle.activation_trees.specs.Unfolding.{occurrences};
+ghost use Rattle.form_patterns.specs.instruction_forms.Trees.{FormTree};
+ghost use Rattle.description_sizes.specs.activation_trees.declared.parts.Occurrence.{Occurrence};
+ghost use Rattle.description_sizes.specs.activation_trees.Unfolding.{occurrences};
 ghost use Rattle.lisa_forms.specs.Choosing.{Chooses};
 ghost use Rattle.lisa_forms.specs.declared.forms.Forms.{Forms};
 ghost use Rattle.lisa_forms.specs.Parts.{AreFormsOf, IsLimited};

@@ -17,11 +17,12 @@ mod ways;
 mod width;
 mod words;
 
-pub use activation_trees::Occurrence;
 pub use coding::Coding;
 pub use decoding::{overlaps_are_of_trees, words_are_decoded};
+pub use description_sizes::{Occurrence, Value, activating_names, places};
+pub use form_patterns::{Field, Form, all_places, instruction_choice, patterns};
+pub use form_promises::{FormTexts, Machine, Tables, check, texts};
 pub use forms::Forms;
-pub use instruction_forms::{Field, Form};
 pub use laws::{forms_are_limited, instructions_are_of_one_form, what_is_chosen_is_past_the_root};
 pub use making::form_name;
-pub use pattern_tables::{PatternTable, Steps};
+pub use pattern_tables::{PatternTable, Place, Steps, field};

@@ -8,8 +8,7 @@ ghost use Rattle.lisa_forms.specs.Verdicts.{HasForms, IsFirstFormFault, form_nam
 
 use crate::checking::from_group_widths;
 use crate::forms::Forms;
-use description_tables::Tables;
-use lisa_machine::Machine;
+use form_promises::{Machine, Tables};
 use lisa_tree::DescFault;
 use lisa_words::{Name, NoMemory};
 use std::alloc::Global;
@@ -45,5 +44,5 @@ pub fn form_name(
     ensures { IfOk result (λ name. name ≡ form_name_at (description_tree machine.now) form) }
 {
     let tables = Tables::make(alloc, machine.description())?;
-    instruction_forms::form_name(alloc, &tables, forms.form(form))
+    form_patterns::form_name(alloc, &tables, forms.form(form))
 }

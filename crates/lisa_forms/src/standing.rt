@@ -1,10 +1,10 @@
 //! How occurrences stand to forms.
 
 ghost use Rattle.std.specs.Prelude.{◌≡◌, is_some, option_map};
-ghost use Rattle.instruction_forms.specs.Trees.{form_tree};
+ghost use Rattle.form_patterns.specs.instruction_forms.Trees.{form_tree};
 ghost use Rattle.lisa_forms.specs.Standings.{told, part_in};
 
-use instruction_forms::Form;
+use form_patterns::Form;
 
 /// How an occurrence stands to a form.
 #[derive(Clone, Copy)]

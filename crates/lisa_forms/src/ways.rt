@@ -5,14 +5,14 @@ ghost use Rattle.std.specs.Prelude.{◌≡◌, ◌<◌, ◌++◌, ℕ, Some, IfO
 ghost use Rattle.std.specs.Option.{option_to_list};
 ghost use Rattle.stage_checks.specs.Graphs.{names_in};
 ghost use Rattle.lisa_tree.specs.Same.{same_name};
-ghost use Rattle.instruction_forms.specs.Described.{items_at};
-ghost use Rattle.activation_trees.specs.Unfolding.{occurrences};
+ghost use Rattle.form_patterns.specs.instruction_forms.Described.{items_at};
+ghost use Rattle.description_sizes.specs.activation_trees.Unfolding.{occurrences};
 ghost use Rattle.lisa_forms.specs.Choosing.{child_name, child_names};
 ghost use Rattle.lisa_forms.specs.Ways.{by_place, is_name, ways_past, ways_under, way_in, AreWays};
 
 use crate::way::Way;
-use activation_trees::{Occurrence, activating_names, activators_come_first, places};
-use description_types::sections;
+use description_sizes::{Occurrence, activating_names, activators_come_first, places};
+use form_patterns::sections;
 use lisa_tree::{CodingItem, CodingPart, Names, coding};
 use lisa_words::Name;
 use std::alloc::{AllocError, Global};

@@ -3,7 +3,7 @@
 ghost use Rattle.std.specs.Prelude.{◌≡◌, ◌↔◌, ℕ, None, false};
 ghost use Rattle.lisa_tree.specs.Descriptions.{DescriptionTree};
 ghost use Rattle.lisa_tree.specs.Operations.{is_root};
-ghost use Rattle.lisa_machine.specs.Verdicts.{IsAccepted};
+ghost use Rattle.form_promises.specs.lisa_machine.Verdicts.{IsAccepted};
 ghost use Rattle.lisa_forms.specs.Parts.{AreFormsOf};
 
 use crate::forms::Forms;

@@ -2,20 +2,20 @@
 use Rattle.std.proofs.Common.{◌≡◌, ◌≤◌, ◌<◌, ℕ, Option, refl, sym, subst}
 use Rattle.lisa_tree.specs.Descriptions.{DescriptionTree}
 use Rattle.description_types.specs.Types.{Types}
-use Rattle.instruction_forms.specs.Widths.{HasWidth}
-use Rattle.lisa_machine.specs.Verdicts.{IsAccepted}
-use Rattle.lisa_machine.specs.Machines.{IsSpelled}
-use Rattle.lisa_forms.specs.Verdicts.{HasForms}
-use Rattle.meaning_promises.specs.Fitting.{HaveNumbers, HaveWordPlaces}
-use Rattle.description_weight.specs.Weights.{weight}
+use Rattle.module_sizes.specs.instruction_forms.Widths.{HasWidth}
+use Rattle.module_sizes.specs.lisa_machine.Verdicts.{IsAccepted}
+use Rattle.module_sizes.specs.lisa_machine.Machines.{IsSpelled}
+use Rattle.module_sizes.specs.lisa_forms.Verdicts.{HasForms}
+use Rattle.spelled_meanings.specs.meaning_promises.Fitting.{HaveNumbers, HaveWordPlaces}
+use Rattle.module_sizes.specs.description_weight.Weights.{weight}
 use Rattle.step_program.specs.Programs.{Program}
-use Rattle.program_declarations.specs.Laws.{ShownIsDeclared}
-use Rattle.lowered_words.specs.Laws.{AreApart}
-use Rattle.lowered_behaviors.specs.Agreement.{HaveNumbersInBehaviors}
-use Rattle.lowered_edges.specs.Programs.{edge_program}
-use Rattle.lowered_edges.specs.Code.{IsEdgeProgram}
-use Rattle.lowered_edges.specs.Laws.{HaveNumbersInTests, ProgramsAreArranged, ProgramsShowStates, ProgramsAreFormed, IsProgram}
-use Rattle.lowered_edges.proofs.Worded.{words_are}
+use Rattle.module_sizes.specs.program_declarations.Laws.{ShownIsDeclared}
+use Rattle.spelled_meanings.specs.lowered_words.Laws.{AreApart}
+use Rattle.spelled_meanings.specs.lowered_behaviors.Agreement.{HaveNumbersInBehaviors}
+use Rattle.module_sizes.specs.lowered_edges.Programs.{edge_program}
+use Rattle.module_sizes.specs.lowered_edges.Code.{IsEdgeProgram}
+use Rattle.module_sizes.specs.lowered_edges.Laws.{HaveNumbersInTests, ProgramsAreArranged, ProgramsShowStates, ProgramsAreFormed, IsProgram}
+use Rattle.module_sizes.proofs.lowered_edges_proofs.Worded.{words_are}
 use Rattle.module_sizes.specs.Laws.{ModulesAreSmall}
 use Rattle.lisa_lower.specs.Heavy.{weight_limit}
 use Rattle.lisa_lower.specs.Lowered.{IsLowered}

@@ -2,8 +2,8 @@
 use Rattle.std.proofs.Common.{◌≡◌, ◌≤◌, ◌<◌, ◌-◌, ◌^◌, ◌∙◌, ℕ, List, arith, ap}
 use Rattle.std.specs.Prelude.{codes, min}
 use Rattle.lisa_tree.specs.Descriptions.{DescriptionTree}
-use Rattle.access_counts.specs.Ledgers.{capped}
-use Rattle.description_weight.specs.Weights.{weight}
+use Rattle.module_sizes.specs.access_counts.Ledgers.{capped}
+use Rattle.module_sizes.specs.description_weight.Weights.{weight}
 use Rattle.step_program.specs.declared.faults.LowerFault.TheVariants as faults
 use Rattle.lisa_lower.specs.Heavy.{weight_limit, IsTooHeavy}
 

@@ -1,7 +1,7 @@
 -- When a description is too heavy to be lowered.
 use Rattle.std.specs.Prelude.{codes, ℕ, ◌≡◌, ◌<◌, ◌^◌, ◌-◌, min}
 use Rattle.lisa_tree.specs.Descriptions.{DescriptionTree}
-use Rattle.description_weight.specs.Weights.{weight}
+use Rattle.module_sizes.specs.description_weight.Weights.{weight}
 use Rattle.step_program.specs.declared.faults.LowerFault.{LowerFault}
 use Rattle.step_program.specs.declared.faults.LowerFault.TheVariants as faults
 

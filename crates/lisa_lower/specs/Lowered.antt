@@ -4,11 +4,11 @@ use Rattle.lisa_tree.specs.Descriptions.{DescriptionTree}
 use Rattle.lisa_engine.specs.Images.{IsImage, missing_memory}
 use Rattle.lisa_engine.specs.Memory.{Memory}
 use Rattle.lisa_engine.specs.Shape.{AreEntries}
-use Rattle.machine_parts.specs.Parts.{arrays_of, pins_of}
-use Rattle.instruction_forms.specs.Widths.{HasWidth}
-use Rattle.description_sizes.specs.Sizes.{items}
-use Rattle.lisa_meaning.specs.States.{state_of}
-use Rattle.description_weight.specs.Weights.{weight}
+use Rattle.module_sizes.specs.machine_parts.Parts.{arrays_of, pins_of}
+use Rattle.module_sizes.specs.instruction_forms.Widths.{HasWidth}
+use Rattle.module_sizes.specs.description_sizes.Sizes.{items}
+use Rattle.module_sizes.specs.lisa_meaning.States.{state_of}
+use Rattle.module_sizes.specs.description_weight.Weights.{weight}
 use Rattle.step_program.specs.Programs.{Program}
 use Rattle.step_program.specs.Effects.{p_state}
 use Rattle.step_program.specs.Depths.{move_depth}

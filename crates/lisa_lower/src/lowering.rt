@@ -2,24 +2,23 @@
 
 ghost use Rattle.std.specs.Prelude.{◌≡◌, ◌⊎◌, ◌<◌, ◌≤◌, IfOk, IfErr};
 ghost use Rattle.lisa_tree.specs.Descriptions.{description_tree};
-ghost use Rattle.lisa_forms.specs.Parts.{AreFormsOf};
-ghost use Rattle.lisa_forms.specs.Verdicts.{HasForms};
-ghost use Rattle.lisa_forms.specs.Codings.{IsCodingOf};
+ghost use Rattle.module_sizes.specs.lisa_forms.Parts.{AreFormsOf};
+ghost use Rattle.module_sizes.specs.lisa_forms.Verdicts.{HasForms};
+ghost use Rattle.module_sizes.specs.lisa_forms.Codings.{IsCodingOf};
 ghost use Rattle.step_program.specs.Programs.{program_tree};
-ghost use Rattle.description_weight.specs.Weights.{weight as weight_of};
-ghost use Rattle.access_counts.specs.Ledgers.{capped};
+ghost use Rattle.module_sizes.specs.description_weight.Weights.{weight as weight_of};
+ghost use Rattle.module_sizes.specs.access_counts.Ledgers.{capped};
 ghost use Rattle.step_program.specs.declared.faults.LowerFault.TheVariants as faults;
 ghost use Rattle.lisa_lower.specs.Heavy.{weight_limit, IsTooHeavy};
 ghost use Rattle.lisa_lower.specs.Lowered.{IsLowered};
 
-use description_weight::weigh;
 use lisa_forms::{Coding, Forms};
-use lisa_machine::Machine;
 use lisa_words::{Name, NoMemory};
-use lowered_edges::laws::{programs_are_formed, programs_make_edges, programs_show_states};
-use lowered_edges::lower_edges;
 use module_sizes::laws::modules_are_small;
-use program_declarations::shown_is_declared;
+use module_sizes::{
+    Machine, lower_edges, programs_are_formed, programs_make_edges, programs_show_states,
+    shown_is_declared, weigh,
+};
 use spelled_meanings::laws::{spelled_numbers_are_low, spelled_roots_have_places};
 use std::alloc::Global;
 use step_program::{LowerFault, StepProgram};

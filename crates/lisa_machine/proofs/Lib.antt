@@ -24,3 +24,6 @@ pub mod Resolved
 pub mod Assigned
 pub mod Agreeing
 pub mod Unrefused
+pub mod description_graph_proofs
+pub mod description_types_proofs
+pub mod machine_parts_proofs

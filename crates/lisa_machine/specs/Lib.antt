@@ -10,3 +10,17 @@ pub mod Distinctness
 pub mod Resolving
 pub mod Values
 pub mod Assigning
+pub mod coded_names
+pub mod description_graph
+pub mod description_places
+pub mod description_types
+pub mod graph_paths
+pub mod kind_checks
+pub mod least_fixed_points
+pub mod lisa_engine
+pub mod lisa_words
+pub mod machine_parts
+pub mod meant_declarations
+pub mod name_checks
+pub mod shape_checks
+pub mod stage_checks

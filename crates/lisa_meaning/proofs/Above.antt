@@ -12,15 +12,15 @@ use Rattle.lisa_tree.specs.Operations.{numbers_of, is_alias}
 use Rattle.lisa_tree.specs.Declarations.{Entry, Choice, choice, entries, choices, declared_at, owner_at, entry_name_at, alternatives_at, plain_at, listings, above_in, above}
 use Rattle.lisa_tree.specs.Paths.{Operation, Choosing, leads}
 use Rattle.graph_paths.specs.Paths.{is_in}
-use Rattle.description_graph.proofs.Hits.{found}
-use Rattle.stage_checks.specs.Running.{choice_of, choice_at}
-use Rattle.lisa_machine.specs.Ranks.{Ranks}
-use Rattle.lisa_machine.specs.Declaring.{Chooses}
-use Rattle.lisa_machine.proofs.Chosen.{plain_listed}
-use Rattle.lisa_machine.proofs.Entries.{entry_chooses}
-use Rattle.lisa_machine.proofs.Named.{what_is}
+use Rattle.use_promises.proofs.description_graph_proofs.Hits.{found}
+use Rattle.lisa_forms.specs.stage_checks.Running.{choice_of, choice_at}
+use Rattle.use_promises.specs.lisa_machine.Ranks.{Ranks}
+use Rattle.use_promises.specs.lisa_machine.Declaring.{Chooses}
+use Rattle.use_promises.proofs.lisa_machine_proofs.Chosen.{plain_listed}
+use Rattle.use_promises.proofs.lisa_machine_proofs.Entries.{entry_chooses}
+use Rattle.use_promises.proofs.lisa_machine_proofs.Named.{what_is}
 use Rattle.use_promises.specs.Meant.{ChoosesFrom}
-use Rattle.activation_trees.specs.Starting.{plain_of, plain_named}
+use Rattle.lisa_forms.specs.activation_trees.Starting.{plain_of, plain_named}
 
 -- ---- elements of lists
 

@@ -5,27 +5,27 @@ use Rattle.std.specs.Option.{option_or}
 use Rattle.std.proofs.lemmas.Bool.{cond_both}
 use Rattle.std.proofs.lemmas.Option.{same_Some}
 use Rattle.lisa_tree.specs.Descriptions.{DescriptionTree}
-use Rattle.description_places.specs.declared.sites.Region.TheVariants as regions
-use Rattle.description_places.specs.Scopes.{Scope}
-use Rattle.description_places.specs.Places.{at}
+use Rattle.use_promises.specs.description_places.declared.sites.Region.TheVariants as regions
+use Rattle.use_promises.specs.description_places.Scopes.{Scope}
+use Rattle.use_promises.specs.description_places.Places.{at}
 use Rattle.lisa_tree.specs.Resources.{stage_at}
 use Rattle.lisa_tree.specs.Operations.{number_of, own_stage, sections_at, behavior_in}
 use Rattle.graph_paths.specs.Paths.{is_in}
-use Rattle.stage_checks.specs.Controls.{main_name}
-use Rattle.lisa_machine.specs.Running.{FitsControl}
-use Rattle.lisa_machine.specs.Soundness.{IsSound}
-use Rattle.lisa_machine.proofs.Forward.{stall_fits, flush_fits}
-use Rattle.lisa_machine.proofs.Standing.{behavior_stand}
-use Rattle.description_sizes.specs.Texts.{levels}
-use Rattle.meant_declarations.specs.Meant as meant
+use Rattle.lisa_forms.specs.stage_checks.Controls.{main_name}
+use Rattle.use_promises.specs.lisa_machine.Running.{FitsControl}
+use Rattle.use_promises.specs.lisa_machine.Soundness.{IsSound}
+use Rattle.use_promises.proofs.lisa_machine_proofs.Forward.{stall_fits, flush_fits}
+use Rattle.use_promises.proofs.lisa_machine_proofs.Standing.{behavior_stand}
+use Rattle.lisa_forms.specs.description_sizes.Texts.{levels}
+use Rattle.use_promises.specs.meant_declarations.Meant as meant
 use Rattle.use_promises.specs.Using.{RunsInPlace, IsCallable}
 use Rattle.use_promises.proofs.Used.{call_fits}
-use Rattle.activation_trees.specs.declared.parts.Occurrence.{Occurrence}
-use Rattle.activation_trees.specs.Starting.{plain_named}
-use Rattle.activation_trees.specs.Unfolding.{occurrences}
-use Rattle.activation_trees.specs.Activators.{IsChild, IsMain, HasActivator}
-use Rattle.activation_trees.proofs.Lying.{has_activator}
-use Rattle.instruction_forms.specs.Trees.{FormTree}
+use Rattle.lisa_forms.specs.activation_trees.declared.parts.Occurrence.{Occurrence}
+use Rattle.lisa_forms.specs.activation_trees.Starting.{plain_named}
+use Rattle.lisa_forms.specs.activation_trees.Unfolding.{occurrences}
+use Rattle.lisa_forms.specs.activation_trees.Activators.{IsChild, IsMain, HasActivator}
+use Rattle.lisa_forms.proofs.activation_trees_proofs.Lying.{has_activator}
+use Rattle.lisa_forms.specs.instruction_forms.Trees.{FormTree}
 use Rattle.lisa_meaning.specs.Scenes.{Link, Scene, at_path, instruction_with, line, occurrence_link, scene_by, has_word, scene_with, scene_of}
 use Rattle.lisa_meaning.specs.Scenes as scenes
 use Rattle.lisa_meaning.specs.Moments.{Moment, with_stall, with_flush}

@@ -12,18 +12,18 @@ use Rattle.lisa_engine.specs.declared.parts.ArrayItem.{ArrayItem}
 use Rattle.lisa_engine.specs.Memory.{Memory}
 use Rattle.lisa_tree.specs.Resources.{stages, fields}
 use Rattle.lisa_tree.specs.Operations.{is_root}
-use Rattle.machine_parts.specs.Parts.{arrays_of, registers_of}
-use Rattle.machine_parts.specs.Laws.{HaveWidths}
-use Rattle.activation_trees.specs.declared.parts.Occurrence.{Occurrence}
-use Rattle.activation_trees.specs.Unfolding.{occurrences}
-use Rattle.activation_trees.specs.Items.{stage_or_first, root_stage, is_between, has_bit}
+use Rattle.use_promises.specs.machine_parts.Parts.{arrays_of, registers_of}
+use Rattle.use_promises.specs.machine_parts.Laws.{HaveWidths}
+use Rattle.lisa_forms.specs.activation_trees.declared.parts.Occurrence.{Occurrence}
+use Rattle.lisa_forms.specs.activation_trees.Unfolding.{occurrences}
+use Rattle.lisa_forms.specs.activation_trees.Items.{stage_or_first, root_stage, is_between, has_bit}
 use Rattle.instruction_trees.specs.Trees.{Form, form_bits, instructions}
 use Rattle.instruction_trees.specs.Forms.{forms}
 use Rattle.lisa_tree.specs.Paths.{node_count}
-use Rattle.coding_tables.specs.Codings.{choice_alternatives, coding_table}
-use Rattle.coding_tables.specs.Instructions.{instruction_choice, instruction_items, forms_of}
-use Rattle.pattern_tables.specs.Tables.{IsDecoded}
-use Rattle.form_patterns.specs.Instructions.{instruction_frames, instruction_plain}
+use Rattle.lisa_forms.specs.coding_tables.Codings.{choice_alternatives, coding_table}
+use Rattle.lisa_forms.specs.coding_tables.Instructions.{instruction_choice, instruction_items, forms_of}
+use Rattle.lisa_forms.specs.pattern_tables.Tables.{IsDecoded}
+use Rattle.lisa_forms.specs.form_patterns.Instructions.{instruction_frames, instruction_plain}
 use Rattle.item_layouts.specs.declared.place.ItemPlace.TheVariants.{Bit, Word}
 use Rattle.item_layouts.specs.Layouts.{HasPlace}
 use Rattle.pipeline_time.specs.Acts.{Node}

@@ -18,3 +18,11 @@ pub mod Shown
 pub mod Showing
 pub mod Itemed
 pub mod Sample
+pub mod activation_trees_proofs
+pub mod description_sizes_proofs
+pub mod form_patterns_proofs
+pub mod form_promises_proofs
+pub mod instruction_forms_proofs
+pub mod lisa_forms_proofs
+pub mod lisa_machine_proofs
+pub mod use_promises_proofs

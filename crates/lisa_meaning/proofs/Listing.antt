@@ -10,13 +10,13 @@ use Rattle.lisa_tree.specs.Descriptions.{DescriptionTree}
 use Rattle.lisa_engine.specs.declared.parts.Item.{Item}
 use Rattle.lisa_engine.specs.Shape.{IsFitting}
 use Rattle.lisa_tree.specs.Resources.{stages, fields}
-use Rattle.machine_parts.specs.Parts.{registers_of}
-use Rattle.activation_trees.specs.declared.parts.Occurrence.{Occurrence}
-use Rattle.activation_trees.specs.Unfolding.{occurrences}
-use Rattle.activation_trees.specs.Items.{field_item, boundary_items, root_stage, word_item, word_items, has_bit, bit_item, bits_from, bit_items}
-use Rattle.coding_tables.specs.Instructions.{instruction_choice}
-use Rattle.instruction_forms.specs.Widths.{HasWidth}
-use Rattle.description_sizes.specs.Sizes.{items}
+use Rattle.use_promises.specs.machine_parts.Parts.{registers_of}
+use Rattle.lisa_forms.specs.activation_trees.declared.parts.Occurrence.{Occurrence}
+use Rattle.lisa_forms.specs.activation_trees.Unfolding.{occurrences}
+use Rattle.lisa_forms.specs.activation_trees.Items.{field_item, boundary_items, root_stage, word_item, word_items, has_bit, bit_item, bits_from, bit_items}
+use Rattle.lisa_forms.specs.coding_tables.Instructions.{instruction_choice}
+use Rattle.lisa_forms.specs.instruction_forms.Widths.{HasWidth}
+use Rattle.lisa_forms.specs.description_sizes.Sizes.{items}
 use Rattle.item_layouts.specs.declared.place.ItemPlace.{ItemPlace}
 use Rattle.item_layouts.specs.declared.place.ItemPlace.TheVariants.{Register, Field, Word, Bit}
 use Rattle.item_layouts.specs.Layouts.{value_at, register_places, boundary_places, field_places, words_from, word_places, stage_places, bit_places, item_values}

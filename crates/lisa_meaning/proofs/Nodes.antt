@@ -7,12 +7,12 @@ use Rattle.lisa_tree.specs.Activations.{ActTree, ActTrees}
 use Rattle.lisa_tree.specs.Descriptions.{OperationTree, DescriptionTree}
 use Rattle.lisa_tree.specs.Operations.{number_of, operation_at, own_stage, sections_at, activation_in}
 use Rattle.lisa_tree.specs.Paths.{node_count}
-use Rattle.stage_checks.specs.Controls.{main_name}
-use Rattle.stage_checks.specs.Running.{act_names, acts_names, activation_names}
-use Rattle.activation_trees.specs.declared.parts.Occurrence.{Occurrence}
-use Rattle.activation_trees.specs.Starting.{Activated, alternatives, start_of, starts_named, activated_by}
-use Rattle.activation_trees.specs.Unfolding.{occurrence, child, children, in_turn, unfolded, whole, firsts}
-use Rattle.activation_trees.proofs.Levels.{in_turn_append}
+use Rattle.lisa_forms.specs.stage_checks.Controls.{main_name}
+use Rattle.lisa_forms.specs.stage_checks.Running.{act_names, acts_names, activation_names}
+use Rattle.lisa_forms.specs.activation_trees.declared.parts.Occurrence.{Occurrence}
+use Rattle.lisa_forms.specs.activation_trees.Starting.{Activated, alternatives, start_of, starts_named, activated_by}
+use Rattle.lisa_forms.specs.activation_trees.Unfolding.{occurrence, child, children, in_turn, unfolded, whole, firsts}
+use Rattle.lisa_forms.proofs.activation_trees_proofs.Levels.{in_turn_append}
 use Rattle.pipeline_time.specs.Acts.{Acts, Done, Act, When, Node, nodes, size}
 use Rattle.lisa_meaning.specs.Trees.{Activator, level_of_stage, followed, item_tests, items_tests, row, item_acts, items_acts, activation_acts, acts_within, main_acts}
 use Rattle.lisa_meaning.specs.Laws.{Listed, node_listed, occurrence_listed, listed_from, TreesAreOccurrences}

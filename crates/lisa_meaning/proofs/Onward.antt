@@ -8,19 +8,19 @@ use Rattle.lisa_tree.specs.Descriptions as trees
 use Rattle.lisa_tree.specs.Descriptions.{CodingTree, DescriptionTree}
 use Rattle.lisa_tree.specs.Resources.{stages}
 use Rattle.lisa_tree.specs.Operations.{own_stage, sections_at, coding_in, activation_in, is_root}
-use Rattle.coded_names.specs.Codings.{names_instructions}
+use Rattle.use_promises.specs.coded_names.Codings.{names_instructions}
 use Rattle.graph_paths.specs.Paths.{is_in}
-use Rattle.stage_checks.specs.Running.{started, choices_named, activation_names, Activates, RunsIn}
-use Rattle.lisa_machine.proofs.Entries.{Split, in_first, in_second, split}
+use Rattle.lisa_forms.specs.stage_checks.Running.{started, choices_named, activation_names, Activates, RunsIn}
+use Rattle.use_promises.proofs.lisa_machine_proofs.Entries.{Split, in_first, in_second, split}
 use Rattle.use_promises.proofs.Staged.{own_low}
-use Rattle.activation_trees.specs.declared.parts.Occurrence.{Occurrence}
-use Rattle.activation_trees.specs.Starting.{Activated, plain_named, plain_of, names_by}
-use Rattle.activation_trees.specs.Unfolding.{occurrences}
-use Rattle.activation_trees.specs.Activators.{IsActivated, IsChild, IsMain, HasActivator}
-use Rattle.activation_trees.specs.Places.{HasName}
-use Rattle.activation_trees.proofs.Levels.{all_map}
-use Rattle.activation_trees.proofs.Ordered.{has_name}
-use Rattle.activation_trees.proofs.Lying.{each_occurrence, runs, has_activator}
+use Rattle.lisa_forms.specs.activation_trees.declared.parts.Occurrence.{Occurrence}
+use Rattle.lisa_forms.specs.activation_trees.Starting.{Activated, plain_named, plain_of, names_by}
+use Rattle.lisa_forms.specs.activation_trees.Unfolding.{occurrences}
+use Rattle.lisa_forms.specs.activation_trees.Activators.{IsActivated, IsChild, IsMain, HasActivator}
+use Rattle.lisa_forms.specs.activation_trees.Places.{HasName}
+use Rattle.lisa_forms.proofs.activation_trees_proofs.Levels.{all_map}
+use Rattle.lisa_forms.proofs.activation_trees_proofs.Ordered.{has_name}
+use Rattle.lisa_forms.proofs.activation_trees_proofs.Lying.{each_occurrence, runs, has_activator}
 use Rattle.lisa_forms.specs.Choosing.{numbered_form}
 use Rattle.pipeline_time.specs.Acts.{Node}
 use Rattle.pipeline_time.specs.Cores.{all_nodes}

@@ -6,9 +6,9 @@ use Rattle.std.specs.Option.{option_and_then, option_or}
 use Rattle.std.specs.Cmp.Lexicographic.{same_text}
 use Rattle.std.proofs.lemmas.Option.{same_Some}
 use Rattle.lisa_tree.specs.Descriptions.{OperationTree, DescriptionTree}
-use Rattle.description_places.specs.declared.sites.Region.TheVariants as regions
-use Rattle.description_places.specs.Places as places
-use Rattle.description_places.specs.Places.{at}
+use Rattle.use_promises.specs.description_places.declared.sites.Region.TheVariants as regions
+use Rattle.use_promises.specs.description_places.Places as places
+use Rattle.use_promises.specs.description_places.Places.{at}
 use Rattle.lisa_tree.specs.declared.declared.What.{What}
 use Rattle.lisa_tree.specs.declared.declared.What.TheVariants as whats
 use Rattle.lisa_tree.specs.Same.{same_name}
@@ -16,29 +16,29 @@ use Rattle.lisa_tree.specs.Operations.{number_of, name_at, operation_at, own_sta
 use Rattle.lisa_tree.specs.Declarations.{Entry, entries, declared_at, what_at, above, is_reference}
 use Rattle.lisa_tree.specs.Paths.{Operation, refers}
 use Rattle.graph_paths.specs.Paths.{is_in}
-use Rattle.description_graph.proofs.Hits.{found}
-use Rattle.stage_checks.specs.Controls.{main_name}
-use Rattle.lisa_machine.specs.Ranks.{Ranks}
-use Rattle.lisa_machine.specs.Running.{FitsMain}
-use Rattle.lisa_machine.specs.Soundness.{IsSound}
-use Rattle.lisa_machine.proofs.Chosen.{in_here}
-use Rattle.lisa_machine.proofs.Decoding.{position_there}
-use Rattle.lisa_machine.proofs.Distinct.{operation_found}
-use Rattle.lisa_machine.proofs.Falling.{node_ranks}
-use Rattle.lisa_machine.proofs.Fitting.{alias_fits}
-use Rattle.lisa_machine.proofs.Forward.{main_is}
-use Rattle.lisa_machine.proofs.Named.{what_is}
-use Rattle.lisa_machine.proofs.Standing.{operation_stands}
-use Rattle.meant_declarations.specs.Meant.{MayMean, itself, higher}
+use Rattle.use_promises.proofs.description_graph_proofs.Hits.{found}
+use Rattle.lisa_forms.specs.stage_checks.Controls.{main_name}
+use Rattle.use_promises.specs.lisa_machine.Ranks.{Ranks}
+use Rattle.use_promises.specs.lisa_machine.Running.{FitsMain}
+use Rattle.use_promises.specs.lisa_machine.Soundness.{IsSound}
+use Rattle.use_promises.proofs.lisa_machine_proofs.Chosen.{in_here}
+use Rattle.use_promises.proofs.lisa_machine_proofs.Decoding.{position_there}
+use Rattle.use_promises.proofs.lisa_machine_proofs.Distinct.{operation_found}
+use Rattle.use_promises.proofs.lisa_machine_proofs.Falling.{node_ranks}
+use Rattle.use_promises.proofs.lisa_machine_proofs.Fitting.{alias_fits}
+use Rattle.use_promises.proofs.lisa_machine_proofs.Forward.{main_is}
+use Rattle.use_promises.proofs.lisa_machine_proofs.Named.{what_is}
+use Rattle.use_promises.proofs.lisa_machine_proofs.Standing.{operation_stands}
+use Rattle.use_promises.specs.meant_declarations.Meant.{MayMean, itself, higher}
 use Rattle.use_promises.specs.Meant.{FitsReference}
 use Rattle.use_promises.proofs.References.{reference_fits}
-use Rattle.activation_trees.specs.declared.parts.Occurrence.{Occurrence}
-use Rattle.activation_trees.specs.Starting.{plain_named}
-use Rattle.activation_trees.specs.Unfolding.{occurrences}
-use Rattle.activation_trees.specs.Activators.{IsChild, IsMain, HasActivator}
-use Rattle.activation_trees.proofs.Lying.{has_activator}
-use Rattle.activation_trees.proofs.Ordered.{has_name}
-use Rattle.instruction_forms.specs.Trees.{FormTree}
+use Rattle.lisa_forms.specs.activation_trees.declared.parts.Occurrence.{Occurrence}
+use Rattle.lisa_forms.specs.activation_trees.Starting.{plain_named}
+use Rattle.lisa_forms.specs.activation_trees.Unfolding.{occurrences}
+use Rattle.lisa_forms.specs.activation_trees.Activators.{IsChild, IsMain, HasActivator}
+use Rattle.lisa_forms.proofs.activation_trees_proofs.Lying.{has_activator}
+use Rattle.lisa_forms.proofs.activation_trees_proofs.Ordered.{has_name}
+use Rattle.lisa_forms.specs.instruction_forms.Trees.{FormTree}
 use Rattle.lisa_forms.specs.Choosing.{operation_of}
 use Rattle.lisa_meaning.specs.Scenes.{Link, link, declared, home, child_part, chosen, onto, child_at_home, line_within, occurrence_part, occurrence_link}
 use Rattle.lisa_meaning.proofs.Above.{name_is, no_alias, lower, stands_above, owner_is}

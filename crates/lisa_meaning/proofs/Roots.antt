@@ -8,11 +8,11 @@ use Rattle.std.proofs.lemmas.Option.{slice_get_within, same_Some}
 use Rattle.lisa_tree.specs.Descriptions.{OperationTree, DescriptionTree}
 use Rattle.lisa_tree.specs.Resources.{stages}
 use Rattle.lisa_tree.specs.Operations.{operation_at, own_stage, is_root}
-use Rattle.stage_checks.specs.Running.{Activates, RunsIn}
-use Rattle.activation_trees.specs.declared.parts.Occurrence.{Occurrence}
-use Rattle.activation_trees.specs.Unfolding.{occurrences, occurrences_of}
-use Rattle.activation_trees.specs.Twice.{root_before, is_twice, first_from, first_root_twice}
-use Rattle.lisa_machine.specs.Verdicts.{Verdict, before}
+use Rattle.lisa_forms.specs.stage_checks.Running.{Activates, RunsIn}
+use Rattle.lisa_forms.specs.activation_trees.declared.parts.Occurrence.{Occurrence}
+use Rattle.lisa_forms.specs.activation_trees.Unfolding.{occurrences, occurrences_of}
+use Rattle.lisa_forms.specs.activation_trees.Twice.{root_before, is_twice, first_from, first_root_twice}
+use Rattle.use_promises.specs.lisa_machine.Verdicts.{Verdict, before}
 use Rattle.lisa_forms.specs.Verdicts.{HasForms, IsRootVerdict, root_twice, from_sizes, from_roots, from_writings}
 use Rattle.lisa_meaning.specs.Trees.{level_of_stage}
 use Rattle.lisa_meaning.specs.Cores.{is_root_at, root_level, core_of}

@@ -10,18 +10,18 @@ use Rattle.lisa_engine.specs.Memory.{Memory}
 use Rattle.lisa_engine.specs.Images.{IsImage, missing_memory, is_array}
 use Rattle.lisa_engine.specs.Shape.{IsShaped}
 use Rattle.lisa_engine.proofs.Loading as loading
-use Rattle.machine_parts.specs.Parts.{arrays_of, registers_of}
-use Rattle.machine_parts.specs.Laws.{HaveWidths}
-use Rattle.machine_parts.proofs.Fitting.{firsts_fit}
+use Rattle.use_promises.specs.machine_parts.Parts.{arrays_of, registers_of}
+use Rattle.use_promises.specs.machine_parts.Laws.{HaveWidths}
+use Rattle.use_promises.proofs.machine_parts_proofs.Fitting.{firsts_fit}
 use Rattle.instruction_trees.specs.Trees.{Form, In, here, there, form_bits}
-use Rattle.coding_tables.specs.Codings.{coding_table}
-use Rattle.coding_tables.specs.Instructions.{instruction_items, forms_of}
-use Rattle.instruction_forms.specs.Widths as widths
-use Rattle.instruction_forms.proofs.Wide.{whole_width}
-use Rattle.pattern_tables.specs.Tables.{IsDecoded}
-use Rattle.form_patterns.specs.Instructions.{instruction_frames, instruction_plain}
-use Rattle.form_patterns.proofs.Standing.{all_fit}
-use Rattle.description_sizes.specs.Sizes.{items}
+use Rattle.lisa_forms.specs.coding_tables.Codings.{coding_table}
+use Rattle.lisa_forms.specs.coding_tables.Instructions.{instruction_items, forms_of}
+use Rattle.lisa_forms.specs.instruction_forms.Widths as widths
+use Rattle.lisa_forms.proofs.instruction_forms_proofs.Wide.{whole_width}
+use Rattle.lisa_forms.specs.pattern_tables.Tables.{IsDecoded}
+use Rattle.lisa_forms.specs.form_patterns.Instructions.{instruction_frames, instruction_plain}
+use Rattle.lisa_forms.proofs.form_patterns_proofs.Standing.{all_fit}
+use Rattle.lisa_forms.specs.description_sizes.Sizes.{items}
 use Rattle.pipeline_time.specs.Running.{Running, behavior, activate}
 use Rattle.pipeline_time.specs.Journal.{stands, stage_word}
 use Rattle.pipeline_time.specs.States.{State, edge_of, next, first_state, after}

@@ -7,8 +7,8 @@ use Rattle.std.proofs.lemmas.List.Elements.{All-from_recursion}
 use Rattle.lisa_tree.specs.Descriptions.{DescriptionTree}
 use Rattle.lisa_engine.specs.declared.parts.Item.{Item}
 use Rattle.lisa_engine.specs.declared.parts.ArrayItem.{ArrayItem}
-use Rattle.machine_parts.specs.Parts.{arrays_of, pins_of, registers_of}
-use Rattle.machine_parts.specs.Laws.{HasWidth, HaveWidths}
+use Rattle.use_promises.specs.machine_parts.Parts.{arrays_of, pins_of, registers_of}
+use Rattle.use_promises.specs.machine_parts.Laws.{HasWidth, HaveWidths}
 use Rattle.use_promises.specs.Showing.{FitsItem, FitsShown}
 
 module _ (d : DescriptionTree) (shows : FitsShown d) where

@@ -10,14 +10,14 @@ use Rattle.lisa_tree.specs.Descriptions.{DescriptionTree}
 use Rattle.lisa_tree.specs.Operations.{number_of, own_stage, sections_at, coding_in, activation_in, is_root}
 use Rattle.lisa_tree.specs.Declarations.{plain_at}
 use Rattle.lisa_tree.specs.Paths.{node_count}
-use Rattle.coded_names.specs.Codings.{names_instructions}
-use Rattle.stage_checks.specs.Controls.{main_name}
-use Rattle.stage_checks.specs.Running.{Activates, RunsIn, started, act_names, acts_names, activation_names}
-use Rattle.lisa_machine.proofs.Entries.{get_left, get_right}
-use Rattle.activation_trees.specs.declared.parts.Occurrence.{Occurrence}
-use Rattle.activation_trees.specs.Starting.{Activated, activation, activated_by, start}
-use Rattle.activation_trees.specs.Unfolding.{occurrences, occurrence, child, in_turn, whole, firsts}
-use Rattle.activation_trees.proofs.Levels.{in_turn_append}
+use Rattle.use_promises.specs.coded_names.Codings.{names_instructions}
+use Rattle.lisa_forms.specs.stage_checks.Controls.{main_name}
+use Rattle.lisa_forms.specs.stage_checks.Running.{Activates, RunsIn, started, act_names, acts_names, activation_names}
+use Rattle.use_promises.proofs.lisa_machine_proofs.Entries.{get_left, get_right}
+use Rattle.lisa_forms.specs.activation_trees.declared.parts.Occurrence.{Occurrence}
+use Rattle.lisa_forms.specs.activation_trees.Starting.{Activated, activation, activated_by, start}
+use Rattle.lisa_forms.specs.activation_trees.Unfolding.{occurrences, occurrence, child, in_turn, whole, firsts}
+use Rattle.lisa_forms.proofs.activation_trees_proofs.Levels.{in_turn_append}
 use Rattle.lisa_forms.specs.Verdicts.{HasForms}
 use Rattle.pipeline_time.specs.Acts.{Acts, Done, Act, When, size}
 use Rattle.pipeline_time.specs.Cores.{Core}

@@ -22,12 +22,12 @@ use Rattle.lisa_tree.specs.Same.{same_name}
 use Rattle.lisa_tree.specs.Resources.{stages, fields, stage_at}
 use Rattle.lisa_tree.specs.Operations.{own_stage}
 use Rattle.lisa_tree.specs.Meanings.{meaning}
-use Rattle.typed_values.specs.Words.{TypedWord}
-use Rattle.typed_values.specs.Effects.{Locals, Doing, like, local_put}
-use Rattle.typed_values.proofs.Fitting.{fitted_within}
-use Rattle.typed_values.proofs.Preserved.{Keeps, effects_kept}
-use Rattle.machine_parts.specs.Parts.{item, array, array_in, arrays_of, register_in, registers_of}
-use Rattle.description_sizes.specs.Texts.{levels}
+use Rattle.lisa_forms.specs.typed_values.Words.{TypedWord}
+use Rattle.lisa_forms.specs.typed_values.Effects.{Locals, Doing, like, local_put}
+use Rattle.lisa_forms.proofs.typed_values_proofs.Fitting.{fitted_within}
+use Rattle.lisa_forms.proofs.typed_values_proofs.Preserved.{Keeps, effects_kept}
+use Rattle.use_promises.specs.machine_parts.Parts.{item, array, array_in, arrays_of, register_in, registers_of}
+use Rattle.lisa_forms.specs.description_sizes.Texts.{levels}
 use Rattle.pipeline_time.specs.Edges.{is_held, is_flushed}
 use Rattle.lisa_meaning.specs.Scenes.{Link, Scene, at_path, running, home, child_at_home, child}
 use Rattle.lisa_meaning.specs.Moments.{Contents, Moment, with_locals, with_stall, with_flush, bare, begin_moment, field_at, field_before, written, closed_field, by_boundaries, close_moment}

@@ -19,22 +19,22 @@ use Rattle.lisa_tree.specs.Declarations.{Entry, entries, declared_at, what_at, p
 use Rattle.lisa_tree.specs.Meanings.{meaning}
 use Rattle.lisa_tree.specs.Paths.{Operation, Choosing, Declaring, leads}
 use Rattle.graph_paths.specs.Paths.{is_in}
-use Rattle.stage_checks.specs.Running.{choice_at}
-use Rattle.lisa_machine.specs.Ranks.{Ranks}
-use Rattle.lisa_machine.specs.Soundness.{IsSound}
-use Rattle.lisa_machine.proofs.Chosen.{plain_listed}
-use Rattle.meant_declarations.specs.Meant.{MayMean, itself, higher}
+use Rattle.lisa_forms.specs.stage_checks.Running.{choice_at}
+use Rattle.use_promises.specs.lisa_machine.Ranks.{Ranks}
+use Rattle.use_promises.specs.lisa_machine.Soundness.{IsSound}
+use Rattle.use_promises.proofs.lisa_machine_proofs.Chosen.{plain_listed}
+use Rattle.use_promises.specs.meant_declarations.Meant.{MayMean, itself, higher}
 use Rattle.use_promises.specs.Meant.{ChoosesFrom}
 use Rattle.use_promises.proofs.Traits.{means}
-use Rattle.description_sizes.specs.Texts.{levels}
-use Rattle.typed_values.specs.Words.{TypedWord, truth}
-use Rattle.typed_values.specs.Expressions.{Reader, value}
-use Rattle.typed_values.specs.Effects.{Doing}
-use Rattle.typed_values.specs.ResetEffects.{local_or}
-use Rattle.activation_trees.specs.declared.parts.Occurrence.{Occurrence}
-use Rattle.activation_trees.specs.Starting.{plain_of, plain_named}
-use Rattle.activation_trees.specs.Unfolding.{occurrences}
-use Rattle.instruction_forms.specs.Trees.{FormTree}
+use Rattle.lisa_forms.specs.description_sizes.Texts.{levels}
+use Rattle.lisa_forms.specs.typed_values.Words.{TypedWord, truth}
+use Rattle.lisa_forms.specs.typed_values.Expressions.{Reader, value}
+use Rattle.lisa_forms.specs.typed_values.Effects.{Doing}
+use Rattle.lisa_forms.specs.typed_values.ResetEffects.{local_or}
+use Rattle.lisa_forms.specs.activation_trees.declared.parts.Occurrence.{Occurrence}
+use Rattle.lisa_forms.specs.activation_trees.Starting.{plain_of, plain_named}
+use Rattle.lisa_forms.specs.activation_trees.Unfolding.{occurrences}
+use Rattle.lisa_forms.specs.instruction_forms.Trees.{FormTree}
 use Rattle.lisa_meaning.specs.Scenes.{Link, Scene, declared, is_label, home, child_part, chosen, onto, child_at_home, child, instruction_with, has_word, scene_by, scene_with}
 use Rattle.lisa_meaning.specs.Moments.{Moment, with_locals, with_stall, with_flush, bare}
 use Rattle.lisa_meaning.specs.Values.{Below, named_array, element_value, stage_before, field_place, boundary_value, expression_at, value_below, label_value, child_value, declared_value, meant_value, reader, value_within, reader_of}

@@ -6,17 +6,17 @@ use Rattle.lisa_tree.specs.Expressions.{ExprTree}
 use Rattle.lisa_tree.specs.Statements as stmts
 use Rattle.lisa_tree.specs.Statements.{HeadTree, StmtTree, StmtTrees}
 use Rattle.lisa_tree.specs.Descriptions.{DescriptionTree}
-use Rattle.description_places.specs.declared.sites.Region.TheVariants as regions
-use Rattle.description_places.specs.Scopes.{Scope}
-use Rattle.description_places.specs.Places as sites
-use Rattle.description_places.specs.Places.{At, at, Calls, Stalls, Flushes, uses, head_places, after, places, all_places}
-use Rattle.shape_checks.specs.declared.bounds.Bounds.{Bounds}
-use Rattle.shape_checks.specs.Bounds.{bounds_of, turns}
-use Rattle.typed_values.specs.Words.{TypedWord, is_zero}
-use Rattle.typed_values.specs.Expressions.{value}
-use Rattle.typed_values.specs.Effects.{Locals, Doing, leave, turned, loop_turn, all_turns, looped, with_counter, effect, effects}
-use Rattle.lisa_machine.specs.Freedom.{Stands, AllStand}
-use Rattle.lisa_machine.proofs.Among.{stand_both}
+use Rattle.use_promises.specs.description_places.declared.sites.Region.TheVariants as regions
+use Rattle.use_promises.specs.description_places.Scopes.{Scope}
+use Rattle.use_promises.specs.description_places.Places as sites
+use Rattle.use_promises.specs.description_places.Places.{At, at, Calls, Stalls, Flushes, uses, head_places, after, places, all_places}
+use Rattle.use_promises.specs.shape_checks.declared.bounds.Bounds.{Bounds}
+use Rattle.use_promises.specs.shape_checks.Bounds.{bounds_of, turns}
+use Rattle.lisa_forms.specs.typed_values.Words.{TypedWord, is_zero}
+use Rattle.lisa_forms.specs.typed_values.Expressions.{value}
+use Rattle.lisa_forms.specs.typed_values.Effects.{Locals, Doing, leave, turned, loop_turn, all_turns, looped, with_counter, effect, effects}
+use Rattle.use_promises.specs.lisa_machine.Freedom.{Stands, AllStand}
+use Rattle.use_promises.proofs.lisa_machine_proofs.Among.{stand_both}
 
 -- each thing that is done in the BEHAVIOR of an operation keeps what is said of a moment
 pub record KeepsStanding {M : Type 0} (d : DescriptionTree) (o : ℕ) (doing : Doing M) (P : M → Type 0) : Type 0 where

@@ -11,11 +11,11 @@ use Rattle.lisa_tree.specs.Operations.{is_alias}
 use Rattle.instruction_trees.specs.Bits.{Frame, Has, mask, pattern}
 use Rattle.instruction_trees.specs.Trees as plain
 use Rattle.instruction_trees.specs.Trees.{form_bits, is_plain}
-use Rattle.coding_tables.specs.Codings.{coding_table}
-use Rattle.coding_tables.specs.Instructions.{instruction_items, forms_of}
-use Rattle.pattern_tables.specs.Tables.{IsDecoded}
-use Rattle.pattern_tables.proofs.Masks.{has_masked, masked_has}
-use Rattle.form_patterns.specs.Instructions.{instruction_frames, instruction_plain}
+use Rattle.lisa_forms.specs.coding_tables.Codings.{coding_table}
+use Rattle.lisa_forms.specs.coding_tables.Instructions.{instruction_items, forms_of}
+use Rattle.lisa_forms.specs.pattern_tables.Tables.{IsDecoded}
+use Rattle.lisa_forms.proofs.pattern_tables_proofs.Masks.{has_masked, masked_has}
+use Rattle.lisa_forms.specs.form_patterns.Instructions.{instruction_frames, instruction_plain}
 use Rattle.lisa_forms.specs.declared.coding.Coding.{Coding}
 use Rattle.lisa_forms.specs.Codings.{IsCodingOf, IsDecodedAs}
 use Rattle.lisa_forms.proofs.Decoded.{decoded}

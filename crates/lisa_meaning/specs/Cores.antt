@@ -8,10 +8,10 @@ use Rattle.lisa_tree.specs.Descriptions as trees
 use Rattle.lisa_tree.specs.Descriptions.{CodingTree, DescriptionTree}
 use Rattle.lisa_tree.specs.Resources.{stages}
 use Rattle.lisa_tree.specs.Operations.{sections_at, coding_in, activation_in, is_root}
-use Rattle.typed_values.specs.Words.{is_zero}
-use Rattle.activation_trees.specs.declared.parts.Occurrence.{Occurrence}
-use Rattle.activation_trees.specs.Unfolding.{occurrences}
-use Rattle.coding_tables.specs.Instructions.{Root, first_root}
+use Rattle.lisa_forms.specs.typed_values.Words.{is_zero}
+use Rattle.lisa_forms.specs.activation_trees.declared.parts.Occurrence.{Occurrence}
+use Rattle.lisa_forms.specs.activation_trees.Unfolding.{occurrences}
+use Rattle.lisa_forms.specs.coding_tables.Instructions.{Root, first_root}
 use Rattle.pipeline_time.specs.Cores.{Core}
 use Rattle.lisa_meaning.specs.Standings.{standing}
 use Rattle.lisa_meaning.specs.Scenes.{Scene, link, form_with, instruction_with, scene_of}

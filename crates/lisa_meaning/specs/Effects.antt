@@ -15,9 +15,9 @@ use Rattle.lisa_tree.specs.Same.{same_name}
 use Rattle.lisa_tree.specs.Resources.{stage_at}
 use Rattle.lisa_tree.specs.Operations.{sections_at, behavior_in, own_stage}
 use Rattle.lisa_tree.specs.Meanings.{meaning}
-use Rattle.typed_values.specs.Words.{TypedWord, fitted}
-use Rattle.typed_values.specs.Effects.{Doing, local_put, like, effects}
-use Rattle.description_sizes.specs.Texts.{levels}
+use Rattle.lisa_forms.specs.typed_values.Words.{TypedWord, fitted}
+use Rattle.lisa_forms.specs.typed_values.Effects.{Doing, local_put, like, effects}
+use Rattle.lisa_forms.specs.description_sizes.Texts.{levels}
 use Rattle.lisa_meaning.specs.Scenes.{Link, Scene, at_path, running, home, child_at_home, child}
 use Rattle.lisa_meaning.specs.Moments.{Moment, with_memory, with_locals, with_out, with_stall, with_flush, bare}
 use Rattle.lisa_meaning.specs.Values.{Array, register_place, named_array, field_place, shape_at, expression_at, reader_of, value_of}

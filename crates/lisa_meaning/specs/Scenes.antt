@@ -7,13 +7,13 @@ use Rattle.lisa_tree.specs.declared.declared.What.TheVariants as whats
 use Rattle.lisa_tree.specs.Operations.{sections_at, coding_in, is_root}
 use Rattle.lisa_tree.specs.Declarations.{declared_at, what_at, is_reference}
 use Rattle.graph_paths.specs.Paths.{is_in}
-use Rattle.coded_names.specs.Codings.{names_instructions}
-use Rattle.activation_trees.specs.declared.parts.Occurrence.{Occurrence}
-use Rattle.activation_trees.specs.Starting.{plain_named}
-use Rattle.activation_trees.specs.Unfolding.{occurrences}
+use Rattle.use_promises.specs.coded_names.Codings.{names_instructions}
+use Rattle.lisa_forms.specs.activation_trees.declared.parts.Occurrence.{Occurrence}
+use Rattle.lisa_forms.specs.activation_trees.Starting.{plain_named}
+use Rattle.lisa_forms.specs.activation_trees.Unfolding.{occurrences}
 use Rattle.instruction_trees.specs.Bits.{Frame, mask, pattern}
-use Rattle.instruction_forms.specs.Trees.{FormTree}
-use Rattle.form_patterns.specs.Instructions.{instruction_frames, instruction_plain}
+use Rattle.lisa_forms.specs.instruction_forms.Trees.{FormTree}
+use Rattle.lisa_forms.specs.form_patterns.Instructions.{instruction_frames, instruction_plain}
 use Rattle.lisa_forms.specs.Choosing.{child_place, child_at, operation_of, numbered_form}
 use Rattle.lisa_forms.specs.Standings.{part_in}
 use Rattle.lisa_meaning.specs.Standings.{standing}

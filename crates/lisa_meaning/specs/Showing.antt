@@ -3,7 +3,7 @@ use Rattle.std.specs.Prelude.{ℕ, suc, ◌≡◌, ◌≢◌, true, List, None, 
 use Rattle.lisa_tree.specs.Descriptions.{DescriptionTree}
 use Rattle.lisa_engine.specs.Memory.{Memory}
 use Rattle.lisa_engine.specs.Images.{IsImage, missing_memory}
-use Rattle.machine_parts.specs.Parts.{arrays_of, registers_of}
+use Rattle.use_promises.specs.machine_parts.Parts.{arrays_of, registers_of}
 use Rattle.item_layouts.specs.declared.place.ItemPlace.TheVariants.{Bit, Word}
 use Rattle.item_layouts.specs.Layouts.{HasPlace}
 use Rattle.pipeline_time.specs.Bits.{Hardware, shown}

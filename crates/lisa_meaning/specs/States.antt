@@ -6,10 +6,10 @@ use Rattle.lisa_engine.specs.Memory.{Memory}
 use Rattle.lisa_engine.specs.Images.{first_cells}
 use Rattle.lisa_engine.specs.State as engine
 use Rattle.lisa_tree.specs.Resources.{stages, fields}
-use Rattle.machine_parts.specs.Parts.{arrays_of, registers_of, first_values}
-use Rattle.activation_trees.specs.Unfolding.{occurrences}
-use Rattle.activation_trees.specs.Items.{root_stage, has_bit}
-use Rattle.coding_tables.specs.Instructions.{instruction_choice}
+use Rattle.use_promises.specs.machine_parts.Parts.{arrays_of, registers_of, first_values}
+use Rattle.lisa_forms.specs.activation_trees.Unfolding.{occurrences}
+use Rattle.lisa_forms.specs.activation_trees.Items.{root_stage, has_bit}
+use Rattle.lisa_forms.specs.coding_tables.Instructions.{instruction_choice}
 use Rattle.item_layouts.specs.Layouts.{Layout, ItemValues, item_values}
 use Rattle.pipeline_time.specs.States.{State, after}
 use Rattle.pipeline_time.specs.Bits.{Hardware, shown}

@@ -6,10 +6,10 @@ use Rattle.lisa_tree.specs.Activations.{ActTree, ActTrees}
 use Rattle.lisa_tree.specs.Descriptions.{DescriptionTree}
 use Rattle.lisa_tree.specs.Operations.{number_of, sections_at, activation_in}
 use Rattle.lisa_tree.specs.Paths.{node_count}
-use Rattle.stage_checks.specs.Controls.{main_name}
-use Rattle.activation_trees.specs.declared.parts.Occurrence.{Occurrence}
-use Rattle.activation_trees.specs.Starting.{Activated, start_of, activated_by}
-use Rattle.activation_trees.specs.Unfolding.{occurrence, child}
+use Rattle.lisa_forms.specs.stage_checks.Controls.{main_name}
+use Rattle.lisa_forms.specs.activation_trees.declared.parts.Occurrence.{Occurrence}
+use Rattle.lisa_forms.specs.activation_trees.Starting.{Activated, start_of, activated_by}
+use Rattle.lisa_forms.specs.activation_trees.Unfolding.{occurrence, child}
 use Rattle.pipeline_time.specs.Acts.{Acts, Done, Act, When, size}
 
 -- no stage has the level 0, and a stage one more than its number

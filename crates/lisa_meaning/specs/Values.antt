@@ -13,14 +13,14 @@ use Rattle.lisa_tree.specs.Same.{same_name}
 use Rattle.lisa_tree.specs.Resources.{fields, stage_at}
 use Rattle.lisa_tree.specs.Operations.{sections_at, expression_in, own_stage}
 use Rattle.lisa_tree.specs.Meanings.{meaning}
-use Rattle.typed_values.specs.Words.{TypedWord, typed, truth}
-use Rattle.typed_values.specs.Expressions.{Reader, value}
-use Rattle.typed_values.specs.ResetEffects.{local_or}
-use Rattle.machine_parts.specs.Parts.{array_in, pin_in, register_in}
+use Rattle.lisa_forms.specs.typed_values.Words.{TypedWord, typed, truth}
+use Rattle.lisa_forms.specs.typed_values.Expressions.{Reader, value}
+use Rattle.lisa_forms.specs.typed_values.ResetEffects.{local_or}
+use Rattle.use_promises.specs.machine_parts.Parts.{array_in, pin_in, register_in}
 use Rattle.instruction_trees.specs.Trees.{slice}
-use Rattle.instruction_forms.specs.declared.form.Field.{Field}
-use Rattle.instruction_forms.specs.Trees.{FormTree, Node}
-use Rattle.description_sizes.specs.Texts.{levels}
+use Rattle.lisa_forms.specs.instruction_forms.declared.form.Field.{Field}
+use Rattle.lisa_forms.specs.instruction_forms.Trees.{FormTree, Node}
+use Rattle.lisa_forms.specs.description_sizes.Texts.{levels}
 use Rattle.lisa_meaning.specs.Scenes.{Link, Scene, at_path, running, declared, is_label, home, child_at_home}
 use Rattle.lisa_meaning.specs.Moments.{Moment, bare, field_at}
 

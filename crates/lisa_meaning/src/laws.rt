@@ -6,10 +6,10 @@ ghost use Rattle.lisa_engine.specs.Memory.{Memory};
 ghost use Rattle.lisa_engine.specs.Images.{IsImage, missing_memory};
 ghost use Rattle.lisa_engine.specs.Shape.{IsShaped};
 ghost use Rattle.lisa_forms.specs.Verdicts.{HasForms};
-ghost use Rattle.lisa_machine.specs.Verdicts.{IsAccepted};
-ghost use Rattle.machine_parts.specs.Parts.{arrays_of};
-ghost use Rattle.instruction_forms.specs.Widths.{HasWidth};
-ghost use Rattle.description_sizes.specs.Sizes.{items};
+ghost use Rattle.use_promises.specs.lisa_machine.Verdicts.{IsAccepted};
+ghost use Rattle.use_promises.specs.machine_parts.Parts.{arrays_of};
+ghost use Rattle.lisa_forms.specs.instruction_forms.Widths.{HasWidth};
+ghost use Rattle.lisa_forms.specs.description_sizes.Sizes.{items};
 ghost use Rattle.lisa_forms.specs.declared.coding.Coding.{Coding};
 ghost use Rattle.lisa_forms.specs.Codings.{IsCodingOf, IsDecodedAs};
 ghost use Rattle.pipeline_time.specs.Laws.{

@@ -3,3 +3,12 @@
 #![tactic(auto)]
 
 pub mod laws;
+
+pub use lisa_forms::{
+    Coding, Field, Form, Forms, Occurrence, Place, Value, activating_names, field,
+    instruction_choice, patterns, places,
+};
+pub use use_promises::{
+    Machine, first_values, first_values_fit, is_root, machines_show, names_instructions,
+    operation_count, resource, sections,
+};

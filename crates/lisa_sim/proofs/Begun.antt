@@ -2,8 +2,8 @@
 use Rattle.std.proofs.Common.{◌≡◌, ◌≤◌, ◌+◌, ℕ, suc, List, [], ◌∷◌, length, map, refl, sym, ap, ◌∙◌, subst, arith}
 use Rattle.lisa_tree.specs.Descriptions.{DescriptionTree}
 use Rattle.lisa_engine.specs.Memory.{Memory}
-use Rattle.activation_trees.specs.declared.parts.Occurrence as trees
-use Rattle.activation_trees.specs.Unfolding.{occurrences}
+use Rattle.item_promises.specs.activation_trees.declared.parts.Occurrence as trees
+use Rattle.item_promises.specs.activation_trees.Unfolding.{occurrences}
 use Rattle.pipeline_time.specs.Acts.{Node}
 use Rattle.pipeline_time.specs.Bits.{shown}
 use Rattle.pipeline_time.specs.Cores.{all_nodes}
@@ -14,10 +14,10 @@ use Rattle.pipeline_runs.specs.declared.tree.Occurrence.{Occurrence}
 use Rattle.pipeline_runs.specs.Pipelines.{ShowsHardware}
 use Rattle.pipeline_runs.specs.Runs.{node_of}
 use Rattle.pipeline_runs.specs.Turns.{IsPlanOf}
-use Rattle.lisa_meaning.specs.Moments.{Contents}
-use Rattle.lisa_meaning.specs.Cores.{core_of}
-use Rattle.lisa_meaning.specs.Laws.{TreesAreOccurrences, Listed, node_listed, listed_from}
-use Rattle.lisa_meaning.specs.States.{first_contents, after_edges}
+use Rattle.activation_plans.specs.lisa_meaning.Moments.{Contents}
+use Rattle.activation_plans.specs.lisa_meaning.Cores.{core_of}
+use Rattle.activation_plans.specs.lisa_meaning.Laws.{TreesAreOccurrences, Listed, node_listed, listed_from}
+use Rattle.activation_plans.specs.lisa_meaning.States.{first_contents, after_edges}
 use Rattle.pipeline_states.specs.Showing.{IsReached}
 
 same_count : {X Y : Type 0} (f : X → Y) (xs : List X) → length (map f xs) ≡ length xs

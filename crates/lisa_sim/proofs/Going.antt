@@ -17,21 +17,21 @@ use Rattle.item_layouts.specs.declared.place.ItemPlace.{ItemPlace}
 use Rattle.item_layouts.specs.declared.place.ItemPlace.TheVariants.{Word, Bit}
 use Rattle.item_layouts.specs.Layouts.{HasPlace, item_places}
 use Rattle.item_layouts.proofs.Listed.{listed}
-use Rattle.activation_trees.specs.Unfolding.{occurrences}
+use Rattle.item_promises.specs.activation_trees.Unfolding.{occurrences}
 use Rattle.pipeline_time.specs.Bits.{shown}
 use Rattle.pipeline_time.specs.States.{State as Past, log_of, edge_of, next, first_state, after}
 use Rattle.lisa_activation.specs.declared.kept.Queues.{Queues}
 use Rattle.pipeline_runs.specs.declared.seen.Seen.{Seen as Sight}
 use Rattle.pipeline_runs.specs.Pipelines.{ShowsHardware}
 use Rattle.pipeline_runs.specs.Seeing.{IsSeen}
-use Rattle.lisa_meaning.specs.Moments.{Contents}
-use Rattle.lisa_meaning.specs.Cores.{core_of}
-use Rattle.lisa_meaning.specs.States.{first_contents, layout_of, after_edges, state_of}
-use Rattle.lisa_meaning.specs.Showing.{EdgesHaveItems, ItemsShowAll}
+use Rattle.activation_plans.specs.lisa_meaning.Moments.{Contents}
+use Rattle.activation_plans.specs.lisa_meaning.Cores.{core_of}
+use Rattle.activation_plans.specs.lisa_meaning.States.{first_contents, layout_of, after_edges, state_of}
+use Rattle.activation_plans.specs.lisa_meaning.Showing.{EdgesHaveItems, ItemsShowAll}
 use Rattle.pipeline_states.specs.Showing.{state_in, IsReached}
 use Rattle.pipeline_states.specs.Hardware.{AllIsShown, EdgesAreShown, IsOneEdgeOn}
 use Rattle.pipeline_states.proofs.States.{state_same}
-use Rattle.scene_paths.specs.Lookups.{tree_of}
+use Rattle.behavior_runs.specs.scene_paths.Lookups.{tree_of}
 use Rattle.lisa_sim.specs.Bodies.{Seen, Kept, kept_of, begun_of, lasting_of}
 use Rattle.lisa_sim.specs.Runnings.{CanRun, IsBefore}
 use Rattle.lisa_sim.specs.Seeing.{IsLastSeen}

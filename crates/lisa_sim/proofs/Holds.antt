@@ -6,18 +6,18 @@ use Rattle.lisa_tree.specs.Descriptions.{DescriptionTree}
 use Rattle.lisa_engine.specs.Memory.{Memory}
 use Rattle.lisa_engine.specs.declared.parts.Item.{Item}
 use Rattle.machine_parts.specs.Parts.{registers_of}
-use Rattle.lisa_machine.proofs.Sound.{sound}
-use Rattle.use_promises.proofs.Shown.{shown_fits}
+use Rattle.item_promises.proofs.lisa_machine_proofs.Sound.{sound}
+use Rattle.item_promises.proofs.use_promises_proofs.Shown.{shown_fits}
 use Rattle.item_layouts.specs.declared.place.ItemPlace.{ItemPlace}
 use Rattle.item_layouts.specs.declared.place.ItemPlace.TheVariants.{Register, Field, Word, Bit}
 use Rattle.item_layouts.specs.Layouts.{item_places, value_at}
 use Rattle.pipeline_time.specs.Bits.{shown}
-use Rattle.lisa_meaning.specs.Values.{shape_at}
-use Rattle.lisa_meaning.specs.Cores.{core_of}
-use Rattle.lisa_meaning.specs.States.{layout_of, values_of, first_contents, after_edges, state_of}
-use Rattle.lisa_meaning.proofs.Shown.{registers_fit, arrays_distinct}
-use Rattle.lisa_meaning.proofs.Stored.{AreStored}
-use Rattle.lisa_meaning.proofs.Shaped.{first_stored, stored_after}
+use Rattle.activation_plans.specs.lisa_meaning.Values.{shape_at}
+use Rattle.activation_plans.specs.lisa_meaning.Cores.{core_of}
+use Rattle.activation_plans.specs.lisa_meaning.States.{layout_of, values_of, first_contents, after_edges, state_of}
+use Rattle.activation_plans.proofs.lisa_meaning_proofs.Shown.{registers_fit, arrays_distinct}
+use Rattle.activation_plans.proofs.lisa_meaning_proofs.Stored.{AreStored}
+use Rattle.activation_plans.proofs.lisa_meaning_proofs.Shaped.{first_stored, stored_after}
 use Rattle.lisa_sim.specs.Holding.{CanTake, CanHold}
 use Rattle.lisa_sim.specs.Runnings.{CanRun}
 use Rattle.lisa_sim.proofs.Puttings.{at_map}

@@ -9,18 +9,18 @@ use Rattle.lisa_engine.specs.Memory.{Memory}
 use Rattle.lisa_engine.specs.State.{State}
 use Rattle.item_layouts.specs.declared.place.ItemPlace.{ItemPlace}
 use Rattle.item_layouts.specs.Layouts.{item_places, value_at}
-use Rattle.activation_trees.specs.Unfolding.{occurrences}
+use Rattle.item_promises.specs.activation_trees.Unfolding.{occurrences}
 use Rattle.pipeline_time.specs.Bits.{shown}
 use Rattle.lisa_activation.specs.declared.kept.Queues.{Queues}
 use Rattle.lisa_activation.specs.Queued.{count}
 use Rattle.pipeline_runs.specs.declared.plan.Plan.{Plan}
 use Rattle.pipeline_runs.specs.Pipelines.{ShowsHardware}
 use Rattle.pipeline_runs.specs.Turns.{IsEquipped}
-use Rattle.lisa_meaning.specs.Moments.{Contents}
-use Rattle.lisa_meaning.specs.Cores.{core_of}
-use Rattle.lisa_meaning.specs.States.{layout_of, after_edges, state_of}
+use Rattle.activation_plans.specs.lisa_meaning.Moments.{Contents}
+use Rattle.activation_plans.specs.lisa_meaning.Cores.{core_of}
+use Rattle.activation_plans.specs.lisa_meaning.States.{layout_of, after_edges, state_of}
 use Rattle.pipeline_states.specs.Showing.{state_in, values_in, IsReached}
-use Rattle.scene_paths.specs.Lookups.{tree_of}
+use Rattle.behavior_runs.specs.scene_paths.Lookups.{tree_of}
 use Rattle.lisa_sim.specs.Bodies.{Seen, lasting_of}
 use Rattle.lisa_sim.specs.Runnings.{CanRun, IsRunning, Running}
 use Rattle.lisa_sim.proofs.Going.{shows_state}

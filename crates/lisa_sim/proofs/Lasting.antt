@@ -3,11 +3,11 @@ use Rattle.std.proofs.Common.{◌≡◌, ◌≤◌, ◌+◌, List, [], ap, sym, 
 use Rattle.lisa_tree.specs.declared.descriptions.Description.{Description}
 use Rattle.lisa_engine.specs.Touches.{put_back}
 use Rattle.lisa_engine.specs.declared.parts.Touch.{Touch}
-use Rattle.lisa_meaning.specs.Moments.{Contents}
-use Rattle.moment_stores.specs.declared.store.Store.{Store}
-use Rattle.scene_paths.specs.Lookups.{tree_of}
+use Rattle.activation_plans.specs.lisa_meaning.Moments.{Contents}
+use Rattle.behavior_runs.specs.moment_stores.declared.store.Store.{Store}
+use Rattle.behavior_runs.specs.scene_paths.Lookups.{tree_of}
 use Rattle.behavior_runs.specs.Rooms.{room_for}
-use Rattle.moment_stores.specs.Stores.{description_of, local_count, local_room, image_of, memory_of, cells_before, touches_of, KeepsMachine, KeepsPlace}
+use Rattle.behavior_runs.specs.moment_stores.Stores.{description_of, local_count, local_room, image_of, memory_of, cells_before, touches_of, KeepsMachine, KeepsPlace}
 use Rattle.lisa_sim.specs.Bodies.{Kept}
 
 abbrev pub kept_in : Description → Store → Kept

@@ -5,8 +5,8 @@ use Rattle.std.proofs.lemmas.Option.{same_Some}
 use Rattle.item_layouts.specs.declared.place.ItemPlace.{ItemPlace}
 use Rattle.item_layouts.specs.declared.place.ItemPlace.TheVariants.{Register, Field, Word, Bit}
 use Rattle.item_layouts.specs.Layouts.{ItemValues, value_at}
-use Rattle.lisa_meaning.specs.Moments.{Contents}
-use Rattle.moment_stores.specs.Changes.{with_cells}
+use Rattle.activation_plans.specs.lisa_meaning.Moments.{Contents}
+use Rattle.behavior_runs.specs.moment_stores.Changes.{with_cells}
 use Rattle.pipeline_states.specs.Putting.{IsPut}
 use Rattle.lisa_sim.specs.Holding.{with_item}
 use Rattle.pipeline_states.proofs.Putting.{none_put, put_register, put_field, put_none}

@@ -10,11 +10,11 @@ use Rattle.pipeline_time.specs.Bits.{Hardware, shown}
 use Rattle.pipeline_time.specs.States.{after}
 use Rattle.lisa_activation.specs.declared.kept.Queues.{Queues}
 use Rattle.pipeline_runs.specs.Pipelines.{AreBits, AreWords, ShowsHardware}
-use Rattle.lisa_meaning.specs.Moments.{Contents}
-use Rattle.lisa_meaning.specs.Cores.{core_of}
-use Rattle.lisa_meaning.specs.States.{layout_of, values_of, first_contents, after_edges, state_of}
-use Rattle.lisa_meaning.specs.Showing.{HasItems, EdgesHaveItems}
-use Rattle.moment_stores.specs.Changes.{with_cells}
+use Rattle.activation_plans.specs.lisa_meaning.Moments.{Contents}
+use Rattle.activation_plans.specs.lisa_meaning.Cores.{core_of}
+use Rattle.activation_plans.specs.lisa_meaning.States.{layout_of, values_of, first_contents, after_edges, state_of}
+use Rattle.activation_plans.specs.lisa_meaning.Showing.{HasItems, EdgesHaveItems}
+use Rattle.behavior_runs.specs.moment_stores.Changes.{with_cells}
 use Rattle.pipeline_states.specs.Putting.{IsPut, PutItemsAreHeld}
 use Rattle.pipeline_states.specs.Showing.{IsReached}
 use Rattle.pipeline_states.specs.Taken.{bit_in, word_in}

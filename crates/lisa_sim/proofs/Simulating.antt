@@ -8,8 +8,8 @@ use Rattle.lisa_engine.specs.Shape.{IsShaped, HaveWidths, HaveDistinctNames}
 use Rattle.lisa_engine.specs.declared.parts.Item.{Item}
 use Rattle.lisa_engine.specs.declared.parts.ArrayItem.{ArrayItem}
 use Rattle.machine_parts.specs.Parts.{arrays_of, pins_of}
-use Rattle.lisa_meaning.specs.States.{state_of}
-use Rattle.scene_paths.specs.Lookups.{tree_of}
+use Rattle.activation_plans.specs.lisa_meaning.States.{state_of}
+use Rattle.behavior_runs.specs.scene_paths.Lookups.{tree_of}
 use Rattle.lisa_sim.specs.Runnings.{Running}
 
 -- ---- of one description

@@ -4,7 +4,7 @@ use Rattle.lisa_tree.specs.declared.descriptions.Description.{Description}
 use Rattle.lisa_engine.specs.Memory.{Memory}
 use Rattle.lisa_engine.specs.Touches.{put_back}
 use Rattle.lisa_engine.specs.declared.parts.Touch.{Touch}
-use Rattle.lisa_meaning.specs.Moments.{Contents, Moment}
+use Rattle.activation_plans.specs.lisa_meaning.Moments.{Contents, Moment}
 
 -- the description, the image that its machine began with, the moment of an edge, and the cells that the edge wrote
 pub record Seen : Type 0 where

@@ -6,9 +6,9 @@ use Rattle.lisa_engine.specs.declared.parts.Item.{Item}
 use Rattle.machine_parts.specs.Parts.{registers_of}
 use Rattle.item_layouts.specs.declared.place.ItemPlace.{ItemPlace}
 use Rattle.item_layouts.specs.declared.place.ItemPlace.TheVariants.{Register, Field, Word, Bit}
-use Rattle.lisa_meaning.specs.Moments.{Contents}
-use Rattle.lisa_meaning.specs.Values.{shape_at}
-use Rattle.moment_stores.specs.Changes.{with_register, with_field}
+use Rattle.activation_plans.specs.lisa_meaning.Moments.{Contents}
+use Rattle.activation_plans.specs.lisa_meaning.Values.{shape_at}
+use Rattle.behavior_runs.specs.moment_stores.Changes.{with_register, with_field}
 
 -- bits within the width of the register or field at a place
 abbrev pub CanTake : DescriptionTree → ItemPlace → ℕ → Type 0

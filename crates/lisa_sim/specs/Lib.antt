@@ -3,3 +3,7 @@ pub mod Holding
 pub mod Runnings
 pub mod Seeing
 pub mod Simulators
+pub mod lisa_forms
+pub mod lisa_machine
+pub mod lisa_meaning
+pub mod machine_parts

@@ -9,18 +9,18 @@ use Rattle.lisa_engine.specs.Touches.{IsPlaced, put_back}
 use Rattle.lisa_engine.specs.declared.parts.Touch.{Touch}
 use Rattle.lisa_tree.specs.Resources.{stages}
 use Rattle.machine_parts.specs.Parts.{arrays_of}
-use Rattle.lisa_machine.specs.Verdicts.{IsAccepted}
+use Rattle.item_promises.specs.lisa_machine.Verdicts.{IsAccepted}
 use Rattle.item_layouts.specs.declared.place.ItemPlace.{ItemPlace}
 use Rattle.item_layouts.specs.Layouts.{item_places}
-use Rattle.activation_trees.specs.Unfolding.{occurrences}
+use Rattle.item_promises.specs.activation_trees.Unfolding.{occurrences}
 use Rattle.pipeline_time.specs.Sound.{IsSound}
 use Rattle.lisa_activation.specs.declared.kept.Queues.{Queues}
 use Rattle.lisa_activation.specs.Queued.{count}
 use Rattle.pipeline_runs.specs.declared.plan.Plan.{Plan}
 use Rattle.pipeline_runs.specs.Turns.{IsEquipped}
-use Rattle.lisa_meaning.specs.Moments.{Contents}
-use Rattle.lisa_meaning.specs.Cores.{core_of}
-use Rattle.lisa_meaning.specs.States.{layout_of, state_of}
+use Rattle.activation_plans.specs.lisa_meaning.Moments.{Contents}
+use Rattle.activation_plans.specs.lisa_meaning.Cores.{core_of}
+use Rattle.activation_plans.specs.lisa_meaning.States.{layout_of, state_of}
 use Rattle.pipeline_states.specs.Showing.{IsReached}
 
 -- a description that runs, with an image that fits its arrays

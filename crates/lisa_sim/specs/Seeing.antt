@@ -5,8 +5,8 @@ use Rattle.lisa_engine.specs.Memory.{Memory}
 use Rattle.pipeline_time.specs.Journal.{Log}
 use Rattle.pipeline_runs.specs.declared.seen.Seen.{Seen}
 use Rattle.pipeline_runs.specs.Seeing.{IsSeen}
-use Rattle.lisa_meaning.specs.Cores.{core_of}
-use Rattle.lisa_meaning.specs.States.{after_edges}
+use Rattle.activation_plans.specs.lisa_meaning.Cores.{core_of}
+use Rattle.activation_plans.specs.lisa_meaning.States.{after_edges}
 
 -- what is seen of the last of these edges, as the journal has it
 pub record IsLastSeen (d : DescriptionTree) (image : List Memory) (entries : List (List ℕ)) (seen : Seen) : Type 0 where

@@ -4,18 +4,18 @@ ghost use Rattle.std.specs.Prelude.{◌≡◌, ℕ, [], All, length, map, slice_
 ghost use Rattle.lisa_engine.specs.Touches.{IsPlaced, put_back};
 ghost use Rattle.machine_parts.specs.Parts.{arrays_of};
 ghost use Rattle.item_layouts.specs.Layouts.{ItemValues, value_at};
-ghost use Rattle.lisa_meaning.specs.Moments.{field_at};
-ghost use Rattle.lisa_meaning.specs.States.{first_contents};
-ghost use Rattle.moment_stores.specs.Changes.{with_cells};
-ghost use Rattle.scene_paths.specs.Lookups.{tree_of};
+ghost use Rattle.activation_plans.specs.lisa_meaning.Moments.{field_at};
+ghost use Rattle.activation_plans.specs.lisa_meaning.States.{first_contents};
+ghost use Rattle.behavior_runs.specs.moment_stores.Changes.{with_cells};
+ghost use Rattle.behavior_runs.specs.scene_paths.Lookups.{tree_of};
 ghost use Rattle.pipeline_states.specs.Putting.{IsPut};
 ghost use Rattle.lisa_sim.specs.Bodies.{lasting_of};
 ghost use Rattle.lisa_sim.specs.Holding.{CanHold};
 
 use crate::puts::put_items;
+use behavior_runs::Store;
 use item_layouts::ItemPlace;
 use lisa_engine::Touch;
-use moment_stores::Store;
 use occurrence_choices::Chooser;
 use std::marker::Model;
 
@@ -32,8 +32,8 @@ impl<'a> Model for Body<'a> {
     ghost use Rattle.lisa_tree.specs.contracts.descriptions.Act as act;
     ghost use Rattle.lisa_tree.specs.contracts.expressions.Expr as expression;
     ghost use Rattle.lisa_tree.specs.contracts.statements.Stmt as statement;
-    ghost use Rattle.moment_stores.specs.Stores.{description_of, image_of, local_count, local_room, moment_of, touches_of};
-    ghost use Rattle.scene_paths.specs.Lookups.{tree_of};
+    ghost use Rattle.behavior_runs.specs.moment_stores.Stores.{description_of, image_of, local_count, local_room, moment_of, touches_of};
+    ghost use Rattle.behavior_runs.specs.scene_paths.Lookups.{tree_of};
     ghost use Rattle.behavior_runs.specs.Rooms.{room_for};
     ghost use Rattle.lisa_sim.specs.Bodies.{Seen};
 

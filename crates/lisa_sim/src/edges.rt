@@ -3,14 +3,13 @@
 ghost use Rattle.std.specs.Prelude.{◌≡◌, ◌<◌, ◌≤◌, ◌+◌, ℕ, suc};
 ghost use Rattle.activation_bits.specs.Members.{has};
 ghost use Rattle.pipeline_time.specs.Edges.{is_held, is_flushed};
-ghost use Rattle.lisa_meaning.specs.Cores.{behave};
-ghost use Rattle.moment_stores.specs.Stores.{description_of, moment_of, local_count, local_room, Keeps};
-ghost use Rattle.scene_paths.specs.Lookups.{tree_of};
+ghost use Rattle.activation_plans.specs.lisa_meaning.Cores.{behave};
+ghost use Rattle.behavior_runs.specs.moment_stores.Stores.{description_of, moment_of, local_count, local_room, Keeps};
+ghost use Rattle.behavior_runs.specs.scene_paths.Lookups.{tree_of};
 ghost use Rattle.behavior_runs.specs.Rooms.{room_for};
 
 use crate::body::Body;
-use behavior_runs::{behave, fetch, holds};
-use moment_stores::Store;
+use behavior_runs::{Store, behave, fetch, holds};
 use occurrence_choices::Chooser;
 use pipeline_runs::{Behaves, with_stage};
 
@@ -56,9 +55,9 @@ fn see_and_behave(chooser: &mut Chooser<'_>, number: u32, word: u64, store: &mut
 impl<'a> Behaves for Body<'a> {
     ghost use Rattle.lisa_engine.specs.Shape.{IsFitting};
     ghost use Rattle.machine_parts.specs.Parts.{pins_of};
-    ghost use Rattle.scene_paths.specs.Lookups.{tree_of};
-    ghost use Rattle.lisa_meaning.specs.Moments.{Contents, Moment};
-    ghost use Rattle.lisa_meaning.specs.Cores.{core_of};
+    ghost use Rattle.behavior_runs.specs.scene_paths.Lookups.{tree_of};
+    ghost use Rattle.activation_plans.specs.lisa_meaning.Moments.{Contents, Moment};
+    ghost use Rattle.activation_plans.specs.lisa_meaning.Cores.{core_of};
     ghost use Rattle.lisa_sim.specs.Bodies as bodies;
     ghost use Rattle.lisa_sim.specs.Bodies.{kept_of, begun_of, lasting_of};
 

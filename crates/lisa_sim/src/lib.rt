@@ -9,5 +9,6 @@ mod runner;
 mod simulator;
 mod states;
 
+pub use item_promises::{Coding, Forms, sizes_are_limited};
 pub use pipeline_runs::Seen;
 pub use simulator::Simulator;

@@ -2,12 +2,12 @@
 
 ghost use Rattle.std.specs.Prelude.{◌≡◌, length, map};
 ghost use Rattle.item_layouts.specs.Layouts.{ItemValues, value_at};
-ghost use Rattle.moment_stores.specs.Stores.{description_of, local_count, memory_of, touches_of, KeepsMachine};
+ghost use Rattle.behavior_runs.specs.moment_stores.Stores.{description_of, local_count, memory_of, touches_of, KeepsMachine};
 ghost use Rattle.pipeline_states.specs.Putting.{IsPut};
 ghost use Rattle.lisa_sim.specs.Holding.{CanTake, CanHold, with_item};
 
+use behavior_runs::Store;
 use item_layouts::ItemPlace;
-use moment_stores::Store;
 
 // Puts a value into the register or field at a place.
 fn put_item(place: ItemPlace, value: u64, store: &mut Store<'_>)

@@ -7,25 +7,23 @@ ghost use Rattle.lisa_engine.specs.Shape.{IsFitting};
 ghost use Rattle.lisa_engine.specs.State.{cells_of};
 ghost use Rattle.lisa_engine.specs.Touches.{Tracks};
 ghost use Rattle.machine_parts.specs.Parts.{arrays_of, pins_of};
-ghost use Rattle.lisa_forms.specs.Parts.{AreFormsOf};
-ghost use Rattle.lisa_forms.specs.Verdicts.{HasForms};
-ghost use Rattle.lisa_forms.specs.Codings.{IsCodingOf};
-ghost use Rattle.scene_paths.specs.Lookups.{tree_of};
-ghost use Rattle.lisa_meaning.specs.States.{state_of};
+ghost use Rattle.item_promises.specs.lisa_forms.Parts.{AreFormsOf};
+ghost use Rattle.item_promises.specs.lisa_forms.Verdicts.{HasForms};
+ghost use Rattle.item_promises.specs.lisa_forms.Codings.{IsCodingOf};
+ghost use Rattle.behavior_runs.specs.scene_paths.Lookups.{tree_of};
+ghost use Rattle.activation_plans.specs.lisa_meaning.States.{state_of};
 ghost use Rattle.lisa_sim.specs.Runnings.{IsBefore};
 ghost use Rattle.lisa_sim.specs.Seeing.{IsLastSeen};
 
 use crate::body::Body;
 use crate::parts::{Parts, make_parts, make_pipeline};
 use crate::states::{restart, retreat};
-use item_layouts::ItemPlace;
-use item_promises::sizes_are_limited;
-use lisa_engine::{Image, MakeFault, Touch};
-use lisa_forms::{Coding, Forms};
-use lisa_machine::Machine;
-use lisa_meaning::laws::{
+use activation_plans::laws::{
     cores_are_sound, edges_have_items, items_show_all, trees_are_occurrences,
 };
+use item_layouts::ItemPlace;
+use item_promises::{Coding, Forms, Machine, sizes_are_limited};
+use lisa_engine::{Image, MakeFault, Touch};
 use pipeline_runs::{Pipeline, Plan, Seen};
 use pipeline_states::{all_is_shown, edges_are_shown};
 use std::alloc::Global;
@@ -44,7 +42,7 @@ impl<'a> Model for Runner<'a> {
     ghost use Rattle.lisa_tree.specs.contracts.descriptions.Act as act;
     ghost use Rattle.lisa_tree.specs.contracts.expressions.Expr as expression;
     ghost use Rattle.lisa_tree.specs.contracts.statements.Stmt as statement;
-    ghost use Rattle.scene_paths.specs.Lookups.{tree_of};
+    ghost use Rattle.behavior_runs.specs.scene_paths.Lookups.{tree_of};
     ghost use Rattle.pipeline_states.specs.Showing.{state_in};
     ghost use Rattle.lisa_sim.specs.Bodies.{lasting_of};
     ghost use Rattle.lisa_sim.specs.Runnings.{IsRunning, Running};

@@ -7,19 +7,17 @@ ghost use Rattle.lisa_engine.specs.Machines.{machine_of};
 ghost use Rattle.lisa_engine.specs.Shape.{IsFitting, IsShaped, AreEntries, HaveWidths, HaveDistinctNames};
 ghost use Rattle.lisa_engine.specs.Touches.{Tracks};
 ghost use Rattle.machine_parts.specs.Parts.{arrays_of, pins_of};
-ghost use Rattle.lisa_forms.specs.Parts.{AreFormsOf};
-ghost use Rattle.lisa_forms.specs.Verdicts.{HasForms};
-ghost use Rattle.lisa_forms.specs.Codings.{IsCodingOf};
-ghost use Rattle.scene_paths.specs.Lookups.{tree_of};
-ghost use Rattle.lisa_meaning.specs.States.{state_of};
+ghost use Rattle.item_promises.specs.lisa_forms.Parts.{AreFormsOf};
+ghost use Rattle.item_promises.specs.lisa_forms.Verdicts.{HasForms};
+ghost use Rattle.item_promises.specs.lisa_forms.Codings.{IsCodingOf};
+ghost use Rattle.behavior_runs.specs.scene_paths.Lookups.{tree_of};
+ghost use Rattle.activation_plans.specs.lisa_meaning.States.{state_of};
 ghost use Rattle.lisa_sim.specs.Seeing.{IsLastSeen};
 
 use crate::runner::Runner;
-use item_promises::{shown_names_differ, shown_widths_fit};
+use activation_plans::laws::states_are_shaped;
+use item_promises::{Coding, Forms, Machine, shown_names_differ, shown_widths_fit};
 use lisa_engine::{ArrayItem, Engine, Image, Item, MakeFault, Touch};
-use lisa_forms::{Coding, Forms};
-use lisa_machine::Machine;
-use lisa_meaning::laws::states_are_shaped;
 use pipeline_runs::Seen;
 use std::alloc::Global;
 

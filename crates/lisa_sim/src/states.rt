@@ -4,18 +4,18 @@ ghost use Rattle.std.specs.Prelude.{◌≡◌, ℕ, List, []};
 ghost use Rattle.pipeline_time.specs.Bits.{shown};
 ghost use Rattle.pipeline_runs.specs.Turns.{IsEquipped};
 ghost use Rattle.pipeline_runs.specs.Pipelines.{ShowsHardware};
-ghost use Rattle.scene_paths.specs.Lookups.{tree_of};
+ghost use Rattle.behavior_runs.specs.scene_paths.Lookups.{tree_of};
 ghost use Rattle.item_layouts.specs.Layouts.{item_places};
-ghost use Rattle.lisa_meaning.specs.Cores.{core_of};
-ghost use Rattle.lisa_meaning.specs.States.{after_edges, layout_of};
+ghost use Rattle.activation_plans.specs.lisa_meaning.Cores.{core_of};
+ghost use Rattle.activation_plans.specs.lisa_meaning.States.{after_edges, layout_of};
 ghost use Rattle.pipeline_states.specs.Showing.{IsReached};
 ghost use Rattle.lisa_sim.specs.Bodies.{lasting_of};
 ghost use Rattle.lisa_sim.specs.Runnings.{CanRun, IsBefore};
 
 use crate::body::Body;
+use activation_plans::laws::edges_have_items;
 use item_layouts::ItemPlace;
 use lisa_engine::Touch;
-use lisa_meaning::laws::edges_have_items;
 use pipeline_runs::{Pipeline, Plan};
 use pipeline_states::{Taken, items_are_taken, put_items_are_held};
 

@@ -8,11 +8,11 @@ use Rattle.asm_source.specs.Plain.{PlainToken}
 use Rattle.instruction_trees.specs.Trees.{Tree, Done, Pass, Value, Choose, Form, In, coding, Fits, IsBelow}
 use Rattle.instruction_trees.specs.Values.{values, filled, upto}
 use Rattle.instruction_trees.proofs.Numbering.{filled_values}
-use Rattle.coding_tables.specs.Codings.{coding_table}
-use Rattle.coding_tables.specs.Instructions.{forms_of, form_count}
+use Rattle.lisa_forms.specs.coding_tables.Codings.{coding_table}
+use Rattle.lisa_forms.specs.coding_tables.Instructions.{forms_of, form_count}
 use Rattle.pattern_tables.specs.Instructions.{form_at}
-use Rattle.form_patterns.specs.Filled.{IsInstruction}
-use Rattle.form_patterns.proofs.Filling.{nth, all_listed}
+use Rattle.lisa_forms.specs.form_patterns.Filled.{IsInstruction}
+use Rattle.lisa_forms.proofs.form_patterns_proofs.Filling.{nth, all_listed}
 use Rattle.instruction_texts.specs.declared.operands.Operand.{Operand}
 use Rattle.instruction_texts.specs.declared.shapes.Shape.{Shape}
 use Rattle.instruction_texts.specs.declared.shapes.Token.{Token}
@@ -26,7 +26,7 @@ use Rattle.instruction_texts.proofs.Reading.{matches_read}
 use Rattle.instruction_texts.proofs.Relabelled.{spelled_by}
 use Rattle.instruction_texts.proofs.TextLaws.{matched_plain, texts_match}
 use Rattle.instruction_texts.proofs.Valued.{tree_of_text}
-use Rattle.form_texts.specs.Syntaxes.{syntax_table}
+use Rattle.lisa_forms.specs.form_texts.Syntaxes.{syntax_table}
 use Rattle.text_tables.specs.Reading.{IsMatch}
 use Rattle.text_tables.specs.Shared.{shapes_at, IsShared}
 use Rattle.lisa_syntax.specs.declared.reading.LineFault.{LineFault}
@@ -37,7 +37,7 @@ use Rattle.lisa_syntax.specs.Lines.{all_shapes, all_orders, IsReading, IsLineFau
 use Rattle.lisa_syntax.specs.Orders.{IsNowhere, IsOrder, IsInOrder, order_at}
 use Rattle.lisa_syntax.specs.Parts.{IsSyntaxOf}
 use Rattle.lisa_syntax.specs.Trees.{Gives, IsReadAs, HasText, instruction_text}
-use Rattle.lisa_syntax.proofs.Forms.{fits}
+use Rattle.lisa_syntax.proofs.FormTexts.{fits}
 use Rattle.lisa_syntax.proofs.Instructed.{Chosen, chosen, is_readable, order_is_long, spelled, instruction_is, table_counted, listed, pieces_are, order_is}
 use Rattle.lisa_syntax.proofs.Ordering.{upto_long}
 use Rattle.lisa_syntax.proofs.Sharing.{texts, from_shared}

@@ -3,31 +3,31 @@ use Rattle.std.proofs.Common.{◌≡◌, ◌<◌, ◌+◌, ℕ, List, [], length
 use Rattle.std.proofs.lemmas.List.{append-nil}
 use Rattle.std.proofs.lemmas.Option.{slice_get-get_or}
 use Rattle.lisa_tree.specs.Descriptions.{DescriptionTree}
-use Rattle.lisa_machine.specs.Verdicts.{IsAccepted}
+use Rattle.lisa_forms.specs.lisa_machine.Verdicts.{IsAccepted}
 use Rattle.instruction_trees.specs.Trees.{Table, Tree, Done, Pass, Value, Choose, Form, Fits, IsBelow, AnyValue, In, coding, form}
 use Rattle.instruction_trees.specs.Values.{values, owns, inners, filled}
 use Rattle.instruction_trees.proofs.FormWords.{form_is}
 use Rattle.instruction_trees.proofs.Numbering.{filled_form, values_count}
 use Rattle.instruction_trees.proofs.Relabelled.{owns_relabel, inners_relabel}
-use Rattle.coding_tables.specs.Codings.{coding_table}
-use Rattle.coding_tables.specs.Instructions.{forms_of, form_count}
+use Rattle.lisa_forms.specs.coding_tables.Codings.{coding_table}
+use Rattle.lisa_forms.specs.coding_tables.Instructions.{forms_of, form_count}
 use Rattle.pattern_tables.specs.Instructions.{form_at}
 use Rattle.pattern_tables.proofs.Decoding.{place_in}
-use Rattle.form_patterns.specs.Filled.{IsInstruction}
-use Rattle.form_patterns.proofs.Filling.{nth, filled_with, its_values}
+use Rattle.lisa_forms.specs.form_patterns.Filled.{IsInstruction}
+use Rattle.lisa_forms.proofs.form_patterns_proofs.Filling.{nth, filled_with, its_values}
 use Rattle.instruction_texts.specs.declared.shapes.Shape.{Shape}
 use Rattle.instruction_texts.specs.Shapes.{Spells}
 use Rattle.instruction_texts.specs.Texts.{IsReadable, form_shape, order, text}
 use Rattle.instruction_texts.proofs.Relabelled.{spelled_by}
-use Rattle.form_texts.specs.Syntaxes.{syntax_table}
-use Rattle.form_texts.specs.Instructions.{instruction_shapes, instruction_order}
+use Rattle.lisa_forms.specs.form_texts.Syntaxes.{syntax_table}
+use Rattle.lisa_forms.specs.form_texts.Instructions.{instruction_shapes, instruction_order}
 use Rattle.text_tables.specs.Shared.{shapes_at}
 use Rattle.lisa_forms.specs.Verdicts.{HasForms}
 use Rattle.lisa_syntax.specs.declared.syntax.Syntax.{Syntax}
 use Rattle.lisa_syntax.specs.Orders.{order_at}
 use Rattle.lisa_syntax.specs.Parts.{IsSyntaxOf}
 use Rattle.lisa_syntax.specs.Trees.{AreFields, instruction_text}
-use Rattle.lisa_syntax.proofs.Forms.{fits, readable}
+use Rattle.lisa_syntax.proofs.FormTexts.{fits, readable}
 use Rattle.lisa_syntax.proofs.Numbers.{shown_inside}
 use Rattle.lisa_syntax.proofs.Ordering.{order_long}
 use Rattle.lisa_syntax.proofs.Sharing.{at_map, map_long}

@@ -7,12 +7,12 @@ use Rattle.lisa_tree.specs.declared.descriptions.Description.{Description}
 use Rattle.lisa_tree.specs.declared.faults.DescFault.{DescFault}
 use Rattle.lisa_tree.specs.declared.faults.DescFault.TheVariants as faults
 use Rattle.lisa_tree.specs.Descriptions.{description_tree}
-use Rattle.lisa_machine.specs.Verdicts.{IsAccepted}
-use Rattle.coding_tables.specs.Instructions.{forms_of, form_count}
+use Rattle.lisa_forms.specs.lisa_machine.Verdicts.{IsAccepted}
+use Rattle.lisa_forms.specs.coding_tables.Instructions.{forms_of, form_count}
 use Rattle.instruction_texts.specs.declared.shapes.Shape.{Shape}
 use Rattle.instruction_texts.specs.Shapes.{IsSized}
-use Rattle.form_texts.specs.Instructions.{AreTexts, instruction_shapes, instruction_order}
-use Rattle.form_texts.specs.declared.writing.FormTexts.{FormTexts}
+use Rattle.lisa_forms.specs.form_texts.Instructions.{AreTexts, instruction_shapes, instruction_order}
+use Rattle.lisa_forms.specs.form_texts.declared.writing.FormTexts.{FormTexts}
 use Rattle.text_tables.specs.Parts.{all_pieces}
 use Rattle.text_tables.specs.declared.shared.Shared.{Shared}
 use Rattle.text_tables.specs.Shared.{AnswersShared}

@@ -2,25 +2,25 @@
 use Rattle.std.proofs.Common.{◌≡◌, ◌⊎◌, ◌<◌, ℕ, zero, suc, List, None, map, refl, sym, ap, ◌∙◌, subst, arith, inl, inr}
 use Rattle.std.specs.Prelude.{◌↔◌}
 use Rattle.lisa_tree.specs.Descriptions.{DescriptionTree}
-use Rattle.lisa_machine.specs.Verdicts.{IsAccepted}
+use Rattle.lisa_forms.specs.lisa_machine.Verdicts.{IsAccepted}
 use Rattle.instruction_trees.specs.Trees.{Tree, Done, Pass, Value, Choose, Form, In}
 use Rattle.instruction_trees.specs.Values.{values, filled, upto}
 use Rattle.instruction_trees.proofs.Numbering.{filled_values}
-use Rattle.coding_tables.specs.Codings.{coding_table}
-use Rattle.coding_tables.specs.Instructions.{forms_of, form_count}
+use Rattle.lisa_forms.specs.coding_tables.Codings.{coding_table}
+use Rattle.lisa_forms.specs.coding_tables.Instructions.{forms_of, form_count}
 use Rattle.pattern_tables.specs.Instructions.{form_at}
 use Rattle.pattern_tables.proofs.Decoding.{place_in}
-use Rattle.form_patterns.specs.Filled.{IsInstruction}
-use Rattle.form_patterns.proofs.Filling.{nth, all_listed, one_instruction}
+use Rattle.lisa_forms.specs.form_patterns.Filled.{IsInstruction}
+use Rattle.lisa_forms.proofs.form_patterns_proofs.Filling.{nth, all_listed, one_instruction}
 use Rattle.instruction_texts.specs.declared.shapes.Token.{Token}
 use Rattle.instruction_texts.specs.Symbols.{symbols}
 use Rattle.instruction_texts.specs.Texts.{InRange, Writes, text}
 use Rattle.instruction_texts.proofs.Relabelled.{one_tree}
-use Rattle.form_texts.specs.Syntaxes.{syntax_table}
+use Rattle.lisa_forms.specs.form_texts.Syntaxes.{syntax_table}
 use Rattle.lisa_forms.specs.Verdicts.{HasForms}
 use Rattle.lisa_syntax.specs.Texts.{InstructionWrites, IsAmbiguityVerdict}
 use Rattle.lisa_syntax.specs.Trees.{instruction_text}
-use Rattle.lisa_syntax.proofs.Forms.{fits}
+use Rattle.lisa_syntax.proofs.FormTexts.{fits}
 use Rattle.lisa_syntax.proofs.Instructed.{Chosen, chosen, is_readable, instruction_is}
 use Rattle.lisa_syntax.proofs.Widths.{fits_range, written_fits}
 

@@ -3,14 +3,14 @@ use Rattle.std.proofs.Common.{◌≡◌, ◌<◌, ℕ, List, [], length, subst, 
 use Rattle.std.specs.Prelude.{◌↔◌}
 use Rattle.std.specs.List.{All}
 use Rattle.lisa_tree.specs.Descriptions.{DescriptionTree}
-use Rattle.lisa_machine.specs.Verdicts.{IsAccepted}
+use Rattle.lisa_forms.specs.lisa_machine.Verdicts.{IsAccepted}
 use Rattle.asm_source.specs.Plain.{PlainToken}
 use Rattle.instruction_trees.specs.Trees.{Tree, Done}
-use Rattle.coding_tables.specs.Instructions.{forms_of, form_count}
+use Rattle.lisa_forms.specs.coding_tables.Instructions.{forms_of, form_count}
 use Rattle.pattern_tables.specs.Instructions.{form_at}
 use Rattle.pattern_tables.proofs.Decoding.{place_in}
-use Rattle.form_patterns.specs.Filled.{IsInstruction}
-use Rattle.form_texts.specs.Instructions.{instruction_shapes}
+use Rattle.lisa_forms.specs.form_patterns.Filled.{IsInstruction}
+use Rattle.lisa_forms.specs.form_texts.Instructions.{instruction_shapes}
 use Rattle.instruction_texts.specs.declared.shapes.Shape.{Shape}
 use Rattle.instruction_texts.specs.Shapes.{IsText, IsSized}
 use Rattle.instruction_texts.specs.Lines.{Plain}
@@ -21,7 +21,7 @@ use Rattle.text_tables.specs.Shared.{shapes_at}
 use Rattle.lisa_forms.specs.Verdicts.{HasForms}
 use Rattle.lisa_syntax.specs.Lines.{all_shapes}
 use Rattle.lisa_syntax.specs.Operands.{IsLineOf}
-use Rattle.lisa_syntax.proofs.Forms.{writes_texts}
+use Rattle.lisa_syntax.proofs.FormTexts.{writes_texts}
 use Rattle.lisa_syntax.proofs.Instructed.{chosen}
 use Rattle.lisa_syntax.proofs.OneText.{IsWrittenBy, written_by}
 use Rattle.lisa_syntax.proofs.Operands.{is_text, lines_are_texts}

@@ -5,23 +5,23 @@ use Rattle.std.specs.List.{All}
 use Rattle.lisa_tree.specs.declared.faults.DescFault.{DescFault}
 use Rattle.lisa_tree.specs.declared.faults.DescFault.TheVariants as faults
 use Rattle.lisa_tree.specs.Descriptions.{DescriptionTree}
-use Rattle.lisa_machine.specs.Verdicts.{IsAccepted}
+use Rattle.lisa_forms.specs.lisa_machine.Verdicts.{IsAccepted}
 use Rattle.instruction_trees.specs.Trees.{Done, Pass, Value, Choose, Form, In}
-use Rattle.coding_tables.specs.Codings.{coding_table}
-use Rattle.coding_tables.specs.Instructions.{forms_of, form_count}
+use Rattle.lisa_forms.specs.coding_tables.Codings.{coding_table}
+use Rattle.lisa_forms.specs.coding_tables.Instructions.{forms_of, form_count}
 use Rattle.pattern_tables.specs.Instructions.{form_at}
 use Rattle.pattern_tables.proofs.Decoding.{place_in}
 use Rattle.instruction_texts.specs.declared.shapes.Shape.{Shape}
 use Rattle.instruction_texts.specs.declared.shapes.Token.{Token}
 use Rattle.instruction_texts.specs.Shapes.{IsText, IsSized}
 use Rattle.instruction_texts.specs.Texts.{form_symbols}
-use Rattle.form_texts.specs.Syntaxes.{syntax_table}
-use Rattle.form_texts.specs.Instructions.{instruction_shapes}
+use Rattle.lisa_forms.specs.form_texts.Syntaxes.{syntax_table}
+use Rattle.lisa_forms.specs.form_texts.Instructions.{instruction_shapes}
 use Rattle.text_tables.specs.declared.shared.Shared.{Shared}
 use Rattle.text_tables.specs.Shared.{shapes_at, IsShared, AnswersShared}
 use Rattle.lisa_forms.specs.Verdicts.{HasForms, form_name_at}
 use Rattle.lisa_syntax.specs.Texts.{InstructionWrites, IsAmbiguity, IsAmbiguityFault, IsAmbiguityVerdict}
-use Rattle.lisa_syntax.proofs.Forms.{fits, readable, writes_texts, form_short}
+use Rattle.lisa_syntax.proofs.FormTexts.{fits, readable, writes_texts, form_short}
 use Rattle.lisa_syntax.proofs.Numbers.{narrow_form, pieces_sized}
 
 pub at_map : {A B : Type 0} (f : A → B) (xs : List A) (k : ℕ) (x : A) (y : B) → k < length xs → slice_index_or (map f xs) k y ≡ f (slice_index_or xs k x)

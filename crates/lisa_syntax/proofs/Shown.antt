@@ -1,20 +1,20 @@
 -- The orders of fields in the texts of an accepted description's forms.
 use Rattle.std.proofs.Common.{◌+◌, List, [], map, sym, subst}
 use Rattle.lisa_tree.specs.Descriptions.{DescriptionTree}
-use Rattle.lisa_machine.specs.Verdicts.{IsAccepted}
+use Rattle.lisa_forms.specs.lisa_machine.Verdicts.{IsAccepted}
 use Rattle.instruction_trees.specs.Trees.{Done, Pass, Value, Choose, Form, In}
 use Rattle.instruction_trees.specs.Values.{owns, inners}
-use Rattle.coding_tables.specs.Codings.{coding_table}
-use Rattle.coding_tables.specs.Instructions.{forms_of}
+use Rattle.lisa_forms.specs.coding_tables.Codings.{coding_table}
+use Rattle.lisa_forms.specs.coding_tables.Instructions.{forms_of}
 use Rattle.pattern_tables.specs.Instructions.{form_at}
 use Rattle.pattern_tables.proofs.Decoding.{place_in}
 use Rattle.instruction_texts.specs.declared.shapes.Shape.{Shape}
 use Rattle.instruction_texts.specs.Texts.{form_symbols, order}
-use Rattle.form_texts.specs.Syntaxes.{syntax_table}
-use Rattle.form_texts.specs.Instructions.{instruction_shapes, instruction_order}
+use Rattle.lisa_forms.specs.form_texts.Syntaxes.{syntax_table}
+use Rattle.lisa_forms.specs.form_texts.Instructions.{instruction_shapes, instruction_order}
 use Rattle.lisa_forms.specs.Verdicts.{HasForms}
 use Rattle.lisa_syntax.specs.Orders.{IsOrderOf, AreOrdersOf, order_at}
-use Rattle.lisa_syntax.proofs.Forms.{fits, readable}
+use Rattle.lisa_syntax.proofs.FormTexts.{fits, readable}
 use Rattle.lisa_syntax.proofs.Numbers.{shown_inside}
 use Rattle.lisa_syntax.proofs.Ordering.{is_order, shown_count}
 use Rattle.lisa_syntax.proofs.Sharing.{texts, at_map, below_count}

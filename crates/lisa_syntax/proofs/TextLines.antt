@@ -9,21 +9,21 @@ use Rattle.lisa_tree.specs.declared.descriptions.SyntaxPart.{SyntaxPart}
 use Rattle.lisa_tree.specs.declared.descriptions.SyntaxPart.TheVariants as parts
 use Rattle.lisa_tree.specs.Descriptions.{DescriptionTree}
 use Rattle.lisa_tree.specs.Operations.{syntax_in, sections_at}
-use Rattle.spelled_promises.specs.Trees.{IsWellFormedPart}
-use Rattle.spelled_promises.proofs.Outer.{well_formed}
-use Rattle.spelled_promises.proofs.Found.{sections_formed, syntax_formed}
-use Rattle.lisa_machine.specs.Machines.{IsSpelled}
-use Rattle.lisa_machine.specs.Verdicts.{IsAccepted}
+use Rattle.lisa_forms.specs.spelled_promises.Trees.{IsWellFormedPart}
+use Rattle.lisa_forms.proofs.spelled_promises_proofs.Outer.{well_formed}
+use Rattle.lisa_forms.proofs.spelled_promises_proofs.Found.{sections_formed, syntax_formed}
+use Rattle.lisa_forms.specs.lisa_machine.Machines.{IsSpelled}
+use Rattle.lisa_forms.specs.lisa_machine.Verdicts.{IsAccepted}
 use Rattle.asm_source.specs.Plain.{Instruction}
 use Rattle.asm_source.specs.Parts.{line_of}
 use Rattle.instruction_trees.specs.Trees.{Tree, Done, Choose, Form, In}
 use Rattle.instruction_trees.specs.Values.{numbered, owns}
-use Rattle.coding_tables.specs.Codings.{coding_table}
-use Rattle.coding_tables.specs.Instructions.{forms_of}
-use Rattle.instruction_forms.specs.Described.{items_at}
+use Rattle.lisa_forms.specs.coding_tables.Codings.{coding_table}
+use Rattle.lisa_forms.specs.coding_tables.Instructions.{forms_of}
+use Rattle.lisa_forms.specs.instruction_forms.Described.{items_at}
 use Rattle.pattern_tables.proofs.Decoding.{place_in}
-use Rattle.form_patterns.specs.Filled.{IsInstruction}
-use Rattle.form_patterns.proofs.Filling.{nth}
+use Rattle.lisa_forms.specs.form_patterns.Filled.{IsInstruction}
+use Rattle.lisa_forms.proofs.form_patterns_proofs.Filling.{nth}
 use Rattle.instruction_texts.specs.declared.shapes.Shape.{Shape}
 use Rattle.instruction_texts.specs.declared.shapes.Token.{Token}
 use Rattle.instruction_texts.specs.Lines.{plain_token}
@@ -31,10 +31,10 @@ use Rattle.instruction_texts.specs.Shapes.{Spells}
 use Rattle.instruction_texts.specs.Symbols.{is_clean, has_pieces, is_dotted}
 use Rattle.instruction_texts.specs.Texts.{form_symbols, form_shape, order}
 use Rattle.instruction_texts.specs.Written.{text_bytes}
-use Rattle.form_texts.specs.Syntaxes.{content, element, elements_in, elements_at, syntax_from, syntax_table}
+use Rattle.lisa_forms.specs.form_texts.Syntaxes.{content, element, elements_in, elements_at, syntax_from, syntax_table}
 use Rattle.lisa_forms.specs.Verdicts.{HasForms}
 use Rattle.lisa_syntax.specs.Trees.{instruction_text}
-use Rattle.lisa_syntax.proofs.Forms.{good}
+use Rattle.lisa_syntax.proofs.FormTexts.{good}
 use Rattle.lisa_syntax.proofs.Instructed.{chosen, spelled}
 use Rattle.lisa_syntax.proofs.LineBytes.{text_line}
 use Rattle.lisa_syntax.proofs.Showing.{IsInStrings, IsOfStrings, MayStand, symbols_shown, shapes_stand, pieces_stand, text_undotted}

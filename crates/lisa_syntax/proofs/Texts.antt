@@ -7,9 +7,9 @@ use Rattle.std.proofs.lemmas.List.{map_push, take_more}
 use Rattle.std.proofs.lemmas.Option.{slice_get-get_or}
 use Rattle.lisa_tree.specs.Descriptions.{DescriptionTree}
 use Rattle.instruction_trees.specs.Trees.{Tree, Form, Choose, In}
-use Rattle.coding_tables.specs.Instructions.{forms_of}
-use Rattle.form_patterns.specs.Filled.{AreValuesOf, IsInstruction}
-use Rattle.form_patterns.proofs.Filling.{nth, instruction_of}
+use Rattle.lisa_forms.specs.coding_tables.Instructions.{forms_of}
+use Rattle.lisa_forms.specs.form_patterns.Filled.{AreValuesOf, IsInstruction}
+use Rattle.lisa_forms.proofs.form_patterns_proofs.Filling.{nth, instruction_of}
 use Rattle.instruction_texts.specs.declared.shapes.Shape.{Shape}
 use Rattle.instruction_texts.specs.declared.shapes.Shape.TheVariants.{Other, Literal, Unsigned, Signed}
 use Rattle.instruction_texts.specs.declared.shapes.Token.{Token}
@@ -18,7 +18,7 @@ use Rattle.instruction_texts.specs.Written.{Holds, text_bytes}
 use Rattle.instruction_texts.proofs.OneText.{text_is_one}
 use Rattle.instruction_texts.proofs.SpelledTexts.{first_sized, others_sized}
 use Rattle.instruction_texts.proofs.TextLaws.{spelled_held}
-use Rattle.form_texts.specs.Instructions.{instruction_shapes, instruction_order}
+use Rattle.lisa_forms.specs.form_texts.Instructions.{instruction_shapes, instruction_order}
 use Rattle.text_tables.specs.Shared.{shapes_at}
 use Rattle.lisa_syntax.specs.declared.syntax.Syntax.{Syntax}
 use Rattle.lisa_syntax.specs.Orders.{IsOrder, order_at}

@@ -4,7 +4,7 @@ use Rattle.instruction_trees.specs.Trees.{Table, Item, Fixed, Free, Field, Child
 use Rattle.instruction_trees.specs.Values.{values, numbered, owns, inners, filled}
 use Rattle.instruction_trees.proofs.FormWords.{read_is}
 use Rattle.instruction_trees.proofs.Numbering.{form_relabel}
-use Rattle.form_patterns.proofs.Filling.{nth, filled_with}
+use Rattle.lisa_forms.proofs.form_patterns_proofs.Filling.{nth, filled_with}
 use Rattle.instruction_texts.specs.Symbols.{Element, Sym, Byte, Gap, Shown, shown_values, sym_map, symbols, AreWide}
 use Rattle.instruction_texts.specs.Texts.{InRange, IsWritten, form_symbols}
 use Rattle.instruction_texts.proofs.Relabelled.{symbols_as}

@@ -4,3 +4,14 @@ pub mod Orders
 pub mod Lines
 pub mod Trees
 pub mod Operands
+pub mod activation_trees
+pub mod coding_checks
+pub mod coding_tables
+pub mod description_sizes
+pub mod form_patterns
+pub mod form_texts
+pub mod instruction_forms
+pub mod kind_checks
+pub mod lisa_forms
+pub mod lisa_machine
+pub mod machine_parts

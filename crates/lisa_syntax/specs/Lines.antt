@@ -2,8 +2,8 @@
 use Rattle.std.specs.Prelude.{◌≡◌, ℕ, List, map}
 use Rattle.lisa_tree.specs.Descriptions.{DescriptionTree}
 use Rattle.asm_source.specs.Plain.{PlainToken}
-use Rattle.coding_tables.specs.Instructions.{forms_of}
-use Rattle.form_texts.specs.Instructions.{instruction_shapes, instruction_order}
+use Rattle.lisa_forms.specs.coding_tables.Instructions.{forms_of}
+use Rattle.lisa_forms.specs.form_texts.Instructions.{instruction_shapes, instruction_order}
 use Rattle.instruction_texts.specs.declared.operands.Operand.{Operand}
 use Rattle.instruction_texts.specs.declared.shapes.Shape.{Shape}
 use Rattle.instruction_texts.specs.Lines.{Plain, given}

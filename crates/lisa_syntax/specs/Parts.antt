@@ -1,9 +1,9 @@
 -- What is kept of the texts of a description's instructions.
 use Rattle.std.specs.Prelude.{◌≡◌, None, map}
 use Rattle.lisa_tree.specs.Descriptions.{DescriptionTree}
-use Rattle.lisa_machine.specs.Verdicts.{IsAccepted}
-use Rattle.coding_tables.specs.Instructions.{forms_of}
-use Rattle.form_texts.specs.Instructions.{instruction_shapes, instruction_order}
+use Rattle.lisa_forms.specs.lisa_machine.Verdicts.{IsAccepted}
+use Rattle.lisa_forms.specs.coding_tables.Instructions.{forms_of}
+use Rattle.lisa_forms.specs.form_texts.Instructions.{instruction_shapes, instruction_order}
 use Rattle.lisa_forms.specs.Verdicts.{HasForms}
 use Rattle.lisa_syntax.specs.declared.syntax.Syntax.{Syntax}
 use Rattle.lisa_syntax.specs.Texts.{IsAmbiguityVerdict}

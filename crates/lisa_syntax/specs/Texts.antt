@@ -4,13 +4,13 @@ use Rattle.lisa_tree.specs.declared.faults.DescFault.{DescFault}
 use Rattle.lisa_tree.specs.declared.faults.DescFault.TheVariants as faults
 use Rattle.lisa_tree.specs.Descriptions.{DescriptionTree}
 use Rattle.instruction_trees.specs.Trees.{Form, Choose}
-use Rattle.coding_tables.specs.Codings.{coding_table}
-use Rattle.coding_tables.specs.Instructions.{forms_of, form_count}
+use Rattle.lisa_forms.specs.coding_tables.Codings.{coding_table}
+use Rattle.lisa_forms.specs.coding_tables.Instructions.{forms_of, form_count}
 use Rattle.pattern_tables.specs.Instructions.{form_at}
 use Rattle.instruction_texts.specs.declared.shapes.Token.{Token}
 use Rattle.instruction_texts.specs.Written.{text_bytes}
 use Rattle.instruction_texts.specs.Texts.{Writes}
-use Rattle.form_texts.specs.Syntaxes.{syntax_table}
+use Rattle.lisa_forms.specs.form_texts.Syntaxes.{syntax_table}
 use Rattle.lisa_forms.specs.Verdicts.{form_name_at}
 
 -- some tree of the form has this text

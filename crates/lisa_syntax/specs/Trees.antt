@@ -2,13 +2,13 @@
 use Rattle.std.specs.Prelude.{◌≡◌, ◌<◌, ℕ, List, [], length, map, Some, slice_get}
 use Rattle.lisa_tree.specs.Descriptions.{DescriptionTree}
 use Rattle.instruction_trees.specs.Trees.{Tree, Choose}
-use Rattle.coding_tables.specs.Codings.{coding_table}
-use Rattle.form_patterns.specs.Filled.{IsInstruction}
+use Rattle.lisa_forms.specs.coding_tables.Codings.{coding_table}
+use Rattle.lisa_forms.specs.form_patterns.Filled.{IsInstruction}
 use Rattle.instruction_texts.specs.declared.operands.Operand.{Operand}
 use Rattle.instruction_texts.specs.declared.shapes.Token.{Token}
 use Rattle.instruction_texts.specs.Lines.{Value, given}
 use Rattle.instruction_texts.specs.Texts.{text}
-use Rattle.form_texts.specs.Syntaxes.{syntax_table}
+use Rattle.lisa_forms.specs.form_texts.Syntaxes.{syntax_table}
 use Rattle.lisa_syntax.specs.declared.reading.Matched.{Matched}
 
 -- the text of an instruction is that of the operation that it chooses among all instructions, with its parts and values

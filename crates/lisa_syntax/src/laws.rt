@@ -3,14 +3,14 @@
 ghost use Rattle.std.specs.Prelude.{◌≡◌, ◌<◌, ◌↔◌, ℕ, List, [], None, Ok, map};
 ghost use Rattle.std.specs.List.{All};
 ghost use Rattle.lisa_tree.specs.Descriptions.{DescriptionTree};
-ghost use Rattle.lisa_machine.specs.Machines.{IsSpelled};
-ghost use Rattle.lisa_machine.specs.Verdicts.{IsAccepted};
+ghost use Rattle.lisa_forms.specs.lisa_machine.Machines.{IsSpelled};
+ghost use Rattle.lisa_forms.specs.lisa_machine.Verdicts.{IsAccepted};
 ghost use Rattle.asm_source.specs.Plain.{PlainToken, Instruction};
 ghost use Rattle.asm_source.specs.Parts.{line_of};
 ghost use Rattle.instruction_trees.specs.Trees.{Tree};
-ghost use Rattle.coding_tables.specs.Instructions.{forms_of, form_count};
+ghost use Rattle.lisa_forms.specs.coding_tables.Instructions.{forms_of, form_count};
 ghost use Rattle.pattern_tables.specs.Instructions.{form_at};
-ghost use Rattle.form_patterns.specs.Filled.{IsInstruction};
+ghost use Rattle.lisa_forms.specs.form_patterns.Filled.{IsInstruction};
 ghost use Rattle.instruction_texts.specs.declared.shapes.Shape.{Shape};
 ghost use Rattle.instruction_texts.specs.declared.shapes.Token.{Token};
 ghost use Rattle.instruction_texts.specs.Lines.{Plain, Matches, plain_token};

@@ -14,9 +14,7 @@ ghost use Rattle.lisa_syntax.specs.Parts.{IsSyntaxOf};
 
 use crate::parts::text_parts;
 use crate::syntax::Syntax;
-use form_texts::FormTexts;
-use lisa_forms::{Forms, form_name};
-use lisa_machine::Machine;
+use lisa_forms::{FormTexts, Forms, Machine, form_name};
 use lisa_tree::DescFault;
 use lisa_words::{Name, NoMemory};
 use std::alloc::Global;

@@ -2,12 +2,10 @@
 
 ghost use Rattle.std.specs.Prelude.{IfOk};
 ghost use Rattle.lisa_tree.specs.Descriptions.{description_tree};
-ghost use Rattle.instruction_forms.specs.Described.{AreForms};
-ghost use Rattle.form_texts.specs.Instructions.{AreTexts};
+ghost use Rattle.lisa_forms.specs.instruction_forms.Described.{AreForms};
+ghost use Rattle.lisa_forms.specs.form_texts.Instructions.{AreTexts};
 
-use description_tables::Tables;
-use form_texts::{FormTexts, texts};
-use instruction_forms::Form;
+use lisa_forms::{Form, FormTexts, Tables, texts};
 use lisa_tree::Description;
 use lisa_words::NoMemory;
 use std::alloc::Global;

@@ -3,7 +3,7 @@
 ghost use Rattle.std.specs.Prelude.{◌≡◌, ◌<◌, ℕ, List, Some, IfOk, IfErr, length, map, slice_get};
 ghost use Rattle.lisa_tree.specs.Descriptions.{DescriptionTree};
 ghost use Rattle.instruction_trees.specs.Trees.{Tree};
-ghost use Rattle.form_patterns.specs.Filled.{IsInstruction};
+ghost use Rattle.lisa_forms.specs.form_patterns.Filled.{IsInstruction};
 ghost use Rattle.asm_source.specs.Plain.{token_tree};
 ghost use Rattle.instruction_texts.specs.declared.shapes.Token.{Token};
 ghost use Rattle.instruction_texts.specs.Lines.{plain_token};

@@ -3,7 +3,7 @@
 ghost use Rattle.std.specs.Prelude.{◌≡◌, ℕ, List, IfOk, length, map};
 ghost use Rattle.lisa_tree.specs.Descriptions.{DescriptionTree};
 ghost use Rattle.instruction_trees.specs.Trees.{Tree};
-ghost use Rattle.form_patterns.specs.Filled.{AreValuesOf, IsInstruction};
+ghost use Rattle.lisa_forms.specs.form_patterns.Filled.{AreValuesOf, IsInstruction};
 ghost use Rattle.instruction_texts.specs.Written.{text_bytes};
 ghost use Rattle.lisa_syntax.specs.Orders.{IsOrder};
 ghost use Rattle.lisa_syntax.specs.Parts.{IsSyntaxOf};

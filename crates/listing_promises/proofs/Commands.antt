@@ -6,24 +6,24 @@ use Rattle.lisa_engine.specs.Memory.{Memory}
 use Rattle.lisa_engine.specs.Images.{missing_memory}
 use Rattle.lisa_machine.specs.Verdicts.{IsAccepted, Verdict, before}
 use Rattle.lisa_machine.specs.Machines.{IsSpelled}
-use Rattle.lisa_forms.specs.Verdicts.{HasForms}
-use Rattle.lisa_forms.specs.Coverage.{IsOverlapVerdict}
+use Rattle.lisa_syntax.specs.lisa_forms.Verdicts.{HasForms}
+use Rattle.lisa_syntax.specs.lisa_forms.Coverage.{IsOverlapVerdict}
 use Rattle.lisa_syntax.specs.Texts.{IsAmbiguityVerdict}
 use Rattle.lisa_object.specs.ObjectText.{object_text}
 use Rattle.lisa_object.specs.Rules.{IsStamped}
 use Rattle.lisa_object.specs.Texts.{image_text}
 use Rattle.lisa_object.specs.declared.parts.Stamped.{Stamped}
 use Rattle.lisa_assembler.specs.Memories.{memory_items}
-use Rattle.lisa_disasm.specs.Listings.{IsListing}
+use Rattle.assembler_commands.specs.lisa_disasm.Listings.{IsListing}
 use Rattle.description_digest.specs.Digests.{digest_of}
 use Rattle.lisa_outcomes.specs.declared.status.Refusal.{Refusal}
 use Rattle.lisa_outcomes.specs.Outcomes.{Outcome, Finished, After, passed}
 use Rattle.engine_commands.specs.Images.{IsMissing, memories_of}
-use Rattle.checked_descriptions.specs.Instructions.{from_ambiguities, from_aliases, HasInstructions}
-use Rattle.checked_descriptions.specs.Checked.{Checked, IsChecked, IsFaulty, AfterChecks}
-use Rattle.checked_descriptions.specs.Descriptions.{IsUnread}
-use Rattle.checked_descriptions.specs.DescriptionImages.{HasDigest, IsImageFor, IsNoImageFor}
-use Rattle.checked_descriptions.proofs.Listed.{sound_parts}
+use Rattle.assembler_commands.specs.checked_descriptions.Instructions.{from_ambiguities, from_aliases, HasInstructions}
+use Rattle.assembler_commands.specs.checked_descriptions.Checked.{Checked, IsChecked, IsFaulty, AfterChecks}
+use Rattle.assembler_commands.specs.checked_descriptions.Descriptions.{IsUnread}
+use Rattle.assembler_commands.specs.checked_descriptions.DescriptionImages.{HasDigest, IsImageFor, IsNoImageFor}
+use Rattle.assembler_commands.proofs.checked_descriptions_proofs.Listed.{sound_parts}
 use Rattle.assembler_commands.specs.Assembled.{GivesObject}
 use Rattle.assembler_commands.specs.Links.{stamped, GivesLink}
 use Rattle.assembler_commands.specs.Listed.{AreThere, IsListed, Lists, ListsChecked, GivesListing}

@@ -31,33 +31,33 @@ use Rattle.description_types.specs.Facts.{entry_value}
 use Rattle.description_types.specs.Kinds.{assignable_fact}
 use Rattle.description_types.specs.Steady.{assignables_steady}
 use Rattle.description_types.specs.Tables.{unfit}
-use Rattle.lisa_machine.specs.Assigning.{IsPlace as IsAssignable, register, element, declared}
-use Rattle.lisa_machine.specs.Freedom.{Stands, AllStand}
-use Rattle.lisa_machine.specs.Soundness.{IsSound}
-use Rattle.lisa_machine.proofs.Assigned.{written, child_yes, reference_yes, operation_yes}
-use Rattle.lisa_machine.proofs.Chosen.{plain_listed}
-use Rattle.lisa_machine.proofs.Named.{what_is}
-use Rattle.lisa_machine.proofs.Standing.{expression_stand}
-use Rattle.lisa_machine.proofs.Settling.{entry_is}
-use Rattle.description_sizes.specs.Texts.{levels}
+use Rattle.scene_paths.specs.lisa_machine.Assigning.{IsPlace as IsAssignable, register, element, declared}
+use Rattle.scene_paths.specs.lisa_machine.Freedom.{Stands, AllStand}
+use Rattle.scene_paths.specs.lisa_machine.Soundness.{IsSound}
+use Rattle.scene_paths.proofs.lisa_machine_proofs.Assigned.{written, child_yes, reference_yes, operation_yes}
+use Rattle.scene_paths.proofs.lisa_machine_proofs.Chosen.{plain_listed}
+use Rattle.scene_paths.proofs.lisa_machine_proofs.Named.{what_is}
+use Rattle.scene_paths.proofs.lisa_machine_proofs.Standing.{expression_stand}
+use Rattle.scene_paths.proofs.lisa_machine_proofs.Settling.{entry_is}
+use Rattle.scene_paths.specs.description_sizes.Texts.{levels}
 use Rattle.meant_declarations.specs.Meant.{MayMean, itself, higher}
-use Rattle.use_promises.specs.Using.{IsChildEntry, ChildrenMayRun}
-use Rattle.use_promises.proofs.Used.{reads_run, writes_run}
-use Rattle.use_promises.proofs.References.{definite}
-use Rattle.instruction_forms.specs.Trees.{FormTree}
+use Rattle.scene_paths.specs.use_promises.Using.{IsChildEntry, ChildrenMayRun}
+use Rattle.scene_paths.proofs.use_promises_proofs.Used.{reads_run, writes_run}
+use Rattle.scene_paths.proofs.use_promises_proofs.References.{definite}
+use Rattle.lowered_words.specs.instruction_forms.Trees.{FormTree}
 use Rattle.step_program.specs.Programs.{Program, Expr}
 use Rattle.step_program.specs.Effects as steps
 use Rattle.typed_values.specs.Words.{TypedWord}
-use Rattle.lisa_meaning.specs.Scenes.{Link, Scene, child_at_home}
-use Rattle.lisa_meaning.specs.Moments.{Moment, bare, with_locals}
-use Rattle.lisa_meaning.specs.Effects as effects
-use Rattle.lisa_meaning.specs.Effects.{PutBelow, doing, put_within}
-use Rattle.lisa_meaning.proofs.Above.{named_by}
-use Rattle.lisa_meaning.proofs.Paths as paths
-use Rattle.lisa_meaning.proofs.Paths.{Home, ranks}
-use Rattle.meaning_promises.specs.Running.{PartsStand}
-use Rattle.meaning_promises.proofs.Children.{as_path, is_path, home_parts, child_low, Child, child_there, apart}
-use Rattle.meaning_promises.proofs.Reading.{On, Within, enough}
+use Rattle.scene_paths.specs.lisa_meaning.Scenes.{Link, Scene, child_at_home}
+use Rattle.scene_paths.specs.lisa_meaning.Moments.{Moment, bare, with_locals}
+use Rattle.scene_paths.specs.lisa_meaning.Effects as effects
+use Rattle.scene_paths.specs.lisa_meaning.Effects.{PutBelow, doing, put_within}
+use Rattle.scene_paths.proofs.lisa_meaning_proofs.Above.{named_by}
+use Rattle.scene_paths.proofs.lisa_meaning_proofs.Paths as paths
+use Rattle.scene_paths.proofs.lisa_meaning_proofs.Paths.{Home, ranks}
+use Rattle.lowered_resources.specs.meaning_promises.Running.{PartsStand}
+use Rattle.lowered_resources.proofs.meaning_promises_proofs.Children.{as_path, is_path, home_parts, child_low, Child, child_there, apart}
+use Rattle.lowered_resources.proofs.meaning_promises_proofs.Reading.{On, Within, enough}
 use Rattle.step_pieces.specs.Pieces.{Piece}
 use Rattle.step_pieces.specs.Running.{ran}
 use Rattle.step_pieces.specs.Formed.{Lies}

@@ -4,10 +4,10 @@ use Rattle.std.specs.Prelude.{nat_lt}
 use Rattle.std.specs.List.{AllByRecursion}
 use Rattle.std.proofs.lemmas.Bool.{eq-eqb}
 use Rattle.lisa_tree.specs.declared.tokens.Shape.{Shape}
-use Rattle.instruction_forms.specs.Trees.{FormTree}
-use Rattle.lisa_meaning.specs.Scenes.{Link}
-use Rattle.meaning_promises.specs.Typing.{IsOfType}
-use Rattle.meaning_promises.proofs.Typed.{same_width}
+use Rattle.lowered_words.specs.instruction_forms.Trees.{FormTree}
+use Rattle.scene_paths.specs.lisa_meaning.Scenes.{Link}
+use Rattle.lowered_resources.specs.meaning_promises.Typing.{IsOfType}
+use Rattle.lowered_resources.proofs.meaning_promises_proofs.Typed.{same_width}
 use Rattle.step_program.specs.declared.expressions.OneOp.TheVariants.{Cut}
 use Rattle.step_program.specs.Programs.{Program, Expr, Const, Temp, One, ToTemp, Move}
 use Rattle.step_program.specs.Effects.{Moment, value, effect, taken, chosen}

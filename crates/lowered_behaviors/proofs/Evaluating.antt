@@ -30,40 +30,40 @@ use Rattle.description_types.specs.declared.values.TypeOf.TheVariants as types
 use Rattle.description_types.specs.Types.{Types, typed, meant_type, or_meant_type}
 use Rattle.description_places.specs.declared.scopes.Local.{Local}
 use Rattle.coded_names.specs.Codings.{field_width, is_coding}
-use Rattle.lisa_machine.specs.Freedom.{Stands, AllStand}
-use Rattle.lisa_machine.specs.Resolving.{Readable, reads_local, reads_word, reads_value}
-use Rattle.lisa_machine.specs.Soundness.{IsSound}
-use Rattle.lisa_machine.proofs.Named.{what_is}
-use Rattle.lisa_machine.proofs.Resolved.{readable}
-use Rattle.lisa_machine.proofs.Standing.{expression_stand}
+use Rattle.scene_paths.specs.lisa_machine.Freedom.{Stands, AllStand}
+use Rattle.scene_paths.specs.lisa_machine.Resolving.{Readable, reads_local, reads_word, reads_value}
+use Rattle.scene_paths.specs.lisa_machine.Soundness.{IsSound}
+use Rattle.scene_paths.proofs.lisa_machine_proofs.Named.{what_is}
+use Rattle.scene_paths.proofs.lisa_machine_proofs.Resolved.{readable}
+use Rattle.scene_paths.proofs.lisa_machine_proofs.Standing.{expression_stand}
 use Rattle.meant_declarations.specs.Meant.{MayMean}
-use Rattle.use_promises.specs.Meant.{ChoosesFrom}
-use Rattle.use_promises.specs.Valued.{IsField}
-use Rattle.use_promises.proofs.Given.{label_fielded}
-use Rattle.use_promises.proofs.References.{definite}
-use Rattle.use_promises.proofs.Used.{reads_run}
-use Rattle.instruction_forms.specs.Trees.{FormTree}
+use Rattle.scene_paths.specs.use_promises.Meant.{ChoosesFrom}
+use Rattle.scene_paths.specs.use_promises.Valued.{IsField}
+use Rattle.scene_paths.proofs.use_promises_proofs.Given.{label_fielded}
+use Rattle.scene_paths.proofs.use_promises_proofs.References.{definite}
+use Rattle.scene_paths.proofs.use_promises_proofs.Used.{reads_run}
+use Rattle.lowered_words.specs.instruction_forms.Trees.{FormTree}
 use Rattle.step_program.specs.Programs.{Program}
 use Rattle.step_program.specs.Effects as steps
 use Rattle.typed_values.specs.Words.{TypedWord, truth}
 use Rattle.typed_values.specs.Expressions.{value as expression_value}
 use Rattle.typed_values.specs.Laws.{IsFit, HasNumbers}
 use Rattle.typed_values.specs.ResetEffects.{local_or}
-use Rattle.lisa_forms.specs.Choosing.{numbered_form}
-use Rattle.lisa_meaning.specs.Scenes.{Link, Scene, declared, is_label, child_at_home, form_with}
-use Rattle.lisa_meaning.specs.Moments.{Moment, bare}
-use Rattle.lisa_meaning.specs.Values as meant
-use Rattle.lisa_meaning.specs.Values.{Below, label_value, value_below, declared_value, meant_value, reader}
-use Rattle.lisa_meaning.specs.Cores.{decodes}
-use Rattle.lisa_meaning.proofs.Above.{named_by, owner_is, name_is}
-use Rattle.lisa_meaning.proofs.Paths as paths
-use Rattle.lisa_meaning.proofs.Paths.{Home, ranks}
-use Rattle.meaning_promises.specs.Forms.{IsPartOf}
-use Rattle.meaning_promises.specs.Typing.{IsOfType, IsTypedBy, ReadsTyped}
-use Rattle.meaning_promises.specs.Scoping.{AreLocalsOf}
-use Rattle.meaning_promises.specs.Running.{PartsStand}
-use Rattle.meaning_promises.proofs.Children.{as_path, is_path, home_parts, child_low, Child, child_there, apart}
-use Rattle.meaning_promises.proofs.Reading.{On, Within, Expressed, expressed as child_expressed, reads_typed, values_typed}
+use Rattle.scene_paths.specs.lisa_forms.Choosing.{numbered_form}
+use Rattle.scene_paths.specs.lisa_meaning.Scenes.{Link, Scene, declared, is_label, child_at_home, form_with}
+use Rattle.scene_paths.specs.lisa_meaning.Moments.{Moment, bare}
+use Rattle.scene_paths.specs.lisa_meaning.Values as meant
+use Rattle.scene_paths.specs.lisa_meaning.Values.{Below, label_value, value_below, declared_value, meant_value, reader}
+use Rattle.scene_paths.specs.lisa_meaning.Cores.{decodes}
+use Rattle.scene_paths.proofs.lisa_meaning_proofs.Above.{named_by, owner_is, name_is}
+use Rattle.scene_paths.proofs.lisa_meaning_proofs.Paths as paths
+use Rattle.scene_paths.proofs.lisa_meaning_proofs.Paths.{Home, ranks}
+use Rattle.lowered_resources.specs.meaning_promises.Forms.{IsPartOf}
+use Rattle.lowered_resources.specs.meaning_promises.Typing.{IsOfType, IsTypedBy, ReadsTyped}
+use Rattle.lowered_resources.specs.meaning_promises.Scoping.{AreLocalsOf}
+use Rattle.lowered_resources.specs.meaning_promises.Running.{PartsStand}
+use Rattle.lowered_resources.proofs.meaning_promises_proofs.Children.{as_path, is_path, home_parts, child_low, Child, child_there, apart}
+use Rattle.lowered_resources.proofs.meaning_promises_proofs.Reading.{On, Within, Expressed, expressed as child_expressed, reads_typed, values_typed}
 use Rattle.step_pieces.specs.Pieces.{Piece, nothing, top}
 use Rattle.step_pieces.specs.Running.{ran, Rests, HasTemps}
 use Rattle.step_pieces.specs.Formed.{Lies}

@@ -5,16 +5,16 @@ use Rattle.lisa_tree.specs.Expressions.{ExprTree}
 use Rattle.description_places.specs.declared.sites.Region.{Region}
 use Rattle.description_places.specs.Scopes as places
 use Rattle.description_places.specs.Places.{uses}
-use Rattle.lisa_machine.specs.Freedom.{AllStand}
-use Rattle.description_sizes.specs.Texts.{levels}
+use Rattle.scene_paths.specs.lisa_machine.Freedom.{AllStand}
+use Rattle.scene_paths.specs.description_sizes.Texts.{levels}
 use Rattle.step_program.specs.Programs.{Program}
 use Rattle.step_program.specs.Effects as steps
 use Rattle.typed_values.specs.Laws.{HasNumbers}
-use Rattle.lisa_meaning.specs.Scenes.{Link, Scene}
-use Rattle.lisa_meaning.specs.Moments.{Moment}
-use Rattle.lisa_meaning.specs.Values.{value_of}
-use Rattle.meaning_promises.specs.Running.{IsPath, PartsStand, Runs}
-use Rattle.meaning_promises.proofs.Reading.{On, enough}
+use Rattle.scene_paths.specs.lisa_meaning.Scenes.{Link, Scene}
+use Rattle.scene_paths.specs.lisa_meaning.Moments.{Moment}
+use Rattle.scene_paths.specs.lisa_meaning.Values.{value_of}
+use Rattle.lowered_resources.specs.meaning_promises.Running.{IsPath, PartsStand, Runs}
+use Rattle.lowered_resources.proofs.meaning_promises_proofs.Reading.{On, enough}
 use Rattle.step_pieces.specs.Running.{ran, HasTemps}
 use Rattle.step_pieces.specs.Formed.{Lies}
 use Rattle.lowered_values.specs.Operands.{StandsFor}

@@ -6,3 +6,12 @@ pub mod Laws
 pub mod Settled
 pub mod Positions
 pub mod Code
+pub mod coding_checks
+pub mod coding_tables
+pub mod instruction_forms
+pub mod lisa_meaning
+pub mod lowered_statements
+pub mod lowered_words
+pub mod meaning_promises
+pub mod scene_paths
+pub mod typed_values

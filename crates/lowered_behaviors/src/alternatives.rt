@@ -2,7 +2,7 @@
 ghost use Rattle.std.specs.Prelude.{◌≡◌, map, position, slice_get};
 ghost use Rattle.std.specs.Option.{option_to_list};
 ghost use Rattle.lisa_tree.specs.Same.{same_name};
-ghost use Rattle.lisa_forms.specs.Choosing.{child_names, child_place};
+ghost use Rattle.scene_paths.specs.lisa_forms.Choosing.{child_names, child_place};
 ghost use Rattle.scene_paths.specs.Lookups.{tree_of};
 ghost use Rattle.lowered_behaviors.specs.Positions.{alternatives_in, below};
 

@@ -1,7 +1,7 @@
 //! Children as places.
 ghost use Rattle.std.specs.Prelude.{◌≡◌, suc, [], OnOk, option_map};
 ghost use Rattle.lisa_tree.specs.Expressions.{expr_tree};
-ghost use Rattle.description_sizes.specs.Texts.{levels};
+ghost use Rattle.scene_paths.specs.description_sizes.Texts.{levels};
 ghost use Rattle.scene_paths.specs.Lookups.{tree_of};
 ghost use Rattle.step_pieces.specs.Pieces.{nothing};
 ghost use Rattle.step_pieces.specs.Drafts.{leaf_tree};

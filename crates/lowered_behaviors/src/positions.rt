@@ -2,7 +2,7 @@
 ghost use Rattle.std.specs.Prelude.{◌≡◌, [], ◌∷◌, IfOk, MatchOption};
 ghost use Rattle.lisa_tree.specs.Descriptions.{DescriptionTree};
 ghost use Rattle.lisa_tree.specs.Declarations.{is_reference};
-ghost use Rattle.lisa_meaning.specs.Scenes.{declared};
+ghost use Rattle.scene_paths.specs.lisa_meaning.Scenes.{declared};
 ghost use Rattle.scene_paths.specs.Lookups.{tree_of};
 ghost use Rattle.lowered_words.specs.Code.{AreAt, words_tree};
 ghost use Rattle.lowered_behaviors.specs.Standpoints.{own_way, running};

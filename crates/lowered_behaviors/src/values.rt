@@ -2,8 +2,8 @@
 ghost use Rattle.std.specs.Prelude.{◌≡◌, ◌≤◌, suc, Some, IfOk, OnOk};
 ghost use Rattle.lisa_tree.specs.Expressions.{expr_tree};
 ghost use Rattle.lisa_tree.specs.declared.declared.Meaning.TheVariants.{Declared};
-ghost use Rattle.description_sizes.specs.Texts.{levels};
-ghost use Rattle.lisa_meaning.specs.Scenes.{declared, is_label};
+ghost use Rattle.scene_paths.specs.description_sizes.Texts.{levels};
+ghost use Rattle.scene_paths.specs.lisa_meaning.Scenes.{declared, is_label};
 ghost use Rattle.scene_paths.specs.Lookups.{tree_of};
 ghost use Rattle.lowered_values.specs.Code.{plain};
 ghost use Rattle.lowered_values.specs.Computed.{computed};

@@ -5,15 +5,15 @@ use Rattle.std.specs.Option.{option_and_then, option_map_or}
 use Rattle.std.proofs.lemmas.Bool.{both_ways}
 use Rattle.std.proofs.lemmas.Option.{same_Some, slice_get_cases}
 use Rattle.lisa_tree.specs.Descriptions.{DescriptionTree}
-use Rattle.lisa_machine.specs.Verdicts.{IsAccepted}
-use Rattle.lisa_forms.specs.Verdicts.{HasForms}
+use Rattle.activation_plans.specs.lisa_machine.Verdicts.{IsAccepted}
+use Rattle.activation_plans.specs.lisa_forms.Verdicts.{HasForms}
 use Rattle.description_types.specs.Types.{Types}
 use Rattle.lisa_tree.specs.Operations.{is_root}
-use Rattle.description_sizes.specs.Texts.{levels}
-use Rattle.lisa_machine.proofs.Forward.{onward, main_is}
-use Rattle.lisa_machine.proofs.Sound.{sound}
-use Rattle.activation_trees.specs.declared.parts.Occurrence.{Occurrence}
-use Rattle.activation_trees.specs.Unfolding.{occurrences}
+use Rattle.activation_plans.specs.description_sizes.Texts.{levels}
+use Rattle.activation_plans.proofs.lisa_machine_proofs.Forward.{onward, main_is}
+use Rattle.activation_plans.proofs.lisa_machine_proofs.Sound.{sound}
+use Rattle.activation_plans.specs.activation_trees.declared.parts.Occurrence.{Occurrence}
+use Rattle.activation_plans.specs.activation_trees.Unfolding.{occurrences}
 use Rattle.pipeline_time.specs.Acts.{size}
 use Rattle.pipeline_time.specs.Cores.{is_past}
 use Rattle.step_program.specs.Programs.{Program, Expr}
@@ -22,22 +22,22 @@ use Rattle.step_program.specs.Effects.{value}
 use Rattle.step_pieces.specs.Pieces.{always}
 use Rattle.step_pieces.specs.Running.{ran, IsLow}
 use Rattle.step_pieces.specs.Formed.{Lies}
-use Rattle.lisa_meaning.specs.Scenes.{has_word, instruction_with, scene_of}
-use Rattle.lisa_meaning.specs.Standings.{standing}
-use Rattle.lisa_meaning.specs.Cores.{core_of, is_root_at, chooses, behave}
-use Rattle.lisa_meaning.specs.Laws.{TreesAreOccurrences}
-use Rattle.lisa_meaning.specs.Moments.{Moment}
-use Rattle.lisa_meaning.proofs.Nodes.{listed, no_stage}
-use Rattle.lisa_meaning.proofs.Roots.{root_one}
-use Rattle.meaning_promises.specs.Running.{Runs}
-use Rattle.meaning_promises.proofs.Occurring.{occurrence_runs, one_root}
+use Rattle.activation_plans.specs.lisa_meaning.Scenes.{has_word, instruction_with, scene_of}
+use Rattle.activation_plans.specs.lisa_meaning.Standings.{standing}
+use Rattle.activation_plans.specs.lisa_meaning.Cores.{core_of, is_root_at, chooses, behave}
+use Rattle.activation_plans.specs.lisa_meaning.Laws.{TreesAreOccurrences}
+use Rattle.activation_plans.specs.lisa_meaning.Moments.{Moment}
+use Rattle.activation_plans.proofs.lisa_meaning_proofs.Nodes.{listed, no_stage}
+use Rattle.activation_plans.proofs.lisa_meaning_proofs.Roots.{root_one}
+use Rattle.lowered_behaviors.specs.meaning_promises.Running.{Runs}
+use Rattle.lowered_behaviors.proofs.meaning_promises_proofs.Occurring.{occurrence_runs, one_root}
 use Rattle.lowered_time.specs.Building.{time_temps}
 use Rattle.lowered_time.specs.Lowering as time
 use Rattle.lowered_time.specs.Lowering.{no_guard, held_guard, Agrees, RowHas, Does}
-use Rattle.lowered_statements.specs.Agreement.{IsGuard}
-use Rattle.lowered_resources.specs.Places.{ArePlaced}
-use Rattle.lowered_words.specs.Rows.{row_widths}
-use Rattle.lowered_words.proofs.Choices.{part_is}
+use Rattle.lowered_behaviors.specs.lowered_statements.Agreement.{IsGuard}
+use Rattle.lowered_layouts.specs.lowered_resources.Places.{ArePlaced}
+use Rattle.lowered_layouts.specs.lowered_words.Rows.{row_widths}
+use Rattle.lowered_layouts.proofs.lowered_words_proofs.Choices.{part_is}
 use Rattle.lowered_behaviors.specs.Laws.{IsGround}
 use Rattle.lowered_behaviors.proofs.Resting.{behavior_rests}
 use Rattle.lowered_behaviors.proofs.Doing.{behavior_does}

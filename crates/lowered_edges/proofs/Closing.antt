@@ -6,10 +6,10 @@ use Rattle.pipeline_time.specs.Edges.{is_held, is_flushed}
 use Rattle.step_program.specs.Programs.{Program}
 use Rattle.step_program.specs.Effects as steps
 use Rattle.step_pieces.specs.Running.{ran}
-use Rattle.lisa_meaning.specs.Cores.{core_of}
-use Rattle.lisa_meaning.specs.Moments.{Moment, close_moment}
-use Rattle.lisa_meaning.proofs.Stored.{closes}
-use Rattle.meaning_promises.proofs.Kept.{fitting, moment_stored}
+use Rattle.activation_plans.specs.lisa_meaning.Cores.{core_of}
+use Rattle.activation_plans.specs.lisa_meaning.Moments.{Moment, close_moment}
+use Rattle.activation_plans.proofs.lisa_meaning_proofs.Stored.{closes}
+use Rattle.lowered_behaviors.proofs.meaning_promises_proofs.Kept.{fitting, moment_stored}
 use Rattle.lowered_time.specs.Building.{held_at, open_at}
 use Rattle.lowered_time.specs.Lowering.{bit, Agrees, Lasts, Keeps}
 use Rattle.lowered_layouts.specs.Ends.{ends}

@@ -15,13 +15,13 @@ use Rattle.lisa_tree.specs.Meanings.{meaning, meaning_of}
 use Rattle.lisa_tree.specs.Resources.{resource_at}
 use Rattle.lisa_tree.specs.Operations.{sections_at, coding_in}
 use Rattle.description_types.specs.Types.{Types}
-use Rattle.lisa_machine.specs.Codings.{FitsWord, FitsCoding, IsScalar}
-use Rattle.lisa_machine.proofs.Fitting.{coding_fits}
-use Rattle.lisa_machine.proofs.Standing.{coding_stand}
-use Rattle.lisa_machine.proofs.Sound.{sound}
-use Rattle.coding_tables.specs.Instructions.{Root, root, root_group, root_from, first_root, choice_of_root, instruction_choice}
-use Rattle.coding_checks.specs.Widths.{choice_named}
-use Rattle.instruction_forms.specs.Widths.{HasWidth}
+use Rattle.activation_plans.specs.lisa_machine.Codings.{FitsWord, FitsCoding, IsScalar}
+use Rattle.activation_plans.proofs.lisa_machine_proofs.Fitting.{coding_fits}
+use Rattle.activation_plans.proofs.lisa_machine_proofs.Standing.{coding_stand}
+use Rattle.activation_plans.proofs.lisa_machine_proofs.Sound.{sound}
+use Rattle.lowered_behaviors.specs.coding_tables.Instructions.{Root, root, root_group, root_from, first_root, choice_of_root, instruction_choice}
+use Rattle.lowered_behaviors.specs.coding_checks.Widths.{choice_named}
+use Rattle.lowered_behaviors.specs.instruction_forms.Widths.{HasWidth}
 use Rattle.step_program.specs.Programs.{Program}
 use Rattle.step_program.specs.Effects as steps
 use Rattle.step_program.specs.Effects.{value}
@@ -31,22 +31,22 @@ use Rattle.step_pieces.specs.Formed.{Lies}
 use Rattle.step_pieces.proofs.Rested.{rests_none}
 use Rattle.typed_values.specs.Effects.{Locals}
 use Rattle.typed_values.specs.Laws as typed
-use Rattle.lisa_meaning.specs.Cores.{core_of, root_place, root_scene, place_value, fetched, fetch}
-use Rattle.lisa_meaning.specs.Moments.{Moment, bare}
-use Rattle.lisa_meaning.specs.Scenes.{at_path}
-use Rattle.lisa_meaning.specs.Values.{value_of, value_within}
-use Rattle.description_sizes.specs.Texts.{levels}
-use Rattle.meaning_promises.specs.Fitting.{ReadingsFit, IsWordPlace}
-use Rattle.meaning_promises.proofs.RootWords.{fetched_low}
+use Rattle.activation_plans.specs.lisa_meaning.Cores.{core_of, root_place, root_scene, place_value, fetched, fetch}
+use Rattle.activation_plans.specs.lisa_meaning.Moments.{Moment, bare}
+use Rattle.activation_plans.specs.lisa_meaning.Scenes.{at_path}
+use Rattle.activation_plans.specs.lisa_meaning.Values.{value_of, value_within}
+use Rattle.activation_plans.specs.description_sizes.Texts.{levels}
+use Rattle.lowered_behaviors.specs.meaning_promises.Fitting.{ReadingsFit, IsWordPlace}
+use Rattle.lowered_behaviors.proofs.meaning_promises_proofs.RootWords.{fetched_low}
 use Rattle.lowered_time.specs.Building.{time_temps}
 use Rattle.lowered_time.specs.Lowering.{Agrees, HasRowWord, IsWordOf, Leaves}
 use Rattle.lowered_values.specs.Operands.{StandsFor}
 use Rattle.lowered_values.specs.Templates.{fitted}
 use Rattle.lowered_values.specs.Sources as cells
 use Rattle.lowered_values.proofs.Operating.{index_value}
-use Rattle.lowered_resources.specs.Laws.{ReadResources}
-use Rattle.lowered_resources.proofs.Holding.{holds_locals}
-use Rattle.lowered_resources.proofs.Reading.{read}
+use Rattle.lowered_layouts.specs.lowered_resources.Laws.{ReadResources}
+use Rattle.lowered_layouts.proofs.lowered_resources_proofs.Holding.{holds_locals}
+use Rattle.lowered_layouts.proofs.lowered_resources_proofs.Reading.{read}
 use Rattle.lowered_layouts.specs.Temps.{rows_at, lasting_widths}
 use Rattle.lowered_layouts.specs.Items.{time_layout, places_of}
 use Rattle.lowered_edges.specs.Parts.{operations, no_names, word_read, fetched_from, fetch_at}

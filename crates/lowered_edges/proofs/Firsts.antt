@@ -8,12 +8,12 @@ use Rattle.lisa_engine.specs.State as engine
 use Rattle.description_types.specs.Types.{Types}
 use Rattle.machine_parts.specs.Parts.{arrays_of, registers_of, first_values}
 use Rattle.machine_parts.proofs.Lengths.{registers_counted}
-use Rattle.activation_trees.specs.Unfolding.{occurrences}
-use Rattle.activation_trees.specs.Items.{items_behind}
+use Rattle.activation_plans.specs.activation_trees.Unfolding.{occurrences}
+use Rattle.activation_plans.specs.activation_trees.Items.{items_behind}
 use Rattle.pipeline_time.specs.Bits.{Hardware, first_hardware}
-use Rattle.lisa_meaning.specs.Cores.{core_of}
-use Rattle.lisa_meaning.specs.Moments.{Contents}
-use Rattle.lisa_meaning.specs.States.{first_contents, shown_state}
+use Rattle.activation_plans.specs.lisa_meaning.Cores.{core_of}
+use Rattle.activation_plans.specs.lisa_meaning.Moments.{Contents}
+use Rattle.activation_plans.specs.lisa_meaning.States.{first_contents, shown_state}
 use Rattle.lowered_time.specs.Lowering.{IsTimes, a_bit, a_word}
 use Rattle.lowered_layouts.specs.Items.{field_place, time_layout, IsArranged}
 use Rattle.lowered_layouts.specs.States.{HasHardware}

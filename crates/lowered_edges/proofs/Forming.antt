@@ -8,17 +8,17 @@ use Rattle.lisa_tree.specs.Descriptions.{CodingTree, DescriptionTree}
 use Rattle.lisa_tree.specs.Operations.{sections_at, activation_in}
 use Rattle.description_places.specs.declared.sites.Region.TheVariants as regions
 use Rattle.description_places.specs.Places.{uses}
-use Rattle.lisa_machine.specs.Freedom.{AllStand}
-use Rattle.description_sizes.specs.Texts.{levels}
+use Rattle.activation_plans.specs.lisa_machine.Freedom.{AllStand}
+use Rattle.activation_plans.specs.description_sizes.Texts.{levels}
 use Rattle.description_types.specs.Types.{Types}
-use Rattle.coding_tables.specs.Instructions.{Root, first_root}
+use Rattle.lowered_behaviors.specs.coding_tables.Instructions.{Root, first_root}
 use Rattle.step_program.specs.Programs.{Program, Expr, Const, Temp}
 use Rattle.step_program.specs.WellFormed.{IsWidth}
 use Rattle.step_pieces.specs.Pieces.{Piece, nothing, held, always, top}
 use Rattle.step_pieces.specs.Formed.{Lies, IsPiece}
 use Rattle.step_pieces.proofs.Laid.{lies_left, lies_right, lies_one, nothing_formed, held_formed}
-use Rattle.lisa_meaning.specs.Cores.{core_of, conditions_in, condition, root_place}
-use Rattle.meaning_promises.specs.Fitting.{IsWordPlace}
+use Rattle.activation_plans.specs.lisa_meaning.Cores.{core_of, conditions_in, condition, root_place}
+use Rattle.lowered_behaviors.specs.meaning_promises.Fitting.{IsWordPlace}
 use Rattle.lowered_time.specs.Pieces.{Made}
 use Rattle.lowered_time.specs.Building.{time_temps}
 use Rattle.lowered_time.specs.Lowering as time
@@ -27,13 +27,13 @@ use Rattle.lowered_values.specs.Templates.{picked, fitted}
 use Rattle.lowered_values.specs.Sources.{bare}
 use Rattle.lowered_values.specs.Computed.{IsComputed}
 use Rattle.lowered_values.proofs.Forming.{operand_good, const_good, good_up, fitted_good, picked_good}
-use Rattle.lowered_resources.specs.Places.{Lasting, Stall, Flush, Has, lasting_width}
-use Rattle.lowered_resources.specs.Laws.{FormResources}
-use Rattle.lowered_resources.proofs.Forming.{formed}
-use Rattle.lowered_words.specs.Laws.{AreLeaves}
-use Rattle.lowered_words.specs.Loading.{load}
-use Rattle.lowered_words.proofs.Leaving.{load_formed, row_temps}
-use Rattle.lowered_words.proofs.Telling.{row_leaves}
+use Rattle.lowered_layouts.specs.lowered_resources.Places.{Lasting, Stall, Flush, Has, lasting_width}
+use Rattle.lowered_layouts.specs.lowered_resources.Laws.{FormResources}
+use Rattle.lowered_layouts.proofs.lowered_resources_proofs.Forming.{formed}
+use Rattle.lowered_layouts.specs.lowered_words.Laws.{AreLeaves}
+use Rattle.lowered_layouts.specs.lowered_words.Loading.{load}
+use Rattle.lowered_layouts.proofs.lowered_words_proofs.Leaving.{load_formed, row_temps}
+use Rattle.lowered_layouts.proofs.lowered_words_proofs.Telling.{row_leaves}
 use Rattle.lowered_behaviors.proofs.Evaluating.{absent_operand}
 use Rattle.lowered_behaviors.proofs.Forming.{value_formed}
 use Rattle.lowered_behaviors.proofs.Doing.{behavior_formed}

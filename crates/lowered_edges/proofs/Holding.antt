@@ -10,8 +10,8 @@ use Rattle.step_pieces.specs.Running.{ran, Rests, HasTemps}
 use Rattle.step_pieces.specs.Formed.{Lies}
 use Rattle.step_pieces.proofs.Laid.{lies_right, lies_one}
 use Rattle.step_pieces.proofs.Rested.{rests_on, ran_append, set_value, set_rests}
-use Rattle.lisa_meaning.specs.Cores.{core_of}
-use Rattle.lisa_meaning.specs.Moments.{Moment}
+use Rattle.activation_plans.specs.lisa_meaning.Cores.{core_of}
+use Rattle.activation_plans.specs.lisa_meaning.Moments.{Moment}
 use Rattle.lowered_time.specs.Lowering.{Agrees, HasRowWord, Keeps}
 use Rattle.lowered_layouts.specs.Temps.{lasting_widths}
 use Rattle.lowered_layouts.specs.Items.{time_layout}

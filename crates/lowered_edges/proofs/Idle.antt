@@ -8,12 +8,12 @@ use Rattle.lisa_tree.specs.Descriptions.{DescriptionTree}
 use Rattle.lisa_tree.specs.Operations.{sections_at, behavior_in, is_root}
 use Rattle.lisa_tree.specs.Paths.{node_count}
 use Rattle.description_types.specs.Types.{Types}
-use Rattle.activation_trees.specs.declared.parts.Occurrence.{Occurrence}
-use Rattle.activation_trees.specs.Unfolding.{occurrences}
-use Rattle.lisa_meaning.specs.Cores.{is_root_at}
+use Rattle.activation_plans.specs.activation_trees.declared.parts.Occurrence.{Occurrence}
+use Rattle.activation_plans.specs.activation_trees.Unfolding.{occurrences}
+use Rattle.activation_plans.specs.lisa_meaning.Cores.{is_root_at}
 use Rattle.step_program.specs.Programs.{Expr}
 use Rattle.lowered_time.specs.Pieces.{nothing}
-use Rattle.lowered_statements.specs.Ways.{Ways}
+use Rattle.lowered_behaviors.specs.lowered_statements.Ways.{Ways}
 use Rattle.lowered_behaviors.specs.Standpoints.{running}
 use Rattle.lowered_behaviors.specs.Behaviors.{ways_at, behavior_within, body_of}
 use Rattle.lowered_edges.specs.Parts.{is_empty, is_idle, idle_at, standpoint_of, ground_at, behavior_of}

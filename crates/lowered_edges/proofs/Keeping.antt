@@ -3,7 +3,7 @@ use Rattle.std.proofs.Common.{◌≤◌, ℕ, length, arith}
 use Rattle.lisa_tree.specs.Descriptions.{DescriptionTree}
 use Rattle.step_program.specs.Programs.{Program}
 use Rattle.step_program.specs.Effects as steps
-use Rattle.lisa_meaning.specs.Cores.{core_of}
+use Rattle.activation_plans.specs.lisa_meaning.Cores.{core_of}
 use Rattle.lowered_time.specs.Building.{time_temps}
 use Rattle.lowered_time.specs.Lowering.{Keeps, HasRowWord}
 use Rattle.lowered_behaviors.specs.Laws.{KeepsElse}

@@ -21,3 +21,5 @@ pub mod Lining
 pub mod Copying
 pub mod Worded
 pub mod Parting
+pub mod lowered_behaviors_proofs
+pub mod lowered_layouts_proofs

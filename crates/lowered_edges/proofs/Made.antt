@@ -3,18 +3,18 @@ use Rattle.std.proofs.Common.{◌≡◌, ◌<◌, ◌≤◌, ◌+◌, ◌++◌, 
 use Rattle.std.proofs.lemmas.List.{length-append, get_or_append_left, get_or-append-add}
 use Rattle.lisa_tree.specs.Descriptions.{DescriptionTree}
 use Rattle.description_types.specs.Types.{Types}
-use Rattle.lisa_machine.proofs.Sound.{sound}
-use Rattle.lisa_machine.proofs.Forward.{onward, main_is}
-use Rattle.instruction_forms.specs.Widths.{HasWidth}
+use Rattle.activation_plans.proofs.lisa_machine_proofs.Sound.{sound}
+use Rattle.activation_plans.proofs.lisa_machine_proofs.Forward.{onward, main_is}
+use Rattle.lowered_behaviors.specs.instruction_forms.Widths.{HasWidth}
 use Rattle.pipeline_time.proofs.Tree.{level_within}
 use Rattle.step_pieces.specs.Formed.{Lies}
-use Rattle.lisa_meaning.specs.Cores.{core_of}
-use Rattle.lisa_meaning.proofs.Back.{controls_back}
-use Rattle.lisa_meaning.proofs.Nodes.{listed, no_stage}
-use Rattle.lisa_meaning.proofs.Sounds.{sound_by}
+use Rattle.activation_plans.specs.lisa_meaning.Cores.{core_of}
+use Rattle.activation_plans.proofs.lisa_meaning_proofs.Back.{controls_back}
+use Rattle.activation_plans.proofs.lisa_meaning_proofs.Nodes.{listed, no_stage}
+use Rattle.activation_plans.proofs.lisa_meaning_proofs.Sounds.{sound_by}
 use Rattle.lowered_time.specs.Lowering.{AreLowered}
 use Rattle.lowered_time.specs.Laws.{MakesEdges}
-use Rattle.lowered_words.specs.Rows.{IsWordWidth}
+use Rattle.lowered_layouts.specs.lowered_words.Rows.{IsWordWidth}
 use Rattle.lowered_layouts.specs.Temps.{lasting_widths}
 use Rattle.lowered_layouts.specs.Items.{time_layout, IsArranged}
 use Rattle.lowered_layouts.proofs.Laying.{laid_out}

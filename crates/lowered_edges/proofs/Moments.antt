@@ -14,14 +14,14 @@ use Rattle.item_layouts.specs.declared.place.ItemPlace.TheVariants.{Register, Wo
 use Rattle.pipeline_time.specs.Edges.{is_flushed}
 use Rattle.step_program.specs.Programs.{Program}
 use Rattle.step_program.specs.Effects as steps
-use Rattle.lisa_meaning.specs.Cores.{core_of}
-use Rattle.lisa_meaning.specs.Moments.{Contents, Moment, begin_moment}
+use Rattle.activation_plans.specs.lisa_meaning.Cores.{core_of}
+use Rattle.activation_plans.specs.lisa_meaning.Moments.{Contents, Moment, begin_moment}
 use Rattle.lowered_time.specs.Building.{time_temps}
 use Rattle.lowered_time.specs.Lowering.{bit, IsTimes, a_bit, a_word, IsUnseen, Agrees, HasRowWord, IsWordOf, Lasts, IsEntry}
-use Rattle.lowered_resources.specs.Places.{Lasting, Written, Out, Stall, Flush, Has}
-use Rattle.lowered_words.specs.Ways.{all_ways}
-use Rattle.lowered_words.specs.Rows.{row_size}
-use Rattle.lowered_words.proofs.Telling.{row_lasts}
+use Rattle.lowered_layouts.specs.lowered_resources.Places.{Lasting, Written, Out, Stall, Flush, Has}
+use Rattle.lowered_layouts.specs.lowered_words.Ways.{all_ways}
+use Rattle.lowered_layouts.specs.lowered_words.Rows.{row_size}
+use Rattle.lowered_layouts.proofs.lowered_words_proofs.Telling.{row_lasts}
 use Rattle.lowered_layouts.specs.Temps.{temp, rows_at, row_base, row_count, lasting_widths}
 use Rattle.lowered_layouts.specs.Items.{time_layout}
 use Rattle.lowered_layouts.proofs.Blocks.{in_block}

@@ -7,9 +7,9 @@ use Rattle.lisa_tree.specs.Expressions.{ExprTree}
 use Rattle.lisa_tree.specs.Descriptions.{DescriptionTree}
 use Rattle.lisa_tree.specs.Operations.{sections_at, coding_in}
 use Rattle.description_types.specs.Types.{Types}
-use Rattle.description_sizes.specs.Texts.{levels}
-use Rattle.coding_tables.specs.Instructions.{Root, first_root}
-use Rattle.lisa_meaning.specs.Cores.{condition, core_of, root_place}
+use Rattle.activation_plans.specs.description_sizes.Texts.{levels}
+use Rattle.lowered_behaviors.specs.coding_tables.Instructions.{Root, first_root}
+use Rattle.activation_plans.specs.lisa_meaning.Cores.{condition, core_of, root_place}
 use Rattle.step_program.specs.Programs.{Expr, Const, Temp}
 use Rattle.step_pieces.specs.declared.leaves.Leaf.{Leaf}
 use Rattle.step_pieces.specs.declared.drafts.Draft.{Draft}
@@ -24,11 +24,11 @@ use Rattle.lowered_values.proofs.Drafting.{held_draft}
 use Rattle.lowered_time.specs.Pieces.{Maker}
 use Rattle.lowered_time.specs.Building.{Operations, Layout, edge}
 use Rattle.lowered_time.specs.Code.{Makes}
-use Rattle.lowered_statements.specs.Scopes.{Scope}
-use Rattle.lowered_resources.specs.Places.{Stall, Flush}
-use Rattle.lowered_resources.specs.Reading.{Known, absent, sources}
-use Rattle.lowered_words.specs.Rows.{decoded_at, chosen_flag}
-use Rattle.lowered_words.specs.Loading.{load}
+use Rattle.lowered_behaviors.specs.lowered_statements.Scopes.{Scope}
+use Rattle.lowered_layouts.specs.lowered_resources.Places.{Stall, Flush}
+use Rattle.lowered_layouts.specs.lowered_resources.Reading.{Known, absent, sources}
+use Rattle.lowered_layouts.specs.lowered_words.Rows.{decoded_at, chosen_flag}
+use Rattle.lowered_layouts.specs.lowered_words.Loading.{load}
 use Rattle.lowered_behaviors.specs.declared.positions.Position.{Position}
 use Rattle.lowered_behaviors.specs.Standpoints.{Standpoint}
 use Rattle.lowered_behaviors.specs.Values.{Ground, value_within}

@@ -4,8 +4,8 @@ use Rattle.std.specs.Prelude.{slice_get}
 use Rattle.std.specs.Option.{option_map, unwrap_or}
 use Rattle.std.proofs.lemmas.Bool.{both_ways}
 use Rattle.lisa_tree.specs.Descriptions.{DescriptionTree}
-use Rattle.activation_trees.specs.declared.parts.Occurrence.{Occurrence}
-use Rattle.activation_trees.specs.Unfolding.{occurrences}
+use Rattle.activation_plans.specs.activation_trees.declared.parts.Occurrence.{Occurrence}
+use Rattle.activation_plans.specs.activation_trees.Unfolding.{occurrences}
 use Rattle.pipeline_time.specs.Acts.{Node, size}
 use Rattle.pipeline_time.specs.Cores.{is_past, node_of}
 use Rattle.step_program.specs.Programs.{Program, Expr, Temp}
@@ -13,17 +13,17 @@ use Rattle.step_program.specs.Effects as steps
 use Rattle.step_program.specs.Effects.{value}
 use Rattle.step_pieces.specs.Running.{ran}
 use Rattle.step_pieces.specs.Formed.{Lies}
-use Rattle.lisa_meaning.specs.Cores.{core_of, chooses, decodes}
-use Rattle.lisa_meaning.specs.Laws.{Listed, node_listed, occurrence_listed, TreesAreOccurrences}
-use Rattle.lisa_meaning.specs.Moments.{Moment}
+use Rattle.activation_plans.specs.lisa_meaning.Cores.{core_of, chooses, decodes}
+use Rattle.activation_plans.specs.lisa_meaning.Laws.{Listed, node_listed, occurrence_listed, TreesAreOccurrences}
+use Rattle.activation_plans.specs.lisa_meaning.Moments.{Moment}
 use Rattle.lowered_time.specs.Lowering.{bit, Agrees, HasRowWord, IsWordOf, Keeps}
-use Rattle.lowered_words.specs.Rows.{IsWordWidth, decoded_at, chosen_flag}
-use Rattle.lowered_words.specs.Loading.{load}
-use Rattle.lowered_words.specs.Laws.{AreApart, LeavesOthers}
-use Rattle.lowered_words.proofs.Loaded.{row_loaded}
-use Rattle.lowered_words.proofs.Leaving.{load_leaves}
-use Rattle.lowered_words.proofs.Telling.{row_tells}
-use Rattle.lowered_words.proofs.Telling as telling
+use Rattle.lowered_layouts.specs.lowered_words.Rows.{IsWordWidth, decoded_at, chosen_flag}
+use Rattle.lowered_layouts.specs.lowered_words.Loading.{load}
+use Rattle.lowered_layouts.specs.lowered_words.Laws.{AreApart, LeavesOthers}
+use Rattle.lowered_layouts.proofs.lowered_words_proofs.Loaded.{row_loaded}
+use Rattle.lowered_layouts.proofs.lowered_words_proofs.Leaving.{load_leaves}
+use Rattle.lowered_layouts.proofs.lowered_words_proofs.Telling.{row_tells}
+use Rattle.lowered_layouts.proofs.lowered_words_proofs.Telling as telling
 use Rattle.lowered_layouts.specs.Temps.{row_base, row_count, lasting_widths}
 use Rattle.lowered_layouts.specs.Items.{time_layout}
 use Rattle.lowered_layouts.proofs.Laying.{node_told}

@@ -8,24 +8,24 @@ use Rattle.lisa_engine.specs.Memory.{Memory}
 use Rattle.lisa_engine.specs.Shape.{IsFitting}
 use Rattle.lisa_engine.specs.State.{State}
 use Rattle.description_types.specs.Types.{Types}
-use Rattle.lisa_machine.proofs.Sound.{sound}
-use Rattle.lisa_machine.proofs.Forward.{onward, main_is}
-use Rattle.use_promises.proofs.Shown.{shown_fits}
+use Rattle.activation_plans.proofs.lisa_machine_proofs.Sound.{sound}
+use Rattle.activation_plans.proofs.lisa_machine_proofs.Forward.{onward, main_is}
+use Rattle.activation_plans.proofs.use_promises_proofs.Shown.{shown_fits}
 use Rattle.machine_parts.specs.Parts.{arrays_of, pins_of}
 use Rattle.pipeline_time.specs.Bits.{Hardware, shown, first_hardware}
 use Rattle.pipeline_time.specs.Sound.{IsSound}
 use Rattle.step_program.specs.Programs.{Program}
 use Rattle.step_program.specs.Effects.{p_first, p_state}
-use Rattle.lisa_meaning.specs.Cores.{core_of}
-use Rattle.lisa_meaning.specs.Moments.{Contents}
-use Rattle.lisa_meaning.specs.States.{first_contents, shown_state, after_edges, state_of}
-use Rattle.lisa_meaning.proofs.Back.{controls_back}
-use Rattle.lisa_meaning.proofs.Nodes.{listed, no_stage}
-use Rattle.lisa_meaning.proofs.Shaped.{first_stored}
-use Rattle.lisa_meaning.proofs.Shown.{registers_fit, arrays_distinct}
-use Rattle.lisa_meaning.proofs.Sounds.{sound_by}
-use Rattle.meaning_promises.specs.Fitting.{ContentsFit}
-use Rattle.meaning_promises.proofs.Kept.{fitting}
+use Rattle.activation_plans.specs.lisa_meaning.Cores.{core_of}
+use Rattle.activation_plans.specs.lisa_meaning.Moments.{Contents}
+use Rattle.activation_plans.specs.lisa_meaning.States.{first_contents, shown_state, after_edges, state_of}
+use Rattle.activation_plans.proofs.lisa_meaning_proofs.Back.{controls_back}
+use Rattle.activation_plans.proofs.lisa_meaning_proofs.Nodes.{listed, no_stage}
+use Rattle.activation_plans.proofs.lisa_meaning_proofs.Shaped.{first_stored}
+use Rattle.activation_plans.proofs.lisa_meaning_proofs.Shown.{registers_fit, arrays_distinct}
+use Rattle.activation_plans.proofs.lisa_meaning_proofs.Sounds.{sound_by}
+use Rattle.lowered_behaviors.specs.meaning_promises.Fitting.{ContentsFit}
+use Rattle.lowered_behaviors.proofs.meaning_promises_proofs.Kept.{fitting}
 use Rattle.lowered_time.specs.Laws.{MakesEdges}
 use Rattle.lowered_time.specs.Lowering.{Shows}
 use Rattle.lowered_time.proofs.Edges.{states_made}

@@ -6,13 +6,13 @@ use Rattle.std.proofs.lemmas.List.Elements.{All-head, All-tail}
 use Rattle.lisa_tree.specs.Statements.{StmtTrees}
 use Rattle.lisa_tree.specs.Descriptions.{DescriptionTree}
 use Rattle.lisa_tree.specs.Resources.{stages, stage_at}
-use Rattle.description_sizes.specs.Texts.{levels}
+use Rattle.activation_plans.specs.description_sizes.Texts.{levels}
 use Rattle.typed_values.proofs.Preserved.{Keeps, effects_kept}
-use Rattle.lisa_meaning.specs.Scenes.{Scene, at_path, child}
-use Rattle.lisa_meaning.specs.Moments.{Moment, with_stall, with_flush}
-use Rattle.lisa_meaning.specs.Effects.{put_within, at_level, doing, behavior_at, body, run_within, run_behavior}
-use Rattle.lisa_meaning.proofs.Added.{Adds, adds_none, adds_both, stall_one, flush_one, within_adds, body_adds}
-use Rattle.lowered_resources.proofs.Standing.{stage_low}
+use Rattle.activation_plans.specs.lisa_meaning.Scenes.{Scene, at_path, child}
+use Rattle.activation_plans.specs.lisa_meaning.Moments.{Moment, with_stall, with_flush}
+use Rattle.activation_plans.specs.lisa_meaning.Effects.{put_within, at_level, doing, behavior_at, body, run_within, run_behavior}
+use Rattle.activation_plans.proofs.lisa_meaning_proofs.Added.{Adds, adds_none, adds_both, stall_one, flush_one, within_adds, body_adds}
+use Rattle.lowered_layouts.proofs.lowered_resources_proofs.Standing.{stage_low}
 
 module _ (d : DescriptionTree) where
   abbrev past_all : ℕ

@@ -9,11 +9,11 @@ use Rattle.lisa_tree.specs.Descriptions.{DescriptionTree}
 use Rattle.description_places.specs.declared.sites.Region.TheVariants as regions
 use Rattle.description_places.specs.Places.{uses}
 use Rattle.lisa_tree.specs.Operations.{sections_at, activation_in}
-use Rattle.lisa_machine.specs.Freedom.{AllStand}
-use Rattle.description_sizes.specs.Texts.{levels}
+use Rattle.activation_plans.specs.lisa_machine.Freedom.{AllStand}
+use Rattle.activation_plans.specs.description_sizes.Texts.{levels}
 use Rattle.description_types.specs.Types.{Types}
-use Rattle.activation_trees.specs.declared.parts.Occurrence.{Occurrence}
-use Rattle.activation_trees.specs.Unfolding.{occurrences}
+use Rattle.activation_plans.specs.activation_trees.declared.parts.Occurrence.{Occurrence}
+use Rattle.activation_plans.specs.activation_trees.Unfolding.{occurrences}
 use Rattle.step_program.specs.Programs.{Program, Expr, Const}
 use Rattle.step_program.specs.Effects as steps
 use Rattle.step_program.specs.Effects.{value}
@@ -22,10 +22,10 @@ use Rattle.step_pieces.specs.Running.{ran, Rests}
 use Rattle.step_pieces.specs.Formed.{Lies}
 use Rattle.step_pieces.proofs.Laid.{lies_left}
 use Rattle.step_pieces.proofs.Rested.{scratch_rests}
-use Rattle.lisa_meaning.specs.Scenes.{Scene, line_within, scene_of}
-use Rattle.lisa_meaning.specs.Cores.{core_of, conditions_in, condition, is_true, holds}
-use Rattle.lisa_meaning.specs.Moments.{Moment, bare}
-use Rattle.lisa_meaning.specs.Values.{value_of}
+use Rattle.activation_plans.specs.lisa_meaning.Scenes.{Scene, line_within, scene_of}
+use Rattle.activation_plans.specs.lisa_meaning.Cores.{core_of, conditions_in, condition, is_true, holds}
+use Rattle.activation_plans.specs.lisa_meaning.Moments.{Moment, bare}
+use Rattle.activation_plans.specs.lisa_meaning.Values.{value_of}
 use Rattle.lowered_time.specs.Building.{time_temps}
 use Rattle.lowered_time.specs.Lowering as time
 use Rattle.lowered_time.specs.Lowering.{bit, held_guard, Agrees, RowHas, HasRowWord, Leaves}
@@ -33,9 +33,9 @@ use Rattle.lowered_values.specs.Operands.{StandsFor}
 use Rattle.lowered_values.specs.Templates.{picked}
 use Rattle.lowered_values.specs.Computed.{Computed}
 use Rattle.lowered_values.proofs.Computing.{picked_value}
-use Rattle.lowered_resources.proofs.Holding.{holds_locals}
-use Rattle.lowered_words.specs.Choosing.{choice, way_inside}
-use Rattle.lowered_words.proofs.Choices.{part_is}
+use Rattle.lowered_layouts.proofs.lowered_resources_proofs.Holding.{holds_locals}
+use Rattle.lowered_layouts.specs.lowered_words.Choosing.{choice, way_inside}
+use Rattle.lowered_layouts.proofs.lowered_words_proofs.Choices.{part_is}
 use Rattle.lowered_behaviors.specs.Standpoints.{Standpoint, level, running}
 use Rattle.lowered_behaviors.specs.Values.{Ground}
 use Rattle.lowered_behaviors.proofs.Scratch.{value_scratch}

@@ -5,20 +5,20 @@ use Rattle.lisa_tree.specs.Descriptions.{DescriptionTree}
 use Rattle.lisa_tree.specs.Operations.{sections_at, coding_in}
 use Rattle.description_types.specs.Types.{Types}
 use Rattle.description_types.specs.Tables.{Known, AreKinds}
-use Rattle.activation_trees.specs.Unfolding.{occurrences}
-use Rattle.coding_tables.specs.Instructions.{Root, first_root}
-use Rattle.lisa_meaning.specs.Scenes.{line}
-use Rattle.lisa_meaning.specs.Cores.{core_of, condition, root_place}
+use Rattle.activation_plans.specs.activation_trees.Unfolding.{occurrences}
+use Rattle.lowered_behaviors.specs.coding_tables.Instructions.{Root, first_root}
+use Rattle.activation_plans.specs.lisa_meaning.Scenes.{line}
+use Rattle.activation_plans.specs.lisa_meaning.Cores.{core_of, condition, root_place}
 use Rattle.step_program.specs.Programs.{Expr, Const, Temp, Program}
 use Rattle.step_pieces.specs.Pieces.{Piece, Builder, behind, nothing}
 use Rattle.lowered_values.specs.Computed.{Computed, leaf, computed}
 use Rattle.lowered_time.specs.Pieces.{Made, Maker}
 use Rattle.lowered_time.specs.Building.{Operations, Layout, edge}
-use Rattle.lowered_resources.specs.Places.{Stall, Flush}
-use Rattle.lowered_resources.specs.Reading.{absent, sources}
-use Rattle.lowered_words.specs.Rows.{decoded_at, chosen_flag}
-use Rattle.lowered_words.specs.Loading.{load}
-use Rattle.lowered_words.specs.Code.{words_tree}
+use Rattle.lowered_layouts.specs.lowered_resources.Places.{Stall, Flush}
+use Rattle.lowered_layouts.specs.lowered_resources.Reading.{absent, sources}
+use Rattle.lowered_layouts.specs.lowered_words.Rows.{decoded_at, chosen_flag}
+use Rattle.lowered_layouts.specs.lowered_words.Loading.{load}
+use Rattle.lowered_layouts.specs.lowered_words.Code.{words_tree}
 use Rattle.lowered_behaviors.specs.declared.positions.Reach.TheVariants as reaches
 use Rattle.lowered_behaviors.specs.declared.positions.Position.{Position}
 use Rattle.lowered_behaviors.specs.Values.{Ground}

@@ -8,26 +8,26 @@ use Rattle.lisa_engine.specs.Shape.{IsFitting}
 use Rattle.machine_parts.specs.Parts.{arrays_of, pins_of}
 use Rattle.pipeline_time.specs.Bits.{first_hardware}
 use Rattle.step_program.specs.Effects.{p_state}
-use Rattle.lisa_meaning.specs.States.{first_contents, shown_state, state_of}
+use Rattle.activation_plans.specs.lisa_meaning.States.{first_contents, shown_state, state_of}
 use Rattle.lisa_tree.specs.Operations.{sections_at, activation_in}
 use Rattle.description_types.specs.Types.{Types}
 use Rattle.description_types.specs.Tables.{Known, AreKinds}
-use Rattle.lisa_machine.specs.Verdicts.{IsAccepted}
-use Rattle.lisa_machine.specs.Machines.{IsSpelled}
-use Rattle.lisa_forms.specs.Verdicts.{HasForms}
-use Rattle.instruction_forms.specs.Widths.{HasWidth}
+use Rattle.activation_plans.specs.lisa_machine.Verdicts.{IsAccepted}
+use Rattle.activation_plans.specs.lisa_machine.Machines.{IsSpelled}
+use Rattle.activation_plans.specs.lisa_forms.Verdicts.{HasForms}
+use Rattle.lowered_behaviors.specs.instruction_forms.Widths.{HasWidth}
 use Rattle.step_program.specs.Programs.{Program}
 use Rattle.step_program.specs.WellFormed.{IsWidth, IsWellFormed}
 use Rattle.step_pieces.specs.Formed.{IsStep}
 use Rattle.typed_values.specs.Laws.{HasNumbers}
-use Rattle.lisa_meaning.specs.Cores.{core_of, conditions_in}
-use Rattle.lisa_meaning.specs.Scenes.{scene_of}
-use Rattle.meaning_promises.specs.Fitting.{HaveNumbers, HaveWordPlaces}
+use Rattle.activation_plans.specs.lisa_meaning.Cores.{core_of, conditions_in}
+use Rattle.activation_plans.specs.lisa_meaning.Scenes.{scene_of}
+use Rattle.lowered_behaviors.specs.meaning_promises.Fitting.{HaveNumbers, HaveWordPlaces}
 use Rattle.lowered_time.specs.Laws.{MakesEdges}
 use Rattle.lowered_time.specs.Lowering.{AreLowered}
 use Rattle.lowered_time.specs.Forming.{AreFormed}
-use Rattle.lowered_words.specs.Rows.{IsWordWidth}
-use Rattle.lowered_words.specs.Laws.{AreApart}
+use Rattle.lowered_layouts.specs.lowered_words.Rows.{IsWordWidth}
+use Rattle.lowered_layouts.specs.lowered_words.Laws.{AreApart}
 use Rattle.lowered_behaviors.specs.Agreement.{IsScene, HaveNumbersInBehaviors}
 use Rattle.lowered_layouts.specs.Items.{time_layout, IsArranged}
 use Rattle.lowered_edges.specs.Parts.{operations, standpoint_of}

@@ -3,3 +3,11 @@ pub mod Programs
 pub mod Meaning
 pub mod Laws
 pub mod Code
+pub mod lowered_behaviors
+pub mod lowered_layouts
+pub mod lowered_resources
+pub mod lowered_statements
+pub mod lowered_words
+pub mod meaning_promises
+pub mod program_declarations
+pub mod typed_values

@@ -10,11 +10,11 @@ use Rattle.machine_parts.specs.Parts.{pins_of}
 use Rattle.step_program.specs.Programs.{Program}
 use Rattle.step_program.specs.Effects as steps
 use Rattle.step_pieces.specs.Running.{HasTemps}
-use Rattle.lisa_meaning.specs.Moments.{Contents, Moment}
-use Rattle.meaning_promises.specs.Fitting.{ContentsFit}
+use Rattle.activation_plans.specs.lisa_meaning.Moments.{Contents, Moment}
+use Rattle.lowered_behaviors.specs.meaning_promises.Fitting.{ContentsFit}
 use Rattle.lowered_time.specs.Lowering.{Meant}
-use Rattle.lowered_resources.specs.Holding.{Holds}
-use Rattle.lowered_words.specs.Rows.{HasRow}
+use Rattle.lowered_layouts.specs.lowered_resources.Holding.{Holds}
+use Rattle.lowered_layouts.specs.lowered_words.Rows.{HasRow}
 use Rattle.lowered_layouts.specs.Temps.{row_base, row_count}
 use Rattle.lowered_layouts.specs.Items.{places_of}
 use Rattle.lowered_layouts.specs.States.{HasContents}

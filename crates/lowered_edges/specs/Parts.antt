@@ -5,25 +5,25 @@ use Rattle.lisa_tree.specs.Expressions.{ExprTree}
 use Rattle.lisa_tree.specs.Statements.{StmtTrees, End, Then}
 use Rattle.lisa_tree.specs.Descriptions.{DescriptionTree}
 use Rattle.lisa_tree.specs.Operations.{sections_at, coding_in, behavior_in, is_root}
-use Rattle.description_sizes.specs.Texts.{levels}
+use Rattle.activation_plans.specs.description_sizes.Texts.{levels}
 use Rattle.description_types.specs.Types.{Types}
-use Rattle.activation_trees.specs.declared.parts.Occurrence.{Occurrence}
-use Rattle.activation_trees.specs.Unfolding.{occurrences}
-use Rattle.coding_tables.specs.Instructions.{Root, first_root}
+use Rattle.activation_plans.specs.activation_trees.declared.parts.Occurrence.{Occurrence}
+use Rattle.activation_plans.specs.activation_trees.Unfolding.{occurrences}
+use Rattle.lowered_behaviors.specs.coding_tables.Instructions.{Root, first_root}
 use Rattle.step_program.specs.Programs.{Expr, Const, Temp}
-use Rattle.lisa_meaning.specs.Scenes.{line, has_word}
-use Rattle.lisa_meaning.specs.Cores.{condition, root_place}
+use Rattle.activation_plans.specs.lisa_meaning.Scenes.{line, has_word}
+use Rattle.activation_plans.specs.lisa_meaning.Cores.{condition, root_place}
 use Rattle.step_pieces.specs.Pieces.{Builder, nothing, held, top, always}
 use Rattle.lowered_values.specs.Templates.{picked, fitted}
 use Rattle.lowered_values.specs.Computed.{Computed, leaf, computed}
 use Rattle.lowered_values.specs.Sources.{bare}
 use Rattle.lowered_time.specs.Pieces.{Made, Maker}
 use Rattle.lowered_time.specs.Building.{Operations}
-use Rattle.lowered_resources.specs.Places.{Stall, Flush}
-use Rattle.lowered_resources.specs.Reading.{Known, absent, sources}
-use Rattle.lowered_words.specs.Rows.{decoded_at, chosen_flag}
-use Rattle.lowered_words.specs.Loading.{load}
-use Rattle.lowered_words.specs.Choosing.{choice, way_inside}
+use Rattle.lowered_layouts.specs.lowered_resources.Places.{Stall, Flush}
+use Rattle.lowered_layouts.specs.lowered_resources.Reading.{Known, absent, sources}
+use Rattle.lowered_layouts.specs.lowered_words.Rows.{decoded_at, chosen_flag}
+use Rattle.lowered_layouts.specs.lowered_words.Loading.{load}
+use Rattle.lowered_layouts.specs.lowered_words.Choosing.{choice, way_inside}
 use Rattle.lowered_behaviors.specs.Standpoints.{Level, level, Standpoint}
 use Rattle.lowered_behaviors.specs.Values.{Ground, value_within}
 use Rattle.lowered_behaviors.specs.Behaviors.{behavior}

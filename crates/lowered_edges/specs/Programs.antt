@@ -2,12 +2,12 @@
 use Rattle.std.specs.Prelude.{ℕ, ◌++◌, Option, unwrap_or, length, map}
 use Rattle.lisa_tree.specs.Descriptions.{DescriptionTree}
 use Rattle.description_types.specs.Types.{Types}
-use Rattle.description_sizes.specs.Sizes.{items}
+use Rattle.activation_plans.specs.description_sizes.Sizes.{items}
 use Rattle.machine_parts.specs.Parts.{arrays_of, pins_of, first_values}
-use Rattle.activation_trees.specs.Unfolding.{occurrences}
-use Rattle.activation_trees.specs.Items.{items_behind}
+use Rattle.activation_plans.specs.activation_trees.Unfolding.{occurrences}
+use Rattle.activation_plans.specs.activation_trees.Items.{items_behind}
 use Rattle.step_program.specs.Programs.{Program}
-use Rattle.lisa_meaning.specs.Cores.{core_of}
+use Rattle.activation_plans.specs.lisa_meaning.Cores.{core_of}
 use Rattle.step_pieces.specs.Pieces.{Piece}
 use Rattle.lowered_time.specs.Building.{edge}
 use Rattle.lowered_layouts.specs.Temps.{lasting_widths}

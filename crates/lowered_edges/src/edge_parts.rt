@@ -3,13 +3,12 @@
 ghost use Rattle.std.specs.Prelude.{◌≡◌, ℕ};
 ghost use Rattle.lisa_tree.specs.declared.declared.Meaning.TheVariants.{Declared};
 ghost use Rattle.description_types.specs.Types.{meant_type};
-ghost use Rattle.lowered_words.specs.Code.{words_tree};
-ghost use Rattle.lowered_words.specs.Rows.{IsWordWidth};
+ghost use Rattle.lowered_layouts.specs.lowered_words.Code.{words_tree};
+ghost use Rattle.lowered_layouts.specs.lowered_words.Rows.{IsWordWidth};
 ghost use Rattle.lowered_behaviors.specs.Settled.{types_of, types_tree};
 
 use lowered_behaviors::NameTypes;
-use lowered_layouts::Positions;
-use lowered_words::Words;
+use lowered_layouts::{Positions, Words};
 
 /// What is known of the words of an accepted description and of the types of its names, and where its things stand. Words have this width.
 #[derive(Drop)]

@@ -3,8 +3,8 @@
 ghost use Rattle.std.specs.Prelude.{◌≡◌, Some, IfOk, OnOk, option_map};
 ghost use Rattle.lisa_tree.specs.Expressions.{expr_tree};
 ghost use Rattle.lisa_tree.specs.Statements.{stmt_trees};
-ghost use Rattle.lisa_meaning.specs.Moments.{Contents, Moment};
-ghost use Rattle.lisa_meaning.specs.Cores.{core_of};
+ghost use Rattle.activation_plans.specs.lisa_meaning.Moments.{Contents, Moment};
+ghost use Rattle.activation_plans.specs.lisa_meaning.Cores.{core_of};
 ghost use Rattle.step_program.specs.Programs.{Const, Temp};
 ghost use Rattle.step_pieces.specs.Pieces.{always, held, top};
 ghost use Rattle.step_pieces.specs.Drafts.{leaf_tree, piece_of};
@@ -18,13 +18,11 @@ ghost use Rattle.lowered_edges.specs.Code.{base_over, ground_over, value_over, p
 use crate::edge_parts::EdgeParts;
 use crate::lines::{line, occurrence_at};
 use crate::roots::{absent, fetch};
-use lisa_forms::Occurrence;
+use activation_plans::Occurrence;
 use lisa_tree::{Expr, Stmt};
 use lisa_words::NoMemory;
-use lowered_behaviors::{Ground, lower_behavior, value};
-use lowered_layouts::Positions;
-use lowered_resources::{Placing, Told};
-use lowered_statements::Locals;
+use lowered_behaviors::{Ground, Locals, lower_behavior, value};
+use lowered_layouts::{Placing, Positions, Told};
 use lowered_time::Parts;
 use lowered_values::{Source, bit, picked};
 use std::alloc::Global;

@@ -17,10 +17,10 @@ use Rattle.step_program.specs.Programs.{Program, Expr, Temp, Aim, ToItem, ToTemp
 use Rattle.step_program.specs.Effects.{Moment, value, effect, chosen, kept}
 use Rattle.step_pieces.specs.Running.{ran}
 use Rattle.pipeline_time.specs.Edges.{is_held, is_flushed}
-use Rattle.lisa_meaning.specs.Moments as moments
-use Rattle.lisa_meaning.specs.Moments.{field_at, field_before, written, closed_field, by_boundaries, close_moment}
-use Rattle.lisa_meaning.specs.Cores.{core_of}
-use Rattle.lisa_meaning.specs.States.{layout_of}
+use Rattle.state_items.specs.lisa_meaning.Moments as moments
+use Rattle.state_items.specs.lisa_meaning.Moments.{field_at, field_before, written, closed_field, by_boundaries, close_moment}
+use Rattle.state_items.specs.lisa_meaning.Cores.{core_of}
+use Rattle.state_items.specs.lisa_meaning.States.{layout_of}
 use Rattle.lowered_time.specs.Building.{held_at, open_at}
 use Rattle.lowered_time.specs.Lowering.{bit, IsTimes, a_bit, a_word, Keeps}
 use Rattle.lowered_resources.specs.Places.{Written, Out, HasField}

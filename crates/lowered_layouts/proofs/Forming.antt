@@ -10,7 +10,7 @@ use Rattle.lisa_tree.specs.declared.tokens.Shape.{Shape}
 use Rattle.lisa_tree.specs.Descriptions.{DescriptionTree}
 use Rattle.lisa_tree.specs.Resources.{stages, fields}
 use Rattle.instruction_trees.specs.Trees.{In, here, there}
-use Rattle.lisa_machine.specs.Verdicts.{IsAccepted}
+use Rattle.state_items.specs.lisa_machine.Verdicts.{IsAccepted}
 use Rattle.step_program.specs.Programs.{Program, Temp, Move}
 use Rattle.step_program.specs.Effects.{item_width, width}
 use Rattle.step_program.specs.WellFormed.{IsWidth, IsFit, IsMove}
@@ -18,7 +18,7 @@ use Rattle.step_program.specs.Depths.{expr_depth, move_depth}
 use Rattle.step_pieces.specs.Pieces.{always}
 use Rattle.step_pieces.specs.Formed.{IsStep, IsPiece}
 use Rattle.pipeline_time.specs.Acts.{size}
-use Rattle.lisa_meaning.specs.Cores.{core_of}
+use Rattle.state_items.specs.lisa_meaning.Cores.{core_of}
 use Rattle.lowered_time.specs.Building.{time_temps, held_at, open_at}
 use Rattle.lowered_resources.specs.Places.{Written, Out, HasField, Has, Lasting, field_width, ArePlaced}
 use Rattle.lowered_resources.proofs.Standing as standing

@@ -10,8 +10,8 @@ use Rattle.std.proofs.lemmas.Option.{same_Some, slice_get_within, slice_get-get_
 use Rattle.lisa_tree.specs.Descriptions.{DescriptionTree}
 use Rattle.lisa_engine.specs.declared.parts.Item.{Item}
 use Rattle.machine_parts.specs.Parts.{registers_of}
-use Rattle.activation_trees.specs.Items.{items_behind}
-use Rattle.activation_trees.specs.Unfolding.{occurrences}
+use Rattle.state_items.specs.activation_trees.Items.{items_behind}
+use Rattle.state_items.specs.activation_trees.Unfolding.{occurrences}
 use Rattle.item_layouts.specs.declared.place.ItemPlace.{ItemPlace}
 use Rattle.item_layouts.specs.declared.place.ItemPlace.TheVariants.{Register, Field, Word, Bit}
 use Rattle.item_layouts.specs.Layouts.{HasPlace, place_of, item_places, register_places, field_places, word_places, bit_places}
@@ -19,7 +19,7 @@ use Rattle.item_layouts.proofs.Listed.{listed, once, found}
 use Rattle.step_program.specs.Programs.{Program}
 use Rattle.step_program.specs.Effects.{item_width}
 use Rattle.step_pieces.specs.Formed.{Lies}
-use Rattle.lisa_meaning.specs.States.{layout_of}
+use Rattle.state_items.specs.lisa_meaning.States.{layout_of}
 use Rattle.lowered_resources.specs.Places.{Lasting, HasField, Has, field_width, lasting_width, ArePlaced}
 use Rattle.lowered_layouts.specs.Temps.{boundaries_at, temp, rows_at, row_count, lasting_widths}
 use Rattle.lowered_layouts.specs.Items.{field_place, places_of, IsArranged}

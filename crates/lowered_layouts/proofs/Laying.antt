@@ -6,23 +6,23 @@ use Rattle.std.proofs.lemmas.Bool.{and_parts, and_from, eq-eqb, ne_eqb, lt-ltb, 
 use Rattle.std.proofs.lemmas.List.{get_or-replicate}
 use Rattle.std.proofs.lemmas.Option.{same_Some, slice_get_within}
 use Rattle.lisa_tree.specs.Descriptions.{DescriptionTree}
-use Rattle.lisa_machine.specs.Verdicts.{IsAccepted}
+use Rattle.state_items.specs.lisa_machine.Verdicts.{IsAccepted}
 use Rattle.lisa_tree.specs.Resources.{stages}
-use Rattle.activation_trees.specs.declared.parts.Occurrence.{Occurrence}
-use Rattle.activation_trees.specs.Unfolding.{occurrences}
-use Rattle.activation_trees.specs.Items.{stage_or_first, root_stage, is_between, has_bit}
-use Rattle.coding_tables.specs.Instructions.{instruction_choice}
+use Rattle.state_items.specs.activation_trees.declared.parts.Occurrence.{Occurrence}
+use Rattle.state_items.specs.activation_trees.Unfolding.{occurrences}
+use Rattle.state_items.specs.activation_trees.Items.{stage_or_first, root_stage, is_between, has_bit}
+use Rattle.lowered_words.specs.coding_tables.Instructions.{instruction_choice}
 use Rattle.item_layouts.specs.declared.place.ItemPlace.TheVariants.{Bit, Word}
 use Rattle.item_layouts.specs.Layouts.{HasPlace, place_of}
 use Rattle.pipeline_time.specs.Acts.{Node, size, nodes, Act, Done}
 use Rattle.pipeline_time.specs.Cores.{all_nodes, node_of, level_of, above_of, slot_level, level_of_slots}
 use Rattle.step_program.specs.Programs.{Program}
 use Rattle.step_program.specs.Effects.{item_width}
-use Rattle.lisa_meaning.specs.Trees.{level_of_stage}
-use Rattle.lisa_meaning.specs.Cores.{core_of, root_occurrence, root_level}
-use Rattle.lisa_meaning.specs.States.{first_word, layout_of}
-use Rattle.lisa_meaning.specs.Laws.{Listed, node_listed, occurrence_listed, listed_from, TreesAreOccurrences}
-use Rattle.lisa_meaning.proofs.Nodes.{nodes_counted}
+use Rattle.state_items.specs.lisa_meaning.Trees.{level_of_stage}
+use Rattle.state_items.specs.lisa_meaning.Cores.{core_of, root_occurrence, root_level}
+use Rattle.state_items.specs.lisa_meaning.States.{first_word, layout_of}
+use Rattle.state_items.specs.lisa_meaning.Laws.{Listed, node_listed, occurrence_listed, listed_from, TreesAreOccurrences}
+use Rattle.state_items.proofs.lisa_meaning_proofs.Nodes.{nodes_counted}
 use Rattle.lowered_time.specs.Building.{time_temps}
 use Rattle.lowered_time.specs.Building.{slot_at}
 use Rattle.lowered_time.specs.Forming.{time_width}

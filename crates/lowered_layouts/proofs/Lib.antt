@@ -12,3 +12,5 @@ pub mod Counted
 pub mod Spotted
 pub mod Lasted
 pub mod Ended
+pub mod lowered_resources_proofs
+pub mod lowered_words_proofs

@@ -12,10 +12,10 @@ use Rattle.lisa_tree.specs.Resources.{stages, fields}
 use Rattle.machine_parts.specs.Parts.{pins_of, registers_of}
 use Rattle.step_program.specs.Programs.{Program}
 use Rattle.step_program.specs.Effects.{begun}
-use Rattle.lisa_meaning.specs.Moments.{Contents, Outs, begin_moment, by_boundaries, written}
-use Rattle.lisa_meaning.proofs.Stored.{begins}
-use Rattle.meaning_promises.specs.Fitting.{ContentsFit, MomentFits}
-use Rattle.meaning_promises.proofs.Kept.{stored, moment_fitting}
+use Rattle.state_items.specs.lisa_meaning.Moments.{Contents, Outs, begin_moment, by_boundaries, written}
+use Rattle.state_items.proofs.lisa_meaning_proofs.Stored.{begins}
+use Rattle.lowered_resources.specs.meaning_promises.Fitting.{ContentsFit, MomentFits}
+use Rattle.lowered_resources.proofs.meaning_promises_proofs.Kept.{stored, moment_fitting}
 use Rattle.lowered_resources.specs.Places.{Lasting, Written, Out, Stall, Flush, HasField}
 use Rattle.lowered_resources.specs.Holding.{HoldsBefore, HoldsNow, HoldsFit, Holds}
 use Rattle.lowered_layouts.specs.Temps.{temp}

@@ -17,9 +17,9 @@ use Rattle.item_layouts.proofs.Listed.{found, value_is}
 use Rattle.pipeline_time.specs.Bits.{Hardware, first_hardware}
 use Rattle.step_program.specs.Programs.{Program}
 use Rattle.step_program.specs.Effects.{p_first}
-use Rattle.lisa_meaning.specs.Moments.{Contents}
-use Rattle.lisa_meaning.specs.Cores.{core_of}
-use Rattle.lisa_meaning.specs.States.{layout_of, values_of, first_contents, shown_state}
+use Rattle.state_items.specs.lisa_meaning.Moments.{Contents}
+use Rattle.state_items.specs.lisa_meaning.Cores.{core_of}
+use Rattle.state_items.specs.lisa_meaning.States.{layout_of, values_of, first_contents, shown_state}
 use Rattle.lowered_time.specs.Lowering.{bit}
 use Rattle.lowered_layouts.specs.Items.{bit_place, word_place, field_place, IsArranged}
 use Rattle.lowered_layouts.specs.States.{HasContents, HasHardware}

@@ -6,7 +6,7 @@ use Rattle.std.proofs.lemmas.List.{length-append, length-replicate, get_or-repli
 use Rattle.lisa_tree.specs.Descriptions.{DescriptionTree}
 use Rattle.lisa_tree.specs.Resources.{stages, fields}
 use Rattle.pipeline_time.specs.Acts.{size}
-use Rattle.lisa_meaning.specs.Cores.{core_of}
+use Rattle.state_items.specs.lisa_meaning.Cores.{core_of}
 use Rattle.step_pieces.specs.Formed.{Lies}
 use Rattle.lowered_time.specs.Building.{time_temps, held_at, open_at, slot_at}
 use Rattle.lowered_resources.specs.Places.{Lasting, Written, Out, Stall, Flush, HasField, Has, field_width, lasting_width}

@@ -1,7 +1,7 @@
 -- Where things stand, in code. On the way to the program: nothing here needs to be trusted.
 use Rattle.std.specs.Prelude.{ℕ, ◌≡◌}
 use Rattle.lisa_tree.specs.Descriptions.{DescriptionTree}
-use Rattle.scene_paths.specs.Lookups.{tree_of}
+use Rattle.lowered_words.specs.scene_paths.Lookups.{tree_of}
 use Rattle.lowered_layouts.specs.declared.positions.Positions.{Positions}
 
 -- the description

@@ -3,13 +3,13 @@ use Rattle.std.specs.Prelude.{ℕ, zero, suc, ◌≡◌, Option, None, Some, len
 use Rattle.std.specs.Option.{unwrap_or}
 use Rattle.lisa_tree.specs.Descriptions.{DescriptionTree}
 use Rattle.machine_parts.specs.Parts.{arrays_of, pins_of}
-use Rattle.instruction_forms.specs.Widths.{HasWidth}
-use Rattle.description_sizes.specs.Sizes as sizes
+use Rattle.lowered_words.specs.instruction_forms.Widths.{HasWidth}
+use Rattle.state_items.specs.description_sizes.Sizes as sizes
 use Rattle.item_layouts.specs.declared.place.ItemPlace.TheVariants.{Field, Word, Bit}
 use Rattle.item_layouts.specs.Layouts.{place_of}
 use Rattle.step_program.specs.Programs.{Program}
 use Rattle.step_pieces.specs.Formed.{Lies}
-use Rattle.lisa_meaning.specs.States.{layout_of}
+use Rattle.state_items.specs.lisa_meaning.States.{layout_of}
 use Rattle.lowered_time.specs.Building.{Layout}
 use Rattle.lowered_resources.specs.Places.{Places}
 use Rattle.lowered_words.specs.Rows.{IsWordWidth}

@@ -1,28 +1,28 @@
 -- What holds of where things stand in a description's step program.
 use Rattle.std.specs.Prelude.{ℕ, ◌≡◌, ◌↔◌, ◌<◌, ◌≤◌, true, false, cond, List, [], Option, Some, length, slice_index, slice_index_or}
 use Rattle.lisa_tree.specs.Descriptions.{DescriptionTree}
-use Rattle.lisa_machine.specs.Verdicts.{IsAccepted}
+use Rattle.state_items.specs.lisa_machine.Verdicts.{IsAccepted}
 use Rattle.lisa_tree.specs.Resources.{stages}
 use Rattle.lisa_engine.specs.Memory.{Memory}
 use Rattle.lisa_engine.specs.Shape.{IsFitting}
 use Rattle.lisa_engine.specs.State.{State}
 use Rattle.machine_parts.specs.Parts.{pins_of}
-use Rattle.meaning_promises.specs.Fitting.{ContentsFit}
+use Rattle.lowered_resources.specs.meaning_promises.Fitting.{ContentsFit}
 use Rattle.pipeline_time.specs.Bits.{Hardware, first_hardware}
-use Rattle.lisa_meaning.specs.States.{first_contents, shown_state}
+use Rattle.state_items.specs.lisa_meaning.States.{first_contents, shown_state}
 use Rattle.pipeline_time.specs.Edges.{is_held, is_flushed}
 use Rattle.step_program.specs.Programs.{Program, Expr, Temp}
 use Rattle.step_program.specs.Effects as steps
 use Rattle.step_pieces.specs.Running.{ran}
 use Rattle.step_pieces.specs.Formed.{Lies, IsPiece}
-use Rattle.lisa_meaning.specs.Moments.{Contents, Moment, begin_moment, close_moment}
-use Rattle.lisa_meaning.specs.Cores.{core_of}
+use Rattle.state_items.specs.lisa_meaning.Moments.{Contents, Moment, begin_moment, close_moment}
+use Rattle.state_items.specs.lisa_meaning.Cores.{core_of}
 use Rattle.lowered_time.specs.Building.{time_temps, held_at, open_at}
 use Rattle.lowered_time.specs.Lowering.{bit, Keeps, IsLaidOut}
 use Rattle.lowered_time.specs.Forming.{time_width}
 use Rattle.step_program.specs.WellFormed.{IsWidth}
 use Rattle.step_program.specs.Effects.{item_width}
-use Rattle.lisa_forms.specs.Verdicts.{HasForms}
+use Rattle.state_items.specs.lisa_forms.Verdicts.{HasForms}
 use Rattle.lowered_resources.specs.Places.{ArePlaced, HasField}
 use Rattle.lowered_resources.specs.Holding.{Holds}
 use Rattle.lowered_words.specs.Rows.{row_widths}

@@ -5,3 +5,5 @@ pub mod States
 pub mod Laws
 pub mod Spots
 pub mod Code
+pub mod lowered_resources
+pub mod lowered_words

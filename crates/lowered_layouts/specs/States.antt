@@ -6,7 +6,7 @@ use Rattle.lisa_engine.specs.State.{State}
 use Rattle.machine_parts.specs.Parts.{registers_of}
 use Rattle.pipeline_time.specs.Bits.{Hardware}
 use Rattle.step_program.specs.Programs.{Program}
-use Rattle.lisa_meaning.specs.Moments.{Contents, field_at}
+use Rattle.state_items.specs.lisa_meaning.Moments.{Contents, field_at}
 use Rattle.lowered_time.specs.Lowering.{bit}
 use Rattle.lowered_resources.specs.Places.{HasField}
 use Rattle.lowered_layouts.specs.Items.{bit_place, word_place, field_place}

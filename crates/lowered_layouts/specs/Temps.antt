@@ -4,7 +4,7 @@ use Rattle.std.specs.Prelude.{ℕ, suc, ◌+◌, ◌-◌, ◌*◌, List, [], ◌
 use Rattle.std.specs.List.{flat_map, range_with_len}
 use Rattle.lisa_tree.specs.Descriptions.{DescriptionTree}
 use Rattle.lisa_tree.specs.Resources.{stages, fields}
-use Rattle.lisa_meaning.specs.Cores.{core_of}
+use Rattle.state_items.specs.lisa_meaning.Cores.{core_of}
 use Rattle.lowered_time.specs.Building.{time_temps}
 use Rattle.lowered_resources.specs.Places.{Lasting, Written, Out, Stall, Flush, field_width}
 use Rattle.lowered_words.specs.Rows.{row_widths, row_size}

@@ -12,4 +12,7 @@ mod numbers;
 mod positions;
 mod spots;
 
+pub use laws::time_is_laid_out;
+pub use lowered_resources::{Placing, Resources, Told};
+pub use lowered_words::Words;
 pub use positions::Positions;

@@ -1,7 +1,7 @@
 //! Where the temps and items of one thing or another stand.
 
 ghost use Rattle.std.specs.Prelude.{◌≡◌, ◌≤◌, ◌+◌, ◌-◌, ◌*◌, IfOk};
-ghost use Rattle.scene_paths.specs.Lookups.{tree_of};
+ghost use Rattle.lowered_words.specs.scene_paths.Lookups.{tree_of};
 ghost use Rattle.lowered_resources.specs.Places.{field_width};
 ghost use Rattle.lowered_layouts.specs.Temps as temps;
 ghost use Rattle.lowered_layouts.specs.Temps.{boundaries_at, boundary_size, controls_at};

@@ -5,9 +5,9 @@ ghost use Rattle.indexmap.specs.IndexMap.{get};
 ghost use Rattle.lisa_tree.specs.Descriptions.{description_tree};
 ghost use Rattle.lisa_tree.specs.Resources as resources;
 ghost use Rattle.item_layouts.specs.Layouts.{place_of};
-ghost use Rattle.lisa_forms.specs.Parts.{AreFormsOf};
-ghost use Rattle.lisa_meaning.specs.States.{layout_of};
-ghost use Rattle.scene_paths.specs.Lookups.{tree_of};
+ghost use Rattle.state_items.specs.lisa_forms.Parts.{AreFormsOf};
+ghost use Rattle.state_items.specs.lisa_meaning.States.{layout_of};
+ghost use Rattle.lowered_words.specs.scene_paths.Lookups.{tree_of};
 ghost use Rattle.lowered_words.specs.Rows as rows;
 ghost use Rattle.lowered_layouts.specs.declared.spots.Spot.{Spot};
 ghost use Rattle.lowered_layouts.specs.Temps.{boundaries_at};
@@ -19,11 +19,9 @@ use crate::numbers::{number, product, sum};
 use crate::positions::Positions;
 use crate::spots::{Spot, spot_table};
 use indexmap::IndexMap;
-use lisa_forms::Forms;
-use lisa_machine::Machine;
 use lisa_words::NoMemory;
-use scene_paths::Described;
-use state_items::make_places;
+use lowered_words::Described;
+use state_items::{Forms, Machine, make_places};
 use std::alloc::Global;
 
 fn stage_count(machine: &Machine) -> Result<u8, NoMemory>

@@ -4,8 +4,8 @@ ghost use Rattle.std.specs.Prelude.{◌≡◌, length};
 ghost use Rattle.indexmap.specs.IndexMap.{get};
 ghost use Rattle.lisa_tree.specs.Resources as resources;
 ghost use Rattle.item_layouts.specs.Layouts.{place_of};
-ghost use Rattle.lisa_meaning.specs.States.{layout_of};
-ghost use Rattle.scene_paths.specs.Lookups.{tree_of};
+ghost use Rattle.state_items.specs.lisa_meaning.States.{layout_of};
+ghost use Rattle.lowered_words.specs.scene_paths.Lookups.{tree_of};
 ghost use Rattle.lowered_words.specs.Rows as rows;
 ghost use Rattle.lowered_layouts.specs.declared.spots.Spot.{Spot};
 ghost use Rattle.lowered_layouts.specs.Temps as temps;
@@ -13,7 +13,7 @@ ghost use Rattle.lowered_layouts.specs.Spots.{place_at};
 
 use crate::spots::Spot;
 use indexmap::IndexMap;
-use scene_paths::Described;
+use lowered_words::Described;
 
 /// Where things stand in the step program of a description: temps that last through an edge, and items. No look-up takes memory, and each
 /// takes the same time however many items there are.

@@ -3,7 +3,7 @@ use Rattle.std.proofs.Common.{◌≡◌, ◌∙◌, ◌+◌, ℕ, suc, List, [],
 use Rattle.lisa_tree.specs.declared.tokens.Shape.{Shape}
 use Rattle.lisa_tree.specs.Descriptions.{DescriptionTree}
 use Rattle.step_program.specs.Programs.{Expr, ToTemp, ToCell}
-use Rattle.lisa_meaning.specs.Values.{Array, shape_at}
+use Rattle.scene_paths.specs.lisa_meaning.Values.{Array, shape_at}
 use Rattle.step_pieces.specs.Pieces.{Piece, behind, always}
 use Rattle.lowered_values.specs.Operands.{Operand}
 use Rattle.lowered_values.specs.Templates.{fitted}

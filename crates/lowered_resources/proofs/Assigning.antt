@@ -17,19 +17,19 @@ use Rattle.lisa_tree.specs.declared.declared.Meaning.TheVariants as meanings
 use Rattle.lisa_tree.specs.Same.{same_name}
 use Rattle.lisa_tree.specs.Operations.{own_stage}
 use Rattle.lisa_tree.specs.Meanings.{meaning}
-use Rattle.lisa_machine.specs.Verdicts.{IsAccepted}
-use Rattle.machine_parts.specs.Parts.{item, register_in, registers_of}
+use Rattle.meaning_promises.specs.lisa_machine.Verdicts.{IsAccepted}
+use Rattle.meaning_promises.specs.machine_parts.Parts.{item, register_in, registers_of}
 use Rattle.step_program.specs.Programs.{Program, Expr, Aim, ToItem, ToTemp, ToCell, Move}
 use Rattle.step_program.specs.Effects as steps
 use Rattle.step_program.specs.Effects.{value, effect, taken, chosen}
-use Rattle.typed_values.specs.Words.{TypedWord, fitted as fitted_bits}
-use Rattle.typed_values.specs.Effects.{Locals, local_put, like}
-use Rattle.typed_values.proofs.Fitting.{fitted_within}
-use Rattle.lisa_meaning.specs.Scenes.{Link, Scene, at_path, running}
-use Rattle.lisa_meaning.specs.Moments.{Moment, with_locals, with_out, with_stall, with_flush}
-use Rattle.lisa_meaning.specs.Values.{Array, register_place, field_place, shape_at, value_of}
-use Rattle.lisa_meaning.specs.Effects as effects
-use Rattle.lisa_meaning.specs.Effects.{PutBelow, bits_for, register_put, cell_put, at_level, doing, put_within}
+use Rattle.meaning_promises.specs.typed_values.Words.{TypedWord, fitted as fitted_bits}
+use Rattle.meaning_promises.specs.typed_values.Effects.{Locals, local_put, like}
+use Rattle.meaning_promises.proofs.typed_values_proofs.Fitting.{fitted_within}
+use Rattle.scene_paths.specs.lisa_meaning.Scenes.{Link, Scene, at_path, running}
+use Rattle.scene_paths.specs.lisa_meaning.Moments.{Moment, with_locals, with_out, with_stall, with_flush}
+use Rattle.scene_paths.specs.lisa_meaning.Values.{Array, register_place, field_place, shape_at, value_of}
+use Rattle.scene_paths.specs.lisa_meaning.Effects as effects
+use Rattle.scene_paths.specs.lisa_meaning.Effects.{PutBelow, bits_for, register_put, cell_put, at_level, doing, put_within}
 use Rattle.meaning_promises.proofs.Fitted.{placed}
 use Rattle.step_pieces.specs.Pieces.{always}
 use Rattle.step_pieces.specs.Running.{ran, Rests}

@@ -8,10 +8,10 @@ use Rattle.lisa_tree.specs.declared.tokens.Shape.{Shape}
 use Rattle.lisa_tree.specs.declared.descriptions.RegisterWord.{RegisterWord}
 use Rattle.lisa_tree.specs.Descriptions as trees
 use Rattle.lisa_tree.specs.Descriptions.{ResourceTree, DescriptionTree}
-use Rattle.lisa_machine.specs.Verdicts.{IsAccepted}
-use Rattle.lisa_machine.specs.Resolving.{IsWidth, FitsResource}
-use Rattle.machine_parts.specs.Parts.{arrays_of}
-use Rattle.lisa_meaning.specs.Values.{register_place, pin_place, named_array, shape_at}
+use Rattle.meaning_promises.specs.lisa_machine.Verdicts.{IsAccepted}
+use Rattle.meaning_promises.specs.lisa_machine.Resolving.{IsWidth, FitsResource}
+use Rattle.meaning_promises.specs.machine_parts.Parts.{arrays_of}
+use Rattle.scene_paths.specs.lisa_meaning.Values.{register_place, pin_place, named_array, shape_at}
 use Rattle.scene_paths.specs.declared.array.Array.{Array}
 use Rattle.scene_paths.specs.Lookups.{array_of}
 use Rattle.step_program.specs.Programs.{Expr, Now, Before, Pin, ToItem}

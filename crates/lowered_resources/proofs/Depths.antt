@@ -4,7 +4,7 @@ use Rattle.std.specs.Prelude.{count_ones}
 use Rattle.std.proofs.lemmas.Bool.{cases_lt, eqb-true}
 use Rattle.std.proofs.lemmas.Nat.{leading_top, ones-le, ones_cat, zero_from_ones, pow-add, pow_pos}
 use Rattle.std.proofs.Math.Pow.{pow_mono}
-use Rattle.lisa_machine.specs.Resolving.{IsDepth}
+use Rattle.meaning_promises.specs.lisa_machine.Resolving.{IsDepth}
 use Rattle.lowered_resources.specs.Reading.{index_width}
 
 -- ---- a number with one bit is a power of two

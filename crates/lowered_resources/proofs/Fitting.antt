@@ -9,10 +9,10 @@ use Rattle.lisa_engine.specs.declared.parts.Item.{Item}
 use Rattle.lisa_engine.specs.declared.parts.ArrayItem.{ArrayItem}
 use Rattle.lisa_engine.specs.Shape.{IsFitting, AreCells}
 use Rattle.lisa_engine.specs.Touches.{set_cell}
-use Rattle.machine_parts.specs.Parts.{arrays_of, registers_of}
-use Rattle.lisa_meaning.specs.Moments.{Moment, Outs, with_out, written, out_set}
-use Rattle.lisa_meaning.specs.Values.{shape_at}
-use Rattle.lisa_meaning.specs.Effects.{register_put, cell_put}
+use Rattle.meaning_promises.specs.machine_parts.Parts.{arrays_of, registers_of}
+use Rattle.scene_paths.specs.lisa_meaning.Moments.{Moment, Outs, with_out, written, out_set}
+use Rattle.scene_paths.specs.lisa_meaning.Values.{shape_at}
+use Rattle.scene_paths.specs.lisa_meaning.Effects.{register_put, cell_put}
 use Rattle.meaning_promises.specs.Fitting.{FieldFits}
 use Rattle.lowered_resources.specs.Holding.{HoldsFit}
 

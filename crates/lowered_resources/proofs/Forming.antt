@@ -11,11 +11,11 @@ use Rattle.lisa_tree.specs.Same.{same_name}
 use Rattle.lisa_tree.specs.Resources.{stage_at}
 use Rattle.lisa_tree.specs.Operations.{own_stage}
 use Rattle.lisa_tree.specs.Meanings.{meaning}
-use Rattle.lisa_machine.specs.Verdicts.{IsAccepted}
-use Rattle.lisa_machine.specs.Resolving.{FitsResource}
-use Rattle.machine_parts.specs.Parts.{item, pin_in, register_in}
+use Rattle.meaning_promises.specs.lisa_machine.Verdicts.{IsAccepted}
+use Rattle.meaning_promises.specs.lisa_machine.Resolving.{FitsResource}
+use Rattle.meaning_promises.specs.machine_parts.Parts.{item, pin_in, register_in}
 use Rattle.step_program.specs.Programs.{Program, Before}
-use Rattle.lisa_meaning.specs.Values.{Array, register_place, pin_place, named_array, field_place, shape_at, stage_before}
+use Rattle.scene_paths.specs.lisa_meaning.Values.{Array, register_place, pin_place, named_array, field_place, shape_at, stage_before}
 use Rattle.meaning_promises.proofs.Fitted.{placed}
 use Rattle.lowered_values.specs.Operands.{Operand, IsOperand}
 use Rattle.lowered_values.specs.Sources.{AreCells}

@@ -8,12 +8,12 @@ use Rattle.std.proofs.lemmas.Option.{same_Some}
 use Rattle.lisa_tree.specs.Descriptions.{DescriptionTree}
 use Rattle.lisa_engine.specs.Touches.{set_cell}
 use Rattle.graph_paths.specs.Paths.{is_in}
-use Rattle.machine_parts.specs.Parts.{registers_of}
+use Rattle.meaning_promises.specs.machine_parts.Parts.{registers_of}
 use Rattle.step_program.specs.Programs.{Program}
 use Rattle.step_program.specs.Effects as steps
-use Rattle.typed_values.specs.Effects.{Locals}
-use Rattle.lisa_meaning.specs.Moments.{Moment, Outs, with_locals, with_out, with_stall, with_flush, noted, written, out_set}
-use Rattle.lisa_meaning.specs.Effects.{register_put, cell_put}
+use Rattle.meaning_promises.specs.typed_values.Effects.{Locals}
+use Rattle.scene_paths.specs.lisa_meaning.Moments.{Moment, Outs, with_locals, with_out, with_stall, with_flush, noted, written, out_set}
+use Rattle.scene_paths.specs.lisa_meaning.Effects.{register_put, cell_put}
 use Rattle.step_pieces.specs.Running.{Rests}
 use Rattle.lowered_resources.specs.Places.{Lasting, Written, Out, Stall, Flush, Places, HasField, IsLevel, Has, ArePlaced}
 use Rattle.lowered_resources.specs.Holding.{HoldsFit, Holds}

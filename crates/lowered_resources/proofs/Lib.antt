@@ -11,3 +11,4 @@ pub mod Assigning
 pub mod Numbers
 pub mod Coded
 pub mod Adding
+pub mod meaning_promises_proofs

@@ -6,8 +6,8 @@ use Rattle.std.proofs.lemmas.Bool.{cases_lt}
 use Rattle.std.proofs.lemmas.List.{length-take}
 use Rattle.std.proofs.lemmas.Option.{slice_get_within, slice_get-get_or}
 use Rattle.lisa_tree.specs.Descriptions.{ResourceTree, DescriptionTree}
-use Rattle.machine_parts.specs.Parts.{array_in, arrays_of, pin_in, register_in}
-use Rattle.lisa_meaning.specs.Values.{register_place, pin_place}
+use Rattle.meaning_promises.specs.machine_parts.Parts.{array_in, arrays_of, pin_in, register_in}
+use Rattle.scene_paths.specs.lisa_meaning.Values.{register_place, pin_place}
 
 few_parts : {P : Type 0} (part : ResourceTree → Option P) (rs : List ResourceTree) → length (filter_map part rs) ≤ length rs
 few_parts part [] = omega arith

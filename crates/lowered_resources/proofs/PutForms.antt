@@ -12,13 +12,13 @@ use Rattle.lisa_tree.specs.declared.declared.Meaning.TheVariants as meanings
 use Rattle.lisa_tree.specs.Same.{same_name}
 use Rattle.lisa_tree.specs.Operations.{own_stage}
 use Rattle.lisa_tree.specs.Meanings.{meaning}
-use Rattle.lisa_machine.specs.Verdicts.{IsAccepted}
-use Rattle.lisa_machine.specs.Resolving.{FitsResource}
-use Rattle.machine_parts.specs.Parts.{item, register_in}
+use Rattle.meaning_promises.specs.lisa_machine.Verdicts.{IsAccepted}
+use Rattle.meaning_promises.specs.lisa_machine.Resolving.{FitsResource}
+use Rattle.meaning_promises.specs.machine_parts.Parts.{item, register_in}
 use Rattle.step_program.specs.Programs.{Program, Expr, Aim, ToItem, ToTemp, ToCell, Move}
 use Rattle.step_program.specs.WellFormed.{IsWidth, IsAimed}
 use Rattle.step_program.specs.Depths.{expr_depth, aim_depth}
-use Rattle.lisa_meaning.specs.Values.{Array, register_place, field_place, shape_at}
+use Rattle.scene_paths.specs.lisa_meaning.Values.{Array, register_place, field_place, shape_at}
 use Rattle.meaning_promises.proofs.Fitted.{placed}
 use Rattle.step_pieces.specs.Pieces.{top, always}
 use Rattle.step_pieces.specs.Formed.{IsStep, IsPiece}

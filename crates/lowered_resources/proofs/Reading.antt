@@ -15,18 +15,18 @@ use Rattle.lisa_tree.specs.Same.{same_name}
 use Rattle.lisa_tree.specs.Resources.{stage_at}
 use Rattle.lisa_tree.specs.Operations.{own_stage}
 use Rattle.lisa_tree.specs.Meanings.{meaning}
-use Rattle.lisa_machine.specs.Verdicts.{IsAccepted}
-use Rattle.lisa_machine.proofs.Sound.{sound}
-use Rattle.machine_parts.specs.Parts.{item, arrays_of, pin_in, register_in, registers_of}
+use Rattle.meaning_promises.specs.lisa_machine.Verdicts.{IsAccepted}
+use Rattle.meaning_promises.proofs.lisa_machine_proofs.Sound.{sound}
+use Rattle.meaning_promises.specs.machine_parts.Parts.{item, arrays_of, pin_in, register_in, registers_of}
 use Rattle.step_program.specs.Programs.{Program, Before}
 use Rattle.step_program.specs.Effects as steps
-use Rattle.typed_values.specs.Words.{TypedWord, truth}
-use Rattle.typed_values.specs.Effects.{Locals}
-use Rattle.typed_values.specs.Laws.{IsFit}
-use Rattle.typed_values.specs.ResetEffects.{local_or}
-use Rattle.lisa_meaning.specs.Scenes.{Scene, running}
-use Rattle.lisa_meaning.specs.Moments.{Moment, bare, field_at}
-use Rattle.lisa_meaning.specs.Values.{Array, Below, register_place, pin_place, resource_value, element_value, named_array, field_place, shape_at, shaped_field, boundary_value, stage_before, meant_value}
+use Rattle.meaning_promises.specs.typed_values.Words.{TypedWord, truth}
+use Rattle.meaning_promises.specs.typed_values.Effects.{Locals}
+use Rattle.meaning_promises.specs.typed_values.Laws.{IsFit}
+use Rattle.meaning_promises.specs.typed_values.ResetEffects.{local_or}
+use Rattle.scene_paths.specs.lisa_meaning.Scenes.{Scene, running}
+use Rattle.scene_paths.specs.lisa_meaning.Moments.{Moment, bare, field_at}
+use Rattle.scene_paths.specs.lisa_meaning.Values.{Array, Below, register_place, pin_place, resource_value, element_value, named_array, field_place, shape_at, shaped_field, boundary_value, stage_before, meant_value}
 use Rattle.meaning_promises.specs.Fitting.{ReadingsFit}
 use Rattle.meaning_promises.proofs.Fitted.{placed, rest_in, resource_value_fits, boundary_fits}
 use Rattle.lowered_values.specs.Operands.{Operand, StandsFor}

@@ -15,7 +15,7 @@ use Rattle.lisa_tree.specs.Operations.{own_stage}
 use Rattle.lisa_tree.specs.Meanings.{meaning}
 use Rattle.step_program.specs.Programs.{Program, Expr, Aim, ToItem, ToTemp, ToCell, Move}
 use Rattle.step_program.specs.Effects.{Moment, value}
-use Rattle.lisa_meaning.specs.Values.{Array, register_place, named_array, field_place, shape_at}
+use Rattle.scene_paths.specs.lisa_meaning.Values.{Array, register_place, named_array, field_place, shape_at}
 use Rattle.step_pieces.specs.Pieces.{top, always}
 use Rattle.step_pieces.specs.Running.{ran, Rests, IsLow}
 use Rattle.step_pieces.proofs.Rested.{rests_none, low_value, idle}

@@ -15,15 +15,15 @@ use Rattle.lisa_tree.specs.Same.{same_name}
 use Rattle.lisa_tree.specs.Resources.{stages, fields, fields_in, stage_at}
 use Rattle.lisa_tree.specs.Operations.{operation_at, own_stage}
 use Rattle.lisa_tree.specs.Meanings.{meaning}
-use Rattle.lisa_machine.specs.Verdicts.{IsAccepted}
-use Rattle.lisa_machine.specs.Resolving.{IsWidth, IsDepth, FitsResource}
-use Rattle.lisa_machine.proofs.Decoding.{position_there}
-use Rattle.lisa_machine.proofs.Resolved.{resource_fits}
-use Rattle.lisa_machine.proofs.Sound.{sound}
-use Rattle.machine_parts.specs.Parts.{array, array_in, arrays_of, pins_of, registers_of}
+use Rattle.meaning_promises.specs.lisa_machine.Verdicts.{IsAccepted}
+use Rattle.meaning_promises.specs.lisa_machine.Resolving.{IsWidth, IsDepth, FitsResource}
+use Rattle.meaning_promises.proofs.lisa_machine_proofs.Decoding.{position_there}
+use Rattle.meaning_promises.proofs.lisa_machine_proofs.Resolved.{resource_fits}
+use Rattle.meaning_promises.proofs.lisa_machine_proofs.Sound.{sound}
+use Rattle.meaning_promises.specs.machine_parts.Parts.{array, array_in, arrays_of, pins_of, registers_of}
 use Rattle.step_program.specs.Programs.{Program}
 use Rattle.step_program.specs.Effects.{item_width, pin_width, array_width, array_depth}
-use Rattle.lisa_meaning.specs.Values.{Array, array_place, array_of, meant_array, named_array, field_place, shape_at, stage_before}
+use Rattle.scene_paths.specs.lisa_meaning.Values.{Array, array_place, array_of, meant_array, named_array, field_place, shape_at, stage_before}
 use Rattle.meaning_promises.proofs.Fitted.{placed}
 use Rattle.lowered_resources.specs.Places.{Places, IsThere, IsLevel, field_width, ArePlaced}
 

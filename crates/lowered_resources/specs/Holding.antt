@@ -4,10 +4,10 @@ use Rattle.std.specs.Option.{is_some}
 use Rattle.lisa_tree.specs.Descriptions.{DescriptionTree}
 use Rattle.lisa_engine.specs.Shape.{IsFitting}
 use Rattle.graph_paths.specs.Paths.{is_in}
-use Rattle.machine_parts.specs.Parts.{pins_of, registers_of}
+use Rattle.meaning_promises.specs.machine_parts.Parts.{pins_of, registers_of}
 use Rattle.step_program.specs.Programs.{Program}
 use Rattle.step_program.specs.Effects as steps
-use Rattle.lisa_meaning.specs.Moments.{Moment, field_at, written}
+use Rattle.scene_paths.specs.lisa_meaning.Moments.{Moment, field_at, written}
 use Rattle.meaning_promises.specs.Fitting.{MomentFits}
 use Rattle.lowered_resources.specs.Places.{Places, Written, Out, Stall, Flush, HasField, IsLevel}
 

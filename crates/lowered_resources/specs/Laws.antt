@@ -9,16 +9,16 @@ use Rattle.lisa_tree.specs.Descriptions.{DescriptionTree}
 use Rattle.lisa_tree.specs.declared.declared.Meaning.TheVariants as meanings
 use Rattle.lisa_tree.specs.Same.{same_name}
 use Rattle.lisa_tree.specs.Meanings.{meaning}
-use Rattle.lisa_machine.specs.Verdicts.{IsAccepted}
+use Rattle.meaning_promises.specs.lisa_machine.Verdicts.{IsAccepted}
 use Rattle.lisa_tree.specs.Operations.{own_stage}
 use Rattle.lisa_tree.specs.Resources.{stage_at}
 use Rattle.step_program.specs.Programs.{Program, Expr}
 use Rattle.step_program.specs.Effects as steps
-use Rattle.typed_values.specs.Words.{TypedWord}
-use Rattle.lisa_meaning.specs.Scenes.{Scene, Link, running}
-use Rattle.lisa_meaning.specs.Moments.{Moment}
-use Rattle.lisa_meaning.specs.Values.{Array, Below, reader, value_of, named_array, field_place}
-use Rattle.lisa_meaning.specs.Effects.{doing, put_within}
+use Rattle.meaning_promises.specs.typed_values.Words.{TypedWord}
+use Rattle.scene_paths.specs.lisa_meaning.Scenes.{Scene, Link, running}
+use Rattle.scene_paths.specs.lisa_meaning.Moments.{Moment}
+use Rattle.scene_paths.specs.lisa_meaning.Values.{Array, Below, reader, value_of, named_array, field_place}
+use Rattle.scene_paths.specs.lisa_meaning.Effects.{doing, put_within}
 use Rattle.step_pieces.specs.Pieces.{IsScratch}
 use Rattle.step_pieces.specs.Running.{ran}
 use Rattle.step_pieces.specs.Formed.{Lies, IsPiece}

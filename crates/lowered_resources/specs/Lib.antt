@@ -4,3 +4,4 @@ pub mod Putting
 pub mod Holding
 pub mod Code
 pub mod Laws
+pub mod meaning_promises

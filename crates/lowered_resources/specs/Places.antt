@@ -4,7 +4,7 @@ use Rattle.std.specs.Option.{option_map_or}
 use Rattle.lisa_tree.specs.Descriptions.{DescriptionTree}
 use Rattle.lisa_engine.specs.declared.parts.Item.{Item}
 use Rattle.lisa_tree.specs.Resources.{stages, fields}
-use Rattle.machine_parts.specs.Parts.{arrays_of, pins_of, registers_of}
+use Rattle.meaning_promises.specs.machine_parts.Parts.{arrays_of, pins_of, registers_of}
 use Rattle.step_program.specs.Programs.{Program}
 use Rattle.step_program.specs.Effects.{item_width}
 

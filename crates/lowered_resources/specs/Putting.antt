@@ -14,7 +14,7 @@ use Rattle.lisa_tree.specs.Resources.{stage_at}
 use Rattle.lisa_tree.specs.Operations.{own_stage}
 use Rattle.lisa_tree.specs.Meanings.{meaning}
 use Rattle.step_program.specs.Programs.{Expr, Aim, ToItem, ToTemp, ToCell, Move}
-use Rattle.lisa_meaning.specs.Values.{Array, register_place, named_array, field_place, shape_at}
+use Rattle.scene_paths.specs.lisa_meaning.Values.{Array, register_place, named_array, field_place, shape_at}
 use Rattle.step_pieces.specs.Pieces.{Piece, nothing, behind, always}
 use Rattle.lowered_values.specs.Operands.{Operand}
 use Rattle.lowered_values.specs.Templates.{fitted}

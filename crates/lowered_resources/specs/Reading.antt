@@ -11,9 +11,9 @@ use Rattle.lisa_tree.specs.Same.{same_name}
 use Rattle.lisa_tree.specs.Resources.{stage_at}
 use Rattle.lisa_tree.specs.Operations.{own_stage}
 use Rattle.lisa_tree.specs.Meanings.{meaning}
-use Rattle.description_types.specs.Shapes.{digit_count}
+use Rattle.meaning_promises.specs.description_types.Shapes.{digit_count}
 use Rattle.step_program.specs.Programs.{Expr, Const, Now, Before, Pin}
-use Rattle.lisa_meaning.specs.Values.{Array, register_place, pin_place, named_array, field_place, shape_at, stage_before}
+use Rattle.scene_paths.specs.lisa_meaning.Values.{Array, register_place, pin_place, named_array, field_place, shape_at, stage_before}
 use Rattle.lowered_values.specs.Operands.{Operand, operand_of}
 use Rattle.lowered_values.specs.Sources.{Sources, Cells}
 use Rattle.lowered_statements.specs.Scopes.{Local, Scope, local_operand}

@@ -1,7 +1,7 @@
 //! What the names of an operation's expressions stand for.
 ghost use Rattle.std.specs.Prelude.{◌≡◌, ◌≤◌, ◌<◌, ◌^◌, true, None, Some, IfOk, length, slice_get};
 ghost use Rattle.lisa_tree.specs.Meanings.{meaning};
-ghost use Rattle.lisa_meaning.specs.Values.{stage_before};
+ghost use Rattle.scene_paths.specs.lisa_meaning.Values.{stage_before};
 ghost use Rattle.scene_paths.specs.Lookups.{array_of, tree_of};
 ghost use Rattle.step_pieces.specs.Drafts.{leaf_tree};
 ghost use Rattle.lowered_values.specs.Code.{plain};

@@ -6,7 +6,7 @@ ghost use Rattle.lisa_tree.specs.Descriptions.{resource_tree};
 ghost use Rattle.lisa_tree.specs.Same.{same_name};
 ghost use Rattle.lisa_tree.specs.Operations.{own_stage};
 ghost use Rattle.lisa_tree.specs.Meanings.{meaning};
-ghost use Rattle.lisa_meaning.specs.Values.{field_place, named_array};
+ghost use Rattle.scene_paths.specs.lisa_meaning.Values.{field_place, named_array};
 ghost use Rattle.scene_paths.specs.Lookups.{tree_of};
 ghost use Rattle.step_program.specs.Programs.{ToCell, aim_of};
 ghost use Rattle.step_pieces.specs.Drafts.{leaf_tree};

@@ -5,14 +5,14 @@ use Rattle.std.proofs.lemmas.Bool.{eqb-true}
 use Rattle.std.proofs.lemmas.Option.{cond_some}
 use Rattle.lisa_tree.specs.Descriptions.{DescriptionTree}
 use Rattle.instruction_trees.specs.Trees.{Done, Pass, Value, Choose, Form, In}
-use Rattle.coding_tables.specs.Codings.{choice_alternatives}
-use Rattle.coding_tables.specs.Instructions.{instruction_choice, instruction_items, forms_of}
+use Rattle.instruction_forms.specs.coding_tables.Codings.{choice_alternatives}
+use Rattle.instruction_forms.specs.coding_tables.Instructions.{instruction_choice, instruction_items, forms_of}
 use Rattle.instruction_forms.specs.Trees.{FormTree}
 use Rattle.instruction_forms.specs.Described.{instruction_form}
 use Rattle.instruction_forms.proofs.Sizes.{child_size}
-use Rattle.form_patterns.proofs.Standing.{all_fit}
-use Rattle.lisa_forms.specs.Choosing.{child_at, operation_of}
-use Rattle.lisa_meaning.specs.Values.{fields_of}
+use Rattle.scene_paths.proofs.form_patterns_proofs.Standing.{all_fit}
+use Rattle.scene_paths.specs.lisa_forms.Choosing.{child_at, operation_of}
+use Rattle.scene_paths.specs.lisa_meaning.Values.{fields_of}
 use Rattle.lowered_words.specs.Ways.{Way, Whole, Child, part_by, of_operation, child_of}
 use Rattle.lowered_words.specs.Rows.{IsWordWidth}
 use Rattle.lowered_words.specs.Labels.{form_part}

@@ -5,15 +5,15 @@ use Rattle.std.specs.List.{list_any}
 use Rattle.std.proofs.lemmas.Bool.{eqb-true, false_from_ne_true}
 use Rattle.lisa_tree.specs.Descriptions.{DescriptionTree}
 use Rattle.instruction_trees.specs.Trees.{Done, Pass, Value, Choose, Form, In, placed}
-use Rattle.coding_tables.specs.Codings.{coding_table}
-use Rattle.coding_tables.specs.Instructions.{instruction_items, forms_of}
+use Rattle.instruction_forms.specs.coding_tables.Codings.{coding_table}
+use Rattle.instruction_forms.specs.coding_tables.Instructions.{instruction_items, forms_of}
 use Rattle.instruction_forms.specs.declared.form.Form as made
 use Rattle.instruction_forms.specs.declared.form.Form.{out-Form}
 use Rattle.instruction_forms.specs.Trees.{FormTree, FormTrees, Node, End, Then, form_tree}
 use Rattle.instruction_forms.specs.Described.{instruction_form, children}
-use Rattle.form_patterns.proofs.Standing.{all_fit}
-use Rattle.form_patterns.proofs.Views.{trees, tree_is}
-use Rattle.lisa_forms.specs.Choosing.{operation_of}
+use Rattle.scene_paths.proofs.form_patterns_proofs.Standing.{all_fit}
+use Rattle.scene_paths.proofs.form_patterns_proofs.Views.{trees, tree_is}
+use Rattle.scene_paths.specs.lisa_forms.Choosing.{operation_of}
 use Rattle.lowered_words.specs.Ways.{Way, Whole, Child, same_way, ways_among, ways_in, form_ways}
 use Rattle.lowered_words.specs.Loading.{is_alone}
 use Rattle.lowered_words.proofs.Paired.{FitsItems, items_of_operation, paired, childless_same}

@@ -3,17 +3,17 @@ use Rattle.std.proofs.Common.{◌≡◌, ℕ, zero, suc, Bool, true, false, Opti
 use Rattle.std.specs.Prelude.{option_map, is_some, slice_get, if◌then◌else◌}
 use Rattle.std.specs.Option.{option_and_then, option_map_or}
 use Rattle.lisa_tree.specs.Descriptions.{DescriptionTree}
-use Rattle.activation_trees.specs.declared.parts.Occurrence.{Occurrence}
-use Rattle.activation_trees.specs.Unfolding.{occurrences}
+use Rattle.scene_paths.specs.activation_trees.declared.parts.Occurrence.{Occurrence}
+use Rattle.scene_paths.specs.activation_trees.Unfolding.{occurrences}
 use Rattle.instruction_forms.specs.Trees.{FormTree}
-use Rattle.lisa_forms.specs.declared.way.Way.{Way as Activation}
-use Rattle.lisa_forms.specs.declared.way.Way.TheVariants as activations
-use Rattle.lisa_forms.specs.Choosing.{child_at, operation_of}
-use Rattle.lisa_forms.specs.Ways.{way}
-use Rattle.lisa_forms.specs.Standings.{part_in, matched, matched_in, matched_child, beside, stood}
-use Rattle.lisa_meaning.specs.Standings.{stood_below, standing_within, standing}
-use Rattle.lisa_meaning.specs.Scenes.{instruction_with}
-use Rattle.lisa_meaning.specs.Cores.{chooses}
+use Rattle.scene_paths.specs.lisa_forms.declared.way.Way.{Way as Activation}
+use Rattle.scene_paths.specs.lisa_forms.declared.way.Way.TheVariants as activations
+use Rattle.scene_paths.specs.lisa_forms.Choosing.{child_at, operation_of}
+use Rattle.scene_paths.specs.lisa_forms.Ways.{way}
+use Rattle.scene_paths.specs.lisa_forms.Standings.{part_in, matched, matched_in, matched_child, beside, stood}
+use Rattle.scene_paths.specs.lisa_meaning.Standings.{stood_below, standing_within, standing}
+use Rattle.scene_paths.specs.lisa_meaning.Scenes.{instruction_with}
+use Rattle.scene_paths.specs.lisa_meaning.Cores.{chooses}
 use Rattle.lowered_words.specs.Ways.{Way, Whole, Child, of_operation, child_of, part_by}
 use Rattle.lowered_words.specs.Choosing.{Choice, at_part, chosen_by, choice_below, choice_within, choice, stood_at, standing_by, way_inside}
 use Rattle.lowered_words.specs.Rows.{has_part}

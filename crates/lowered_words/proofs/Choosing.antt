@@ -9,18 +9,18 @@ use Rattle.std.proofs.lemmas.List.{get_or-map, length-append, length-map}
 use Rattle.std.proofs.lemmas.Option.{slice_get-map, slice_get-get_or, slice_get_past, get_or_from_slice_get}
 use Rattle.lisa_tree.specs.Descriptions.{DescriptionTree}
 use Rattle.description_tables.proofs.Lists.{one_more}
-use Rattle.lisa_machine.proofs.Entries.{get_left, get_right}
+use Rattle.scene_paths.proofs.lisa_machine_proofs.Entries.{get_left, get_right}
 use Rattle.stage_checks.specs.Graphs.{names_in}
-use Rattle.activation_trees.specs.declared.parts.Occurrence.{Occurrence}
-use Rattle.activation_trees.specs.Activators.{HasActivator, IsChild}
-use Rattle.activation_trees.specs.Starting.{activating_names}
-use Rattle.activation_trees.specs.Unfolding.{occurrences}
-use Rattle.activation_trees.specs.Places.{AreParentsBefore, ArePlaces, name_by, place}
-use Rattle.activation_trees.proofs.Lying.{has_activator}
-use Rattle.lisa_forms.specs.declared.way.Way.{Way as Activation}
-use Rattle.lisa_forms.specs.declared.way.Way.TheVariants as activations
-use Rattle.lisa_forms.specs.Choosing.{child_place}
-use Rattle.lisa_forms.specs.Ways.{by_place, by_name, by_activator, way_below, way}
+use Rattle.scene_paths.specs.activation_trees.declared.parts.Occurrence.{Occurrence}
+use Rattle.scene_paths.specs.activation_trees.Activators.{HasActivator, IsChild}
+use Rattle.scene_paths.specs.activation_trees.Starting.{activating_names}
+use Rattle.scene_paths.specs.activation_trees.Unfolding.{occurrences}
+use Rattle.scene_paths.specs.activation_trees.Places.{AreParentsBefore, ArePlaces, name_by, place}
+use Rattle.scene_paths.proofs.activation_trees_proofs.Lying.{has_activator}
+use Rattle.scene_paths.specs.lisa_forms.declared.way.Way.{Way as Activation}
+use Rattle.scene_paths.specs.lisa_forms.declared.way.Way.TheVariants as activations
+use Rattle.scene_paths.specs.lisa_forms.Choosing.{child_place}
+use Rattle.scene_paths.specs.lisa_forms.Ways.{by_place, by_name, by_activator, way_below, way}
 use Rattle.lowered_words.specs.declared.links.Link.{Link}
 use Rattle.lowered_words.specs.declared.way_at.Chosen.{Chosen}
 use Rattle.lowered_words.specs.Ways.{Whole, Child}

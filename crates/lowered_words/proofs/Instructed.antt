@@ -10,14 +10,14 @@ use Rattle.lisa_tree.specs.Descriptions.{DescriptionTree}
 use Rattle.lisa_tree.specs.Operations.{is_alias}
 use Rattle.instruction_trees.specs.Bits.{Frame, Has, mask, pattern}
 use Rattle.instruction_trees.specs.Trees.{Form, Done, In, here, there, is_plain}
-use Rattle.coding_tables.specs.Instructions.{forms_of}
+use Rattle.instruction_forms.specs.coding_tables.Instructions.{forms_of}
 use Rattle.instruction_forms.specs.Trees.{FormTree}
 use Rattle.instruction_forms.specs.Described.{instruction_form}
 use Rattle.pattern_tables.specs.Instructions.{form_at}
-use Rattle.form_patterns.proofs.Standing.{all_fit}
-use Rattle.lisa_meaning.specs.Scenes.{is_word_of, is_plain_form_of, form_with, instruction_with}
-use Rattle.lisa_meaning.specs.Cores.{decodes}
-use Rattle.lisa_meaning.proofs.Words.{word_has}
+use Rattle.scene_paths.proofs.form_patterns_proofs.Standing.{all_fit}
+use Rattle.scene_paths.specs.lisa_meaning.Scenes.{is_word_of, is_plain_form_of, form_with, instruction_with}
+use Rattle.scene_paths.specs.lisa_meaning.Cores.{decodes}
+use Rattle.scene_paths.proofs.lisa_meaning_proofs.Words.{word_has}
 use Rattle.lowered_words.specs.Ways.{plain_forms}
 use Rattle.lowered_words.specs.Rows.{IsWordWidth, form_frame}
 use Rattle.lowered_words.specs.Laws.{AreApart}

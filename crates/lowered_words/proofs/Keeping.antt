@@ -8,19 +8,19 @@ use Rattle.std.proofs.lemmas.Option.{slice_get_past, slice_get_read, slice_get_w
 use Rattle.lisa_tree.specs.Descriptions.{DescriptionTree}
 use Rattle.lisa_tree.specs.Operations.{is_alias}
 use Rattle.lisa_tree.specs.Same.{same_name}
-use Rattle.lisa_machine.specs.Verdicts.{IsAccepted}
+use Rattle.scene_paths.specs.lisa_machine.Verdicts.{IsAccepted}
 use Rattle.instruction_trees.specs.Trees.{In, here, there, Done, is_plain}
 use Rattle.instruction_trees.specs.Trees as plain
-use Rattle.coding_tables.specs.Instructions.{forms_of}
+use Rattle.instruction_forms.specs.coding_tables.Instructions.{forms_of}
 use Rattle.instruction_forms.specs.declared.form.Field.{Field}
 use Rattle.instruction_forms.specs.declared.form.Form.{Form}
 use Rattle.instruction_forms.specs.declared.form.Form.TheViews.{out-Form}
 use Rattle.instruction_forms.specs.Trees.{FormTree, form_tree}
 use Rattle.instruction_forms.specs.Described.{instruction_form}
 use Rattle.pattern_tables.specs.Instructions.{form_at}
-use Rattle.form_patterns.proofs.Views.{tree_is}
-use Rattle.lisa_forms.specs.Choosing.{operation_of}
-use Rattle.lisa_meaning.specs.Values.{fields_of}
+use Rattle.scene_paths.proofs.form_patterns_proofs.Views.{tree_is}
+use Rattle.scene_paths.specs.lisa_forms.Choosing.{operation_of}
+use Rattle.scene_paths.specs.lisa_meaning.Values.{fields_of}
 use Rattle.step_pieces.specs.declared.drafts.Draft.{Draft}
 use Rattle.step_pieces.specs.Pieces.{behind, top, held, set_temp}
 use Rattle.step_pieces.specs.Drafts.{piece_of}

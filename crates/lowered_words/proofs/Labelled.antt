@@ -13,23 +13,23 @@ use Rattle.lisa_tree.specs.Descriptions as trees
 use Rattle.lisa_tree.specs.Descriptions.{CodingTree, DescriptionTree}
 use Rattle.lisa_tree.specs.Operations.{coding_in, sections_at}
 use Rattle.lisa_tree.specs.Same.{same_name}
-use Rattle.lisa_machine.specs.Verdicts.{IsAccepted}
-use Rattle.lisa_machine.specs.Codings.{FitsItem}
-use Rattle.lisa_machine.proofs.Sound.{sound}
-use Rattle.lisa_machine.proofs.Standing.{coding_stand}
-use Rattle.lisa_machine.proofs.Fitting.{coding_fits}
+use Rattle.scene_paths.specs.lisa_machine.Verdicts.{IsAccepted}
+use Rattle.scene_paths.specs.lisa_machine.Codings.{FitsItem}
+use Rattle.scene_paths.proofs.lisa_machine_proofs.Sound.{sound}
+use Rattle.scene_paths.proofs.lisa_machine_proofs.Standing.{coding_stand}
+use Rattle.scene_paths.proofs.lisa_machine_proofs.Fitting.{coding_fits}
 use Rattle.instruction_trees.specs.Trees.{Item, Fixed, Free, Field, Child, Done, Pass, Value, Choose, Form, In, here, there, coding, placed, slice}
 use Rattle.instruction_trees.specs.Values.{own_values}
-use Rattle.coding_tables.specs.Codings.{digit_item, pattern_digits, items_of, coding_table}
-use Rattle.coding_tables.specs.Instructions.{forms_of}
+use Rattle.instruction_forms.specs.coding_tables.Codings.{digit_item, pattern_digits, items_of, coding_table}
+use Rattle.instruction_forms.specs.coding_tables.Instructions.{forms_of}
 use Rattle.instruction_forms.specs.declared.form.Field as fields
 use Rattle.instruction_forms.specs.Trees.{FormTree}
 use Rattle.instruction_forms.specs.Described.{own_items, items_at, labels, labelled}
 use Rattle.instruction_forms.proofs.Sizes.{child_size}
 use Rattle.instruction_forms.proofs.Whole.{items_list}
-use Rattle.form_patterns.proofs.Standing.{all_fit}
-use Rattle.lisa_meaning.specs.Scenes.{instruction_with}
-use Rattle.lisa_meaning.specs.Values.{fields_of, label_value, field_value}
+use Rattle.scene_paths.proofs.form_patterns_proofs.Standing.{all_fit}
+use Rattle.scene_paths.specs.lisa_meaning.Scenes.{instruction_with}
+use Rattle.scene_paths.specs.lisa_meaning.Values.{fields_of, label_value, field_value}
 use Rattle.step_program.specs.Programs.{Program}
 use Rattle.step_program.specs.Effects.{Moment, value}
 use Rattle.step_program.specs.WellFormed.{IsFit}

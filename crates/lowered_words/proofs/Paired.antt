@@ -6,12 +6,12 @@ use Rattle.lisa_tree.specs.Descriptions.{DescriptionTree}
 use Rattle.instruction_trees.specs.Trees.{Item, Fixed, Free, Field, Child, Done, Pass, Value, Choose, Form, Fits, AnyValue, In, coding, size, placed, form_bits}
 use Rattle.instruction_trees.specs.Values.{own_values}
 use Rattle.instruction_trees.proofs.Trees.{length-open}
-use Rattle.coding_tables.specs.Codings.{coding_table}
+use Rattle.instruction_forms.specs.coding_tables.Codings.{coding_table}
 use Rattle.instruction_forms.specs.Trees.{FormTree, End}
 use Rattle.instruction_forms.specs.Described.{items_at, labels, labelled, children, described}
 use Rattle.instruction_forms.proofs.Sizes.{child_size}
-use Rattle.lisa_forms.specs.Choosing.{tree_at, child_at, operation_of}
-use Rattle.lisa_meaning.specs.Values.{fields_of}
+use Rattle.scene_paths.specs.lisa_forms.Choosing.{tree_at, child_at, operation_of}
+use Rattle.scene_paths.specs.lisa_meaning.Values.{fields_of}
 
 module _ (d : DescriptionTree) where
   abbrev pub FitsItems : Form → List Item → Type 0

@@ -10,7 +10,7 @@ use Rattle.lisa_tree.specs.Descriptions.{DescriptionTree}
 use Rattle.instruction_trees.specs.Trees.{Form, In, here, there}
 use Rattle.instruction_trees.proofs.Listing.{in_left, in_right, in_append, in_flat}
 use Rattle.instruction_forms.specs.Trees.{FormTree, FormTrees, Node, End, Then}
-use Rattle.lisa_forms.specs.Choosing.{tree_at, child_at, operation_of}
+use Rattle.scene_paths.specs.lisa_forms.Choosing.{tree_at, child_at, operation_of}
 use Rattle.lowered_words.specs.Ways.{Way, Whole, Child, same_way, of_operation, child_of, part_by, ways_from, ways_among, ways_in, plain_forms, form_ways, with_way, all_ways, way_place}
 use Rattle.lowered_words.proofs.Agreeing.{of_is, step}
 

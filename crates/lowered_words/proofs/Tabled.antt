@@ -9,13 +9,13 @@ use Rattle.std.proofs.lemmas.List.{length-append}
 use Rattle.std.proofs.lemmas.List.Quantifiers.{position-Some}
 use Rattle.std.proofs.lemmas.Option.{same_Some, slice_get_within, slice_get-get_or, slice_get_read}
 use Rattle.lisa_tree.specs.Descriptions.{DescriptionTree}
-use Rattle.lisa_machine.proofs.Entries.{Split, in_first, in_second, split}
+use Rattle.scene_paths.proofs.lisa_machine_proofs.Entries.{Split, in_first, in_second, split}
 use Rattle.instruction_forms.specs.declared.form.Form.{Form}
 use Rattle.instruction_forms.specs.declared.form.Form.TheViews.{out-Form}
 use Rattle.instruction_forms.specs.Trees.{FormTree, FormTrees, form_tree}
 use Rattle.instruction_forms.specs.Described.{instruction_form}
-use Rattle.form_patterns.proofs.Views.{trees, tree_is, next_tree}
-use Rattle.lisa_forms.specs.Choosing.{child_at, operation_of}
+use Rattle.scene_paths.proofs.form_patterns_proofs.Views.{trees, tree_is, next_tree}
+use Rattle.scene_paths.specs.lisa_forms.Choosing.{child_at, operation_of}
 use Rattle.scene_paths.proofs.Parted.{child_is}
 use Rattle.lowered_words.specs.declared.links.Link.{Link}
 use Rattle.lowered_words.specs.declared.links.Link.TheVariants as links

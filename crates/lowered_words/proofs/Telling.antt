@@ -5,7 +5,7 @@ use Rattle.std.specs.Option.{option_and_then}
 use Rattle.lisa_tree.specs.Descriptions.{DescriptionTree}
 use Rattle.instruction_forms.specs.Trees.{FormTree}
 use Rattle.instruction_forms.specs.Described.{instruction_form}
-use Rattle.lisa_meaning.specs.Scenes.{instruction_with}
+use Rattle.scene_paths.specs.lisa_meaning.Scenes.{instruction_with}
 use Rattle.step_program.specs.Programs.{Program}
 use Rattle.step_program.specs.Effects.{Moment, value}
 use Rattle.step_pieces.specs.Formed.{Lies}

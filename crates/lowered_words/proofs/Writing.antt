@@ -11,18 +11,18 @@ use Rattle.instruction_trees.specs.Trees.{Done, is_plain}
 use Rattle.instruction_trees.specs.Trees as plain
 use Rattle.instruction_trees.proofs.Numbers.{value_lt}
 use Rattle.instruction_trees.proofs.FormWords.{pattern_below}
-use Rattle.coding_tables.specs.Instructions.{forms_of}
+use Rattle.instruction_forms.specs.coding_tables.Instructions.{forms_of}
 use Rattle.instruction_forms.specs.declared.form.Form.{Form}
 use Rattle.instruction_forms.specs.declared.form.Form.TheViews.{out-Form}
 use Rattle.instruction_forms.specs.Trees.{FormTree, form_tree}
 use Rattle.instruction_forms.specs.Described.{instruction_form, AreForms}
 use Rattle.pattern_tables.specs.declared.bit_pattern.BitPattern.{BitPattern}
 use Rattle.pattern_tables.specs.Instructions.{form_at}
-use Rattle.form_patterns.specs.Instructions.{instruction_frames, instruction_plain}
-use Rattle.form_patterns.proofs.Views.{trees, tree_is}
-use Rattle.form_patterns.proofs.Filling.{fit_at}
-use Rattle.lisa_forms.specs.Choosing.{operation_of}
-use Rattle.lisa_forms.specs.Rows.{frame_pattern, instruction_patterns}
+use Rattle.scene_paths.specs.form_patterns.Instructions.{instruction_frames, instruction_plain}
+use Rattle.scene_paths.proofs.form_patterns_proofs.Views.{trees, tree_is}
+use Rattle.scene_paths.proofs.form_patterns_proofs.Filling.{fit_at}
+use Rattle.scene_paths.specs.lisa_forms.Choosing.{operation_of}
+use Rattle.scene_paths.specs.lisa_forms.Rows.{frame_pattern, instruction_patterns}
 use Rattle.step_program.specs.Programs.{Expr, Const, Move}
 use Rattle.step_pieces.specs.declared.drafts.Draft.{Draft}
 use Rattle.step_pieces.specs.Pieces.{behind, top, set_temp}

@@ -2,12 +2,12 @@
 use Rattle.std.specs.Prelude.{ℕ, zero, suc, Bool, true, false, Option, None, Some, cond, option_map, slice_get}
 use Rattle.std.specs.Option.{option_and_then}
 use Rattle.lisa_tree.specs.Descriptions.{DescriptionTree}
-use Rattle.activation_trees.specs.declared.parts.Occurrence.{Occurrence}
-use Rattle.activation_trees.specs.Unfolding.{occurrences}
+use Rattle.scene_paths.specs.activation_trees.declared.parts.Occurrence.{Occurrence}
+use Rattle.scene_paths.specs.activation_trees.Unfolding.{occurrences}
 use Rattle.instruction_forms.specs.Trees.{FormTree}
-use Rattle.lisa_forms.specs.declared.way.Way.{Way as Activation}
-use Rattle.lisa_forms.specs.declared.way.Way.TheVariants as activations
-use Rattle.lisa_forms.specs.Ways.{way}
+use Rattle.scene_paths.specs.lisa_forms.declared.way.Way.{Way as Activation}
+use Rattle.scene_paths.specs.lisa_forms.declared.way.Way.TheVariants as activations
+use Rattle.scene_paths.specs.lisa_forms.Ways.{way}
 use Rattle.lowered_words.specs.Ways.{Way, Whole, Child, part_by}
 
 -- a word's instruction chooses what it has a part for, by this way

@@ -5,13 +5,13 @@ use Rattle.std.specs.Borrow.{Bor}
 use Rattle.std.specs.Global.{Vec}
 use Rattle.lisa_tree.specs.Descriptions.{DescriptionTree}
 use Rattle.stage_checks.specs.Graphs.{names_in}
-use Rattle.activation_trees.specs.declared.parts.Occurrence.{Occurrence}
-use Rattle.activation_trees.specs.Starting.{activating_names}
+use Rattle.scene_paths.specs.activation_trees.declared.parts.Occurrence.{Occurrence}
+use Rattle.scene_paths.specs.activation_trees.Starting.{activating_names}
 use Rattle.instruction_forms.specs.declared.form.Field.{Field}
 use Rattle.instruction_forms.specs.declared.form.Form.{Form}
 use Rattle.instruction_forms.specs.Trees.{form_tree}
 use Rattle.pattern_tables.specs.declared.bit_pattern.BitPattern.{BitPattern}
-use Rattle.lisa_forms.specs.Rows.{instruction_patterns}
+use Rattle.scene_paths.specs.lisa_forms.Rows.{instruction_patterns}
 use Rattle.lowered_words.specs.declared.links.Link.{Link}
 use Rattle.lowered_words.specs.declared.way_at.Chosen.{Chosen}
 use Rattle.lowered_words.specs.Ways.{Way, Whole, Child, all_ways, way_place}

@@ -8,7 +8,7 @@ use Rattle.instruction_trees.specs.Trees.{Form}
 use Rattle.instruction_forms.specs.declared.form.Field.{Field}
 use Rattle.instruction_forms.specs.Trees.{FormTree}
 use Rattle.instruction_forms.specs.Described.{instruction_form}
-use Rattle.lisa_meaning.specs.Values.{fields_of, field_kind}
+use Rattle.scene_paths.specs.lisa_meaning.Values.{fields_of, field_kind}
 use Rattle.step_program.specs.declared.expressions.OneOp.TheVariants.{Cut}
 use Rattle.step_program.specs.declared.expressions.TwoOp.TheVariants as ops
 use Rattle.step_program.specs.Programs.{Const, Temp, One, Two}

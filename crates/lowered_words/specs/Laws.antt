@@ -2,19 +2,19 @@
 use Rattle.std.specs.Prelude.{◌≡◌, ℕ, ◌+◌, ◌^◌, ◌<◌, ◌≤◌, ◌⊎◌, true, List, [], ◌∷◌, length, None, Some, slice_get, slice_index}
 use Rattle.std.specs.Option.{option_and_then}
 use Rattle.lisa_tree.specs.Descriptions.{DescriptionTree}
-use Rattle.activation_trees.specs.declared.parts.Occurrence.{Occurrence}
-use Rattle.activation_trees.specs.Unfolding.{occurrences}
+use Rattle.scene_paths.specs.activation_trees.declared.parts.Occurrence.{Occurrence}
+use Rattle.scene_paths.specs.activation_trees.Unfolding.{occurrences}
 use Rattle.instruction_trees.specs.Trees.{Form, In}
-use Rattle.coding_tables.specs.Instructions.{forms_of}
+use Rattle.instruction_forms.specs.coding_tables.Instructions.{forms_of}
 use Rattle.instruction_forms.specs.declared.form.Field.{Field}
 use Rattle.instruction_forms.specs.Trees.{FormTree}
 use Rattle.pattern_tables.specs.Overlaps.{AnswersOverlap}
-use Rattle.form_patterns.specs.Instructions.{instruction_frames, instruction_plain}
-use Rattle.lisa_forms.specs.Standings.{part_in}
-use Rattle.lisa_meaning.specs.Standings.{standing}
-use Rattle.lisa_meaning.specs.Scenes.{instruction_with}
-use Rattle.lisa_meaning.specs.Values.{fields_of, label_value}
-use Rattle.lisa_meaning.specs.Cores.{chooses}
+use Rattle.scene_paths.specs.form_patterns.Instructions.{instruction_frames, instruction_plain}
+use Rattle.scene_paths.specs.lisa_forms.Standings.{part_in}
+use Rattle.scene_paths.specs.lisa_meaning.Standings.{standing}
+use Rattle.scene_paths.specs.lisa_meaning.Scenes.{instruction_with}
+use Rattle.scene_paths.specs.lisa_meaning.Values.{fields_of, label_value}
+use Rattle.scene_paths.specs.lisa_meaning.Cores.{chooses}
 use Rattle.step_program.specs.Programs.{Program, Expr, Temp}
 use Rattle.step_program.specs.Effects.{Moment, value, width}
 use Rattle.step_program.specs.WellFormed.{IsFit}

@@ -8,3 +8,7 @@ pub mod Links
 pub mod Tables
 pub mod Kept
 pub mod Code
+pub mod coding_checks
+pub mod coding_tables
+pub mod instruction_forms
+pub mod scene_paths

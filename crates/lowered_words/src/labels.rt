@@ -4,7 +4,7 @@ ghost use Rattle.std.specs.Prelude.{◌≡◌, ℕ, ◌≤◌, ◌+◌, Some, No
 ghost use Rattle.step_pieces.specs.Pieces.{top};
 ghost use Rattle.step_pieces.specs.Drafts.{piece_of};
 ghost use Rattle.lisa_tree.specs.Same.{same_name};
-ghost use Rattle.lisa_meaning.specs.Values.{field_kind};
+ghost use Rattle.scene_paths.specs.lisa_meaning.Values.{field_kind};
 ghost use Rattle.instruction_forms.specs.declared.form.Field as fields;
 ghost use Rattle.lowered_values.specs.Code.{plain, made};
 ghost use Rattle.lowered_time.specs.Code.{Adds};

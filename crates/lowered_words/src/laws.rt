@@ -2,7 +2,7 @@
 
 ghost use Rattle.std.specs.Prelude.{ℕ, None, Some, ◌≤◌};
 ghost use Rattle.lisa_tree.specs.Descriptions.{DescriptionTree};
-ghost use Rattle.lisa_machine.specs.Verdicts.{IsAccepted};
+ghost use Rattle.scene_paths.specs.lisa_machine.Verdicts.{IsAccepted};
 ghost use Rattle.instruction_forms.specs.Widths.{HasWidth};
 ghost use Rattle.step_program.specs.WellFormed.{IsWidth};
 ghost use Rattle.lowered_words.specs.Rows.{IsWordWidth};

@@ -2,7 +2,7 @@
 
 ghost use Rattle.std.specs.Prelude.{◌≡◌, ℕ, IfOk};
 ghost use Rattle.lisa_tree.specs.Descriptions.{DescriptionTree, description_tree};
-ghost use Rattle.lisa_forms.specs.Parts.{AreFormsOf};
+ghost use Rattle.scene_paths.specs.lisa_forms.Parts.{AreFormsOf};
 ghost use Rattle.scene_paths.specs.Lookups.{tree_of};
 ghost use Rattle.lowered_words.specs.Ways.{all_ways};
 ghost use Rattle.lowered_words.specs.Rows.{IsWordWidth};
@@ -14,11 +14,8 @@ use crate::occurrences::choices;
 use crate::table::Table;
 use crate::words::Words;
 use description_tables::Tables;
-use form_patterns::patterns;
-use lisa_forms::Forms;
-use lisa_machine::Machine;
 use lisa_words::NoMemory;
-use scene_paths::Described;
+use scene_paths::{Described, Forms, Machine, patterns};
 use std::alloc::Global;
 
 // The ways of all plain forms.

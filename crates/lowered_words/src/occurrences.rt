@@ -4,10 +4,10 @@ ghost use Rattle.std.specs.Prelude.{◌≡◌, ◌<◌, ℕ, Option, IfOk, lengt
 ghost use Rattle.lisa_tree.specs.Descriptions.{DescriptionTree};
 ghost use Rattle.stage_checks.specs.Graphs.{names_in};
 ghost use Rattle.lisa_tree.specs.Same.{same_name};
-ghost use Rattle.activation_trees.specs.Unfolding.{occurrences};
-ghost use Rattle.activation_trees.specs.Places.{ArePlaces};
-ghost use Rattle.lisa_forms.specs.Choosing.{child_names, child_place};
-ghost use Rattle.lisa_forms.specs.Ways.{by_place};
+ghost use Rattle.scene_paths.specs.activation_trees.Unfolding.{occurrences};
+ghost use Rattle.scene_paths.specs.activation_trees.Places.{ArePlaces};
+ghost use Rattle.scene_paths.specs.lisa_forms.Choosing.{child_names, child_place};
+ghost use Rattle.scene_paths.specs.lisa_forms.Ways.{by_place};
 ghost use Rattle.scene_paths.specs.Lookups.{tree_of};
 ghost use Rattle.lowered_words.specs.Ways.{Whole};
 ghost use Rattle.lowered_words.specs.Choosing.{Choice, at_part, child_choice, chosen_by, choice};
@@ -15,10 +15,9 @@ ghost use Rattle.lowered_words.specs.Kept.{HasWays, HasChoices, AreChoices, plac
 
 use crate::table::Table;
 use crate::way_at::Chosen;
-use activation_trees::{Occurrence, activating_names, places};
 use lisa_tree::{CodingItem, CodingPart, Names};
 use lisa_words::{Name, NoMemory};
-use scene_paths::Described;
+use scene_paths::{Described, Occurrence, activating_names, places};
 use std::alloc::Global;
 
 // The place of a child among those of a coding.

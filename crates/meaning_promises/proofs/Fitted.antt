@@ -18,14 +18,14 @@ use Rattle.lisa_tree.specs.Same.{same_name}
 use Rattle.lisa_tree.specs.Resources.{stage_at, fields, fields_in}
 use Rattle.lisa_tree.specs.Operations.{sections_at, expression_in, own_stage}
 use Rattle.lisa_tree.specs.Meanings.{meaning}
-use Rattle.lisa_machine.specs.Resolving.{IsWidth, IsDepth, FitsResource}
-use Rattle.lisa_machine.specs.Soundness.{IsSound}
-use Rattle.lisa_machine.proofs.Resolved.{resource_fits}
-use Rattle.machine_parts.specs.Parts.{item, array, array_in, arrays_of, pin_in, pins_of, register_in, registers_of}
-use Rattle.instruction_forms.specs.declared.form.Field.{Field}
-use Rattle.instruction_forms.specs.Trees.{FormTree}
-use Rattle.description_sizes.specs.Texts.{levels}
-use Rattle.lisa_forms.specs.Choosing.{child_place, operation_of}
+use Rattle.lisa_meaning.specs.lisa_machine.Resolving.{IsWidth, IsDepth, FitsResource}
+use Rattle.lisa_meaning.specs.lisa_machine.Soundness.{IsSound}
+use Rattle.lisa_meaning.proofs.lisa_machine_proofs.Resolved.{resource_fits}
+use Rattle.lisa_meaning.specs.machine_parts.Parts.{item, array, array_in, arrays_of, pin_in, pins_of, register_in, registers_of}
+use Rattle.lisa_meaning.specs.instruction_forms.declared.form.Field.{Field}
+use Rattle.lisa_meaning.specs.instruction_forms.Trees.{FormTree}
+use Rattle.lisa_meaning.specs.description_sizes.Texts.{levels}
+use Rattle.lisa_meaning.specs.lisa_forms.Choosing.{child_place, operation_of}
 use Rattle.typed_values.specs.Words.{TypedWord, truth}
 use Rattle.typed_values.specs.Effects.{Locals}
 use Rattle.typed_values.specs.Laws.{IsFit, ReadsFit, HasNumbers}
@@ -35,7 +35,7 @@ use Rattle.graph_paths.specs.Paths.{is_in}
 use Rattle.coded_names.specs.Codings.{names_instructions}
 use Rattle.lisa_tree.specs.Operations.{coding_in}
 use Rattle.lisa_tree.specs.Declarations.{is_reference}
-use Rattle.activation_trees.specs.Starting.{plain_named}
+use Rattle.lisa_meaning.specs.activation_trees.Starting.{plain_named}
 use Rattle.lisa_meaning.specs.Scenes.{Link, link, Scene, running, declared, is_label, home, part_at, child_part, chosen, onto, child_at_home}
 use Rattle.lisa_meaning.specs.Moments.{Moment, bare, field_at}
 use Rattle.lisa_meaning.specs.Values.{Below, register_place, array_place, pin_place, resource_value, array_of, meant_array, element_value, field_place, shape_at, shaped_field, boundary_value, stage_before, field_value, label_value, fields_of, value_below, child_value, declared_value, meant_value, reader, value_within, value_of}

@@ -15,3 +15,5 @@ pub mod Wide
 pub mod Fitted
 pub mod Kept
 pub mod RootWords
+pub mod lisa_machine_proofs
+pub mod typed_values_proofs

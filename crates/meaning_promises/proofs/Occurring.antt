@@ -10,31 +10,31 @@ use Rattle.lisa_tree.specs.Operations.{number_of, sections_at, coding_in, is_roo
 use Rattle.graph_paths.specs.Paths.{is_in}
 use Rattle.coded_names.specs.Codings.{in_coding, names_instructions, is_coding}
 use Rattle.stage_checks.specs.Controls.{main_name}
-use Rattle.lisa_machine.specs.Running.{FitsMain}
-use Rattle.lisa_machine.specs.Soundness.{IsSound}
-use Rattle.lisa_machine.proofs.Chosen.{plain_listed}
-use Rattle.lisa_machine.proofs.Decoding.{off_left, off_right}
-use Rattle.use_promises.proofs.Used.{coded_there}
-use Rattle.activation_trees.specs.declared.parts.Occurrence.{Occurrence}
-use Rattle.activation_trees.specs.Starting.{Activated, activated, plain_named}
-use Rattle.activation_trees.specs.Unfolding.{occurrences, children}
-use Rattle.activation_trees.specs.Unfolding as trees_of
-use Rattle.activation_trees.specs.Activators.{IsChild, HasActivator}
-use Rattle.activation_trees.specs.Places.{IsBelow, IsBelowBy, HasName, place}
-use Rattle.activation_trees.proofs.Lying.{each_occurrence, has_activator}
-use Rattle.activation_trees.proofs.Ordered.{at_place, has_name}
+use Rattle.lisa_meaning.specs.lisa_machine.Running.{FitsMain}
+use Rattle.lisa_meaning.specs.lisa_machine.Soundness.{IsSound}
+use Rattle.lisa_meaning.proofs.lisa_machine_proofs.Chosen.{plain_listed}
+use Rattle.lisa_meaning.proofs.lisa_machine_proofs.Decoding.{off_left, off_right}
+use Rattle.lisa_meaning.proofs.use_promises_proofs.Used.{coded_there}
+use Rattle.lisa_meaning.specs.activation_trees.declared.parts.Occurrence.{Occurrence}
+use Rattle.lisa_meaning.specs.activation_trees.Starting.{Activated, activated, plain_named}
+use Rattle.lisa_meaning.specs.activation_trees.Unfolding.{occurrences, children}
+use Rattle.lisa_meaning.specs.activation_trees.Unfolding as trees_of
+use Rattle.lisa_meaning.specs.activation_trees.Activators.{IsChild, HasActivator}
+use Rattle.lisa_meaning.specs.activation_trees.Places.{IsBelow, IsBelowBy, HasName, place}
+use Rattle.lisa_meaning.proofs.activation_trees_proofs.Lying.{each_occurrence, has_activator}
+use Rattle.lisa_meaning.proofs.activation_trees_proofs.Ordered.{at_place, has_name}
 use Rattle.instruction_trees.specs.Trees as plain
 use Rattle.instruction_trees.specs.Trees.{Done, Pass, Value, Choose, Fits, AnyValue, coding, is_plain}
-use Rattle.coding_tables.specs.Codings.{coding_table}
-use Rattle.coding_tables.specs.Instructions.{instruction_items, forms_of}
+use Rattle.lisa_meaning.specs.coding_tables.Codings.{coding_table}
+use Rattle.lisa_meaning.specs.coding_tables.Instructions.{instruction_items, forms_of}
 use Rattle.pattern_tables.specs.Instructions.{form_at}
 use Rattle.pattern_tables.specs.Tables.{IsDecoded}
-use Rattle.instruction_forms.specs.Trees.{FormTree}
-use Rattle.instruction_forms.specs.Described.{instruction_form}
-use Rattle.form_patterns.specs.Instructions.{instruction_frames, instruction_plain}
-use Rattle.form_patterns.proofs.Filling.{fit_at}
-use Rattle.lisa_forms.specs.Choosing.{child_place, operation_of, numbered_form, Stands, whole, child, other, further}
-use Rattle.lisa_forms.specs.Standings.{part_in}
+use Rattle.lisa_meaning.specs.instruction_forms.Trees.{FormTree}
+use Rattle.lisa_meaning.specs.instruction_forms.Described.{instruction_form}
+use Rattle.lisa_meaning.specs.form_patterns.Instructions.{instruction_frames, instruction_plain}
+use Rattle.lisa_meaning.proofs.form_patterns_proofs.Filling.{fit_at}
+use Rattle.lisa_meaning.specs.lisa_forms.Choosing.{child_place, operation_of, numbered_form, Stands, whole, child, other, further}
+use Rattle.lisa_meaning.specs.lisa_forms.Standings.{part_in}
 use Rattle.lisa_meaning.specs.Standings.{Stood, standing}
 use Rattle.lisa_meaning.specs.Scenes.{Link, link, form_with, instruction_with, line_within, occurrence_part, occurrence_link, scene_by, has_word, scene_with, scene_of}
 use Rattle.lisa_meaning.specs.Cores.{is_root_at, chooses, core_of}

@@ -19,12 +19,12 @@ use Rattle.lisa_tree.specs.Same.{same_name}
 use Rattle.lisa_tree.specs.Resources.{stage_at}
 use Rattle.lisa_tree.specs.Operations.{own_stage}
 use Rattle.lisa_tree.specs.Meanings.{meaning}
-use Rattle.lisa_machine.specs.Freedom.{AllStand}
-use Rattle.lisa_machine.specs.Resolving.{IsWidth}
-use Rattle.lisa_machine.specs.Soundness.{IsSound}
-use Rattle.lisa_machine.proofs.Distinct.{local_fresh, counter_fresh}
-use Rattle.lisa_machine.proofs.Resolved.{local_wide, counter_wide}
-use Rattle.use_promises.proofs.Counted.{counter_holds}
+use Rattle.lisa_meaning.specs.lisa_machine.Freedom.{AllStand}
+use Rattle.lisa_meaning.specs.lisa_machine.Resolving.{IsWidth}
+use Rattle.lisa_meaning.specs.lisa_machine.Soundness.{IsSound}
+use Rattle.lisa_meaning.proofs.lisa_machine_proofs.Distinct.{local_fresh, counter_fresh}
+use Rattle.lisa_meaning.proofs.lisa_machine_proofs.Resolved.{local_wide, counter_wide}
+use Rattle.lisa_meaning.proofs.use_promises_proofs.Counted.{counter_holds}
 use Rattle.lisa_words.specs.declared.words.Kind.TheVariants as kinds
 use Rattle.typed_values.specs.Words.{TypedWord, number_value}
 use Rattle.typed_values.specs.Expressions.{Reader}
@@ -33,7 +33,7 @@ use Rattle.lisa_meaning.specs.Scenes.{Link, Scene, at_path, running, child, home
 use Rattle.lisa_meaning.specs.Moments.{Moment, with_stall, with_flush}
 use Rattle.lisa_meaning.specs.Values.{Array, named_array, field_place, shape_at, expression_at, value_of}
 use Rattle.lisa_meaning.specs.Effects.{Given, resource_put, element_put, out_with, out_put, PutBelow, put_below, meant_put, name_put, put, put_within, at_level, behavior_at, body, run_within}
-use Rattle.description_sizes.specs.Texts.{levels}
+use Rattle.lisa_meaning.specs.description_sizes.Texts.{levels}
 use Rattle.meaning_promises.specs.Typing.{IsOfType}
 use Rattle.meaning_promises.specs.Scoping.{all_after, AreLocalsOf}
 use Rattle.meaning_promises.specs.Running.{doing_within}

@@ -4,3 +4,7 @@ pub mod Forms
 pub mod Running
 pub mod Spots
 pub mod Fitting
+pub mod description_types
+pub mod lisa_machine
+pub mod machine_parts
+pub mod typed_values

@@ -4,9 +4,9 @@ use Rattle.lisa_tree.specs.Descriptions.{DescriptionTree}
 use Rattle.lisa_tree.specs.Operations.{number_of}
 use Rattle.graph_paths.specs.Paths.{is_in}
 use Rattle.stage_checks.specs.Controls.{main_name}
-use Rattle.activation_trees.specs.Starting.{plain_named}
-use Rattle.instruction_forms.specs.Trees.{FormTree}
-use Rattle.lisa_forms.specs.Choosing.{operation_of}
+use Rattle.lisa_meaning.specs.activation_trees.Starting.{plain_named}
+use Rattle.lisa_meaning.specs.instruction_forms.Trees.{FormTree}
+use Rattle.lisa_meaning.specs.lisa_forms.Choosing.{operation_of}
 use Rattle.typed_values.specs.Effects.{Doing}
 use Rattle.lisa_meaning.specs.Scenes.{Link, Scene, at_path, child}
 use Rattle.lisa_meaning.specs.Moments.{Moment}

@@ -1,3 +1,4 @@
 mod Modules
 mod Designed
 pub mod Stopped
+pub mod verilog_reader_proofs

@@ -27,9 +27,9 @@ use Rattle.access_counts.specs.Accesses.{Access, value_accesses, place_accesses,
 use Rattle.access_counts.specs.Accesses as counting
 use Rattle.access_counts.specs.Unfolded.{Counted, naming, counted_within}
 use Rattle.description_weight.specs.Unfolded.{chosen_by}
-use Rattle.lisa_meaning.specs.Values.{Array, meant_array, named_array}
-use Rattle.lowered_resources.specs.Reading.{cells_of}
-use Rattle.lowered_behaviors.proofs.Sources.{element_there}
+use Rattle.touch_promises.specs.lisa_meaning.Values.{Array, meant_array, named_array}
+use Rattle.lowered_edges.specs.lowered_resources.Reading.{cells_of}
+use Rattle.lowered_edges.proofs.lowered_behaviors_proofs.Sources.{element_there}
 use Rattle.module_sizes.specs.Costs.{Rates}
 use Rattle.module_sizes.specs.Worths.{unit, Naming, value_worth, place_worth, statement_worth, statements_worth}
 use Rattle.module_sizes.specs.Standing.{read_worth, assigned_worth, run_worth}

@@ -24,25 +24,25 @@ use Rattle.lisa_machine.proofs.Falling.{node_ranks}
 use Rattle.lisa_machine.proofs.Named.{what_is}
 use Rattle.meant_declarations.specs.Meant as meant
 use Rattle.meant_declarations.specs.Meant.{itself, higher}
-use Rattle.use_promises.specs.Meant.{ChoosesFrom}
-use Rattle.use_promises.proofs.Traits.{means}
+use Rattle.touch_promises.specs.use_promises.Meant.{ChoosesFrom}
+use Rattle.touch_promises.proofs.use_promises_proofs.Traits.{means}
 use Rattle.activation_trees.specs.Starting.{plain_of, plain_named}
 use Rattle.text_counts.specs.References.{MayMean, chosen, referenced}
 use Rattle.text_counts.specs.References as references
-use Rattle.description_sizes.specs.Texts.{may_choose, levels}
-use Rattle.description_sizes.specs.Texts as texts
-use Rattle.description_sizes.proofs.Rising.{passing_has, some_below}
-use Rattle.description_sizes.proofs.Chosen.{by_choice, by_name, meant_within}
+use Rattle.description_weight.specs.description_sizes.Texts.{may_choose, levels}
+use Rattle.description_weight.specs.description_sizes.Texts as texts
+use Rattle.description_weight.proofs.description_sizes_proofs.Rising.{passing_has, some_below}
+use Rattle.description_weight.proofs.description_sizes_proofs.Chosen.{by_choice, by_name, meant_within}
 use Rattle.description_weight.specs.Unfolded.{chosen_by}
-use Rattle.lisa_forms.specs.Choosing.{child_place}
-use Rattle.lisa_meaning.specs.Scenes.{Link, declared}
-use Rattle.lisa_meaning.specs.Scenes as scenes
-use Rattle.lisa_meaning.proofs.Above.{named_by}
-use Rattle.lisa_meaning.proofs.Paths.{IsPath, Home, home_of}
-use Rattle.lowered_words.specs.Ways.{Way, Whole, Child}
-use Rattle.lowered_behaviors.specs.Standpoints.{Level, level, Standpoint, running, home, alternative, placed, beside, alternatives_at, alternatives}
-use Rattle.lowered_behaviors.proofs.Choosing.{AreOnce}
-use Rattle.lowered_behaviors.proofs.Once.{named_once}
+use Rattle.description_weight.specs.lisa_forms.Choosing.{child_place}
+use Rattle.touch_promises.specs.lisa_meaning.Scenes.{Link, declared}
+use Rattle.touch_promises.specs.lisa_meaning.Scenes as scenes
+use Rattle.touch_promises.proofs.lisa_meaning_proofs.Above.{named_by}
+use Rattle.touch_promises.proofs.lisa_meaning_proofs.Paths.{IsPath, Home, home_of}
+use Rattle.lowered_edges.specs.lowered_words.Ways.{Way, Whole, Child}
+use Rattle.lowered_edges.specs.lowered_behaviors.Standpoints.{Level, level, Standpoint, running, home, alternative, placed, beside, alternatives_at, alternatives}
+use Rattle.lowered_edges.proofs.lowered_behaviors_proofs.Choosing.{AreOnce}
+use Rattle.lowered_edges.proofs.lowered_behaviors_proofs.Once.{named_once}
 use Rattle.module_sizes.specs.Standing.{IsStood}
 
 -- ---- sums over lists of numbers

@@ -12,17 +12,17 @@ use Rattle.lisa_tree.specs.Descriptions as trees
 use Rattle.lisa_tree.specs.Descriptions.{ResourceTree, DescriptionTree}
 use Rattle.lisa_tree.specs.Resources.{is_named, resource_at}
 use Rattle.lisa_engine.specs.declared.parts.ArrayItem.{ArrayItem}
-use Rattle.machine_parts.specs.Parts as parts
-use Rattle.machine_parts.specs.Parts.{array_in}
+use Rattle.lisa_machine.specs.machine_parts.Parts as parts
+use Rattle.lisa_machine.specs.machine_parts.Parts.{array_in}
 use Rattle.activation_trees.specs.declared.parts.Occurrence.{Occurrence}
 use Rattle.activation_trees.specs.Unfolding.{occurrences}
-use Rattle.description_sizes.specs.Texts.{levels}
+use Rattle.description_weight.specs.description_sizes.Texts.{levels}
 use Rattle.instruction_trees.specs.Bits.{one_if}
 use Rattle.access_counts.specs.Accesses.{Access}
 use Rattle.access_counts.specs.Unfolded.{of_resources, text_accesses}
 use Rattle.description_weight.specs.Unfolded.{chosen_by, accesses}
 use Rattle.description_weight.specs.Weights.{one_at, reads_of, writes_of, pairs}
-use Rattle.lisa_meaning.specs.Values.{Array, array_of, array_place}
+use Rattle.touch_promises.specs.lisa_meaning.Values.{Array, array_of, array_place}
 use Rattle.module_sizes.specs.Costs.{pair_rates, one_write, write_rates}
 use Rattle.module_sizes.specs.Weighed.{resource_rate, array_rates}
 use Rattle.module_sizes.specs.Counted.{array_writes}

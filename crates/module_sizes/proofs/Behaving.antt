@@ -2,13 +2,13 @@
 use Rattle.std.proofs.Common.{ℕ, zero, suc, ◌+◌, ◌≤◌, [], Option, None, Some, arith}
 use Rattle.lisa_tree.specs.Statements.{StmtTrees}
 use Rattle.lisa_tree.specs.Operations.{sections_at, behavior_in}
-use Rattle.description_sizes.specs.Texts.{levels}
+use Rattle.description_weight.specs.description_sizes.Texts.{levels}
 use Rattle.step_program.specs.Programs.{Program, Expr}
 use Rattle.step_pieces.specs.Pieces.{Piece}
-use Rattle.lowered_statements.specs.Ways.{Ways}
-use Rattle.lowered_behaviors.specs.Standpoints.{Standpoint, running, alternatives}
-use Rattle.lowered_behaviors.specs.Values.{Ground}
-use Rattle.lowered_behaviors.specs.Behaviors.{ways_at, body_of, behavior_within}
+use Rattle.lowered_edges.specs.lowered_statements.Ways.{Ways}
+use Rattle.lowered_edges.specs.lowered_behaviors.Standpoints.{Standpoint, running, alternatives}
+use Rattle.lowered_edges.specs.lowered_behaviors.Values.{Ground}
+use Rattle.lowered_edges.specs.lowered_behaviors.Behaviors.{ways_at, body_of, behavior_within}
 use Rattle.module_sizes.specs.Costs.{Rates, IsLongest, IsFree}
 use Rattle.module_sizes.specs.Worths.{Naming}
 use Rattle.module_sizes.specs.Standing.{run_worth, run_at, AreNamed}

@@ -11,13 +11,13 @@ use Rattle.std.proofs.lemmas.Option.{slice_get_past}
 use Rattle.lisa_tree.specs.Descriptions.{DescriptionTree}
 use Rattle.lisa_tree.specs.Resources.{fields}
 use Rattle.lisa_engine.specs.declared.parts.Item.{Item}
-use Rattle.machine_parts.specs.Parts.{registers_of}
+use Rattle.lisa_machine.specs.machine_parts.Parts.{registers_of}
 use Rattle.activation_trees.specs.declared.parts.Occurrence.{Occurrence}
 use Rattle.activation_trees.specs.Unfolding.{occurrences}
 use Rattle.activation_trees.specs.Items.{has_bit}
 use Rattle.instruction_trees.specs.Bits.{one_if}
-use Rattle.instruction_forms.specs.Widths.{HasWidth}
-use Rattle.description_sizes.specs.Sizes.{items}
+use Rattle.description_weight.specs.instruction_forms.Widths.{HasWidth}
+use Rattle.description_weight.specs.description_sizes.Sizes.{items}
 use Rattle.description_types.specs.Types.{Types}
 use Rattle.item_layouts.specs.declared.place.ItemPlace.{ItemPlace}
 use Rattle.item_layouts.specs.declared.place.ItemPlace.TheVariants.{Register, Field, Word, Bit}
@@ -26,14 +26,14 @@ use Rattle.item_layouts.specs.Layouts.{register_places, boundary_places, field_p
 use Rattle.pipeline_time.specs.Acts.{size}
 use Rattle.pipeline_time.specs.Cores.{Core}
 use Rattle.step_program.specs.Programs.{Expr, Temp}
-use Rattle.lisa_meaning.specs.Cores.{core_of}
-use Rattle.lisa_meaning.specs.States.{layout_of}
+use Rattle.touch_promises.specs.lisa_meaning.Cores.{core_of}
+use Rattle.touch_promises.specs.lisa_meaning.States.{layout_of}
 use Rattle.lowered_time.specs.Building.{Operations, Layout, held_at, open_at, next_bit, next_word, set_place, bit_ends, ends}
-use Rattle.lowered_layouts.specs.Temps.{boundary_count}
-use Rattle.lowered_layouts.specs.Items.{time_layout}
-use Rattle.lowered_layouts.specs.Ends.{field_end, boundary_ends}
-use Rattle.lowered_layouts.proofs.Widths.{place_wide, items_wide}
-use Rattle.lowered_layouts.proofs.Items.{place_there}
+use Rattle.lowered_edges.specs.lowered_layouts.Temps.{boundary_count}
+use Rattle.lowered_edges.specs.lowered_layouts.Items.{time_layout}
+use Rattle.lowered_edges.specs.lowered_layouts.Ends.{field_end, boundary_ends}
+use Rattle.lowered_edges.proofs.lowered_layouts_proofs.Widths.{place_wide, items_wide}
+use Rattle.lowered_edges.proofs.lowered_layouts_proofs.Items.{place_there}
 use Rattle.lowered_edges.specs.Parts.{operations}
 use Rattle.lowered_edges.specs.Programs.{word_width}
 use Rattle.module_sizes.specs.Whole.{end_count}

@@ -9,11 +9,11 @@ use Rattle.lisa_tree.specs.Descriptions.{DescriptionTree}
 use Rattle.lisa_tree.specs.Resources.{fields}
 use Rattle.std.specs.List.{flat_map, range_with_len}
 use Rattle.std.proofs.lemmas.List.Concat.{flat_map-cons}
-use Rattle.lowered_resources.specs.Places.{Written, Out}
-use Rattle.lowered_layouts.specs.Temps.{temp, boundary_count}
-use Rattle.lowered_layouts.specs.Items.{field_place}
-use Rattle.lowered_layouts.specs.Ends as closing
-use Rattle.lowered_layouts.specs.Ends.{before_field, next_field, field_end, boundary_ends}
+use Rattle.lowered_edges.specs.lowered_resources.Places.{Written, Out}
+use Rattle.lowered_edges.specs.lowered_layouts.Temps.{temp, boundary_count}
+use Rattle.lowered_edges.specs.lowered_layouts.Items.{field_place}
+use Rattle.lowered_edges.specs.lowered_layouts.Ends as closing
+use Rattle.lowered_edges.specs.lowered_layouts.Ends.{before_field, next_field, field_end, boundary_ends}
 use Rattle.module_sizes.specs.Costs.{Rates, IsLongest, expr_cost, IsFree, moves_cost}
 use Rattle.module_sizes.proofs.Operands.{temp_low, operand_low}
 use Rattle.module_sizes.proofs.Adding.{moves_append}

@@ -8,7 +8,7 @@ use Rattle.lisa_tree.specs.declared.tokens.Shape.{Shape}
 use Rattle.lisa_tree.specs.Descriptions as trees
 use Rattle.lisa_tree.specs.Descriptions.{ResourceTree, DescriptionTree}
 use Rattle.lisa_tree.specs.Same.{same_name}
-use Rattle.instruction_forms.specs.declared.form.Field.{Field}
+use Rattle.description_weight.specs.instruction_forms.declared.form.Field.{Field}
 use Rattle.step_program.specs.declared.expressions.OneOp.TheVariants.{Cut}
 use Rattle.step_program.specs.declared.expressions.TwoOp.TheVariants as ops
 use Rattle.step_program.specs.Programs.{Program, Expr, Const, Temp, Two, ToTemp}
@@ -16,15 +16,15 @@ use Rattle.step_pieces.specs.Pieces.{Piece, nothing, behind, top, held}
 use Rattle.lowered_values.specs.Operands.{Operand}
 use Rattle.lowered_values.specs.Templates.{fitted}
 use Rattle.lowered_values.specs.Computed.{Computed, leaf}
-use Rattle.lowered_statements.specs.Scopes.{Local}
-use Rattle.lowered_statements.specs.Stated.{shaped}
-use Rattle.lowered_resources.specs.Reading.{absent, resource_operand, field_operand, name_operand}
-use Rattle.lowered_resources.specs.Putting.{moving, move_to}
-use Rattle.lowered_words.specs.Ways.{Way, way_place}
-use Rattle.lowered_words.specs.Rows.{flag_in}
-use Rattle.lowered_words.specs.Labels.{cut_out, field_computed, label_field}
-use Rattle.lowered_behaviors.specs.Standpoints.{Standpoint, own_way}
-use Rattle.lowered_behaviors.specs.Values.{Ground, operand_or, decoded_in, flag, chosen_value, child_value, label_by}
+use Rattle.lowered_edges.specs.lowered_statements.Scopes.{Local}
+use Rattle.lowered_edges.specs.lowered_statements.Stated.{shaped}
+use Rattle.lowered_edges.specs.lowered_resources.Reading.{absent, resource_operand, field_operand, name_operand}
+use Rattle.lowered_edges.specs.lowered_resources.Putting.{moving, move_to}
+use Rattle.lowered_edges.specs.lowered_words.Ways.{Way, way_place}
+use Rattle.lowered_edges.specs.lowered_words.Rows.{flag_in}
+use Rattle.lowered_edges.specs.lowered_words.Labels.{cut_out, field_computed, label_field}
+use Rattle.lowered_edges.specs.lowered_behaviors.Standpoints.{Standpoint, own_way}
+use Rattle.lowered_edges.specs.lowered_behaviors.Values.{Ground, operand_or, decoded_in, flag, chosen_value, child_value, label_by}
 use Rattle.module_sizes.specs.Costs.{Rates, IsLongest, IsFree}
 use Rattle.module_sizes.specs.Worths.{unit}
 use Rattle.module_sizes.proofs.Operands.{one_cost, two_cost, temp_cost}

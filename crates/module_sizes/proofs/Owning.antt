@@ -19,10 +19,10 @@ use Rattle.activation_trees.specs.Unfolding.{occurrences, occurrence, child, in_
 use Rattle.activation_trees.proofs.Levels.{in_turn_append, all_append}
 use Rattle.pipeline_time.specs.Acts.{Acts, Done, Act, When, Node, nodes, size}
 use Rattle.pipeline_time.specs.Cores.{all_nodes}
-use Rattle.lisa_meaning.specs.Trees.{Activator, level_of_stage, followed, items_tests, item_tests, row, item_acts, items_acts, activation_acts, acts_within, main_acts, acts_of}
-use Rattle.lisa_meaning.specs.Cores.{core_of}
-use Rattle.lisa_meaning.specs.Laws.{Listed, node_listed, occurrence_listed, listed_from, TreesAreOccurrences}
-use Rattle.lisa_meaning.proofs.Nodes.{listed_size, named_one, named_two, Named, One, AreListed, items_listed, item_listed, Tree, below_listed}
+use Rattle.touch_promises.specs.lisa_meaning.Trees.{Activator, level_of_stage, followed, items_tests, item_tests, row, item_acts, items_acts, activation_acts, acts_within, main_acts, acts_of}
+use Rattle.touch_promises.specs.lisa_meaning.Cores.{core_of}
+use Rattle.touch_promises.specs.lisa_meaning.Laws.{Listed, node_listed, occurrence_listed, listed_from, TreesAreOccurrences}
+use Rattle.touch_promises.proofs.lisa_meaning_proofs.Nodes.{listed_size, named_one, named_two, Named, One, AreListed, items_listed, item_listed, Tree, below_listed}
 use Rattle.module_sizes.specs.Priced.{operation_of}
 use Rattle.module_sizes.specs.Activating.{items_worth}
 use Rattle.module_sizes.specs.Counted.{spare, activation_spare, of_all}

@@ -16,23 +16,23 @@ use Rattle.lisa_tree.specs.Same.{same_name}
 use Rattle.lisa_tree.specs.Resources.{stage_at}
 use Rattle.lisa_tree.specs.Meanings.{meaning}
 use Rattle.lisa_tree.specs.Operations.{sections_at, expression_in, own_stage}
-use Rattle.description_sizes.specs.Texts.{levels}
+use Rattle.description_weight.specs.description_sizes.Texts.{levels}
 use Rattle.step_program.specs.declared.expressions.TwoOp.TheVariants as ops
 use Rattle.step_program.specs.Programs.{Program, Expr, Temp, ToItem, ToTemp, ToCell}
-use Rattle.lisa_meaning.specs.Values.{Array, register_place, named_array, field_place, shape_at}
+use Rattle.touch_promises.specs.lisa_meaning.Values.{Array, register_place, named_array, field_place, shape_at}
 use Rattle.step_pieces.specs.Pieces.{Piece, nothing, top, held, always}
 use Rattle.lowered_values.specs.Templates.{fitted}
 use Rattle.lowered_values.specs.Sources.{bare}
 use Rattle.lowered_values.specs.Computed.{Computed}
-use Rattle.lowered_statements.specs.Scopes.{Local, Scope}
+use Rattle.lowered_edges.specs.lowered_statements.Scopes.{Local, Scope}
 use Rattle.lowered_time.specs.Pieces.{both}
-use Rattle.lowered_resources.specs.Places.{Places, Lasting, Written, Out, Stall, Flush}
-use Rattle.lowered_resources.specs.Reading.{index_width}
-use Rattle.lowered_resources.specs.Putting.{Given, Stores, Reads, moving, move_to, assigned, resource_put, element_put, field_put, out_put, meant_put, name_put, puts, told, stalls, flushes}
-use Rattle.lowered_words.specs.Ways.{Way}
-use Rattle.lowered_behaviors.specs.Standpoints.{Standpoint, running, alternatives, own_way}
-use Rattle.lowered_behaviors.specs.Values.{Ground, flag}
-use Rattle.lowered_behaviors.specs.Behaviors.{done_by, done_by_all, reads_at, store_at, puts_with, puts_within}
+use Rattle.lowered_edges.specs.lowered_resources.Places.{Places, Lasting, Written, Out, Stall, Flush}
+use Rattle.lowered_edges.specs.lowered_resources.Reading.{index_width}
+use Rattle.lowered_edges.specs.lowered_resources.Putting.{Given, Stores, Reads, moving, move_to, assigned, resource_put, element_put, field_put, out_put, meant_put, name_put, puts, told, stalls, flushes}
+use Rattle.lowered_edges.specs.lowered_words.Ways.{Way}
+use Rattle.lowered_edges.specs.lowered_behaviors.Standpoints.{Standpoint, running, alternatives, own_way}
+use Rattle.lowered_edges.specs.lowered_behaviors.Values.{Ground, flag}
+use Rattle.lowered_edges.specs.lowered_behaviors.Behaviors.{done_by, done_by_all, reads_at, store_at, puts_with, puts_within}
 use Rattle.module_sizes.specs.Costs.{Rates, IsLongest, IsFree}
 use Rattle.module_sizes.specs.Worths.{unit, Naming, value_worth, place_worth}
 use Rattle.module_sizes.specs.Standing.{assigned_worth, assigned_at, AreNamed}

@@ -8,28 +8,28 @@ use Rattle.lisa_tree.specs.Statements as stmts
 use Rattle.lisa_tree.specs.Statements.{StmtTrees}
 use Rattle.lisa_tree.specs.Operations.{sections_at, coding_in, behavior_in, is_root}
 use Rattle.lisa_tree.specs.Paths.{node_count}
-use Rattle.description_sizes.specs.Texts.{levels}
+use Rattle.description_weight.specs.description_sizes.Texts.{levels}
 use Rattle.description_types.specs.Types.{Types}
 use Rattle.activation_trees.specs.declared.parts.Occurrence.{Occurrence}
 use Rattle.activation_trees.specs.Unfolding.{occurrences}
-use Rattle.coding_tables.specs.Instructions.{Root, first_root}
+use Rattle.description_weight.specs.coding_tables.Instructions.{Root, first_root}
 use Rattle.lisa_machine.specs.Soundness.{IsSound}
 use Rattle.step_program.specs.Programs.{Program, Expr, Const}
 use Rattle.step_pieces.specs.Pieces.{top, always}
-use Rattle.lisa_meaning.specs.Scenes.{Link, line, line_within, occurrence_link}
-use Rattle.lisa_meaning.specs.Cores.{condition, root_place, is_root_at, core_of}
-use Rattle.lisa_meaning.proofs.Paths.{line_of}
+use Rattle.touch_promises.specs.lisa_meaning.Scenes.{Link, line, line_within, occurrence_link}
+use Rattle.touch_promises.specs.lisa_meaning.Cores.{condition, root_place, is_root_at, core_of}
+use Rattle.touch_promises.proofs.lisa_meaning_proofs.Paths.{line_of}
 use Rattle.lowered_values.specs.Templates.{fitted}
 use Rattle.lowered_values.specs.Sources.{bare}
 use Rattle.lowered_values.specs.Computed.{Computed, computed}
-use Rattle.lowered_resources.specs.Reading.{absent, sources}
-use Rattle.lowered_words.specs.Ways.{way_place}
-use Rattle.lowered_words.specs.Choosing.{Choice, choice}
-use Rattle.lowered_words.specs.Rows.{flag_at, flag_in, choice_flag}
-use Rattle.lowered_behaviors.specs.Standpoints.{Standpoint, Level, running}
-use Rattle.lowered_behaviors.specs.Values.{Ground}
-use Rattle.lowered_layouts.specs.Temps.{row_base}
-use Rattle.lowered_layouts.specs.Items.{places_of}
+use Rattle.lowered_edges.specs.lowered_resources.Reading.{absent, sources}
+use Rattle.lowered_edges.specs.lowered_words.Ways.{way_place}
+use Rattle.lowered_edges.specs.lowered_words.Choosing.{Choice, choice}
+use Rattle.lowered_edges.specs.lowered_words.Rows.{flag_at, flag_in, choice_flag}
+use Rattle.lowered_edges.specs.lowered_behaviors.Standpoints.{Standpoint, Level, running}
+use Rattle.lowered_edges.specs.lowered_behaviors.Values.{Ground}
+use Rattle.lowered_edges.specs.lowered_layouts.Temps.{row_base}
+use Rattle.lowered_edges.specs.lowered_layouts.Items.{places_of}
 use Rattle.lowered_edges.specs.Parts.{is_empty, is_idle, idle_at, behavior_of, level_at, standpoint_of, ground_at, value_at, no_names, word_read, fetch_at, operations}
 use Rattle.module_sizes.specs.Charges.{operand_most}
 use Rattle.module_sizes.specs.Costs.{Rates, IsLongest, IsFree}

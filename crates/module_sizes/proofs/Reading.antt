@@ -14,16 +14,16 @@ use Rattle.lisa_tree.specs.Meanings.{meaning}
 use Rattle.lisa_tree.specs.Operations.{sections_at, expression_in, own_stage}
 use Rattle.description_types.specs.Types.{meant_type}
 use Rattle.step_program.specs.Programs.{Program, Expr, Before}
-use Rattle.lisa_meaning.specs.Values.{field_place, shape_at, stage_before}
-use Rattle.lisa_meaning.specs.Scenes.{declared, is_label}
+use Rattle.touch_promises.specs.lisa_meaning.Values.{field_place, shape_at, stage_before}
+use Rattle.touch_promises.specs.lisa_meaning.Scenes.{declared, is_label}
 use Rattle.step_pieces.specs.Pieces.{top}
 use Rattle.lowered_values.specs.Operands.{Operand}
 use Rattle.lowered_values.specs.Computed.{Computed, leaf, computed}
-use Rattle.lowered_statements.specs.Scopes.{Scope}
-use Rattle.lowered_resources.specs.Places.{Places}
-use Rattle.lowered_resources.specs.Reading.{Known, absent, boundary_operand, meant_operand, sources}
-use Rattle.lowered_behaviors.specs.Standpoints.{Standpoint, running, home, alternatives_at, alternatives, own_way}
-use Rattle.lowered_behaviors.specs.Values.{Ground, names_in, Prepared, prepared, known_of, reading, child_value, label_at, declared_here, meant_here, name_here, expression_of, expressed, value_within}
+use Rattle.lowered_edges.specs.lowered_statements.Scopes.{Scope}
+use Rattle.lowered_edges.specs.lowered_resources.Places.{Places}
+use Rattle.lowered_edges.specs.lowered_resources.Reading.{Known, absent, boundary_operand, meant_operand, sources}
+use Rattle.lowered_edges.specs.lowered_behaviors.Standpoints.{Standpoint, running, home, alternatives_at, alternatives, own_way}
+use Rattle.lowered_edges.specs.lowered_behaviors.Values.{Ground, names_in, Prepared, prepared, known_of, reading, child_value, label_at, declared_here, meant_here, name_here, expression_of, expressed, value_within}
 use Rattle.module_sizes.specs.Costs.{Rates, IsLongest, IsFree}
 use Rattle.module_sizes.specs.Worths.{unit, Naming, value_worth}
 use Rattle.module_sizes.specs.Standing.{read_worth, read_at, AreNamed}

@@ -7,13 +7,13 @@ use Rattle.std.proofs.lemmas.List.Sums.{sum_by-cons}
 use Rattle.std.proofs.lemmas.List.Concat.{flat_map-cons}
 use Rattle.lisa_tree.specs.Descriptions.{DescriptionTree}
 use Rattle.instruction_trees.specs.Trees.{Form}
-use Rattle.instruction_forms.specs.Trees.{FormTree, FormTrees, Node, End, Then}
-use Rattle.instruction_forms.specs.Described.{instruction_form}
-use Rattle.lisa_forms.specs.Choosing.{operation_of}
+use Rattle.description_weight.specs.instruction_forms.Trees.{FormTree, FormTrees, Node, End, Then}
+use Rattle.description_weight.specs.instruction_forms.Described.{instruction_form}
+use Rattle.description_weight.specs.lisa_forms.Choosing.{operation_of}
 use Rattle.step_program.specs.Programs.{Program, Expr, Move}
-use Rattle.lowered_words.specs.Ways.{Way, Whole, Child, ways_from, ways_among, all_ways, way_place, form_ways, plain_forms}
-use Rattle.lowered_words.specs.Rows.{decoded_at, flag_at}
-use Rattle.lowered_words.specs.Loading.{cleared, is_alone, flag_raised, way_raised, form_loaded, load}
+use Rattle.lowered_edges.specs.lowered_words.Ways.{Way, Whole, Child, ways_from, ways_among, all_ways, way_place, form_ways, plain_forms}
+use Rattle.lowered_edges.specs.lowered_words.Rows.{decoded_at, flag_at}
+use Rattle.lowered_edges.specs.lowered_words.Loading.{cleared, is_alone, flag_raised, way_raised, form_loaded, load}
 use Rattle.description_weight.specs.Weights.{tree_nodes, trees_nodes, form_nodes}
 use Rattle.module_sizes.specs.Costs.{Rates, IsLongest, AreFormed, IsFree, moves_cost}
 use Rattle.module_sizes.specs.Rows.{flags_worth, form_worth, row_worth}

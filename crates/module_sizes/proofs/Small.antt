@@ -3,9 +3,9 @@ use Rattle.std.proofs.Common.{◌≡◌, ◌≤◌, ◌+◌, ◌*◌, ◌^◌, �
 use Rattle.std.proofs.Math.Nat.{mul-le-mul_right}
 use Rattle.lisa_tree.specs.Descriptions.{DescriptionTree}
 use Rattle.lisa_tree.specs.Resources.{stages}
-use Rattle.machine_parts.specs.Parts.{registers_of}
+use Rattle.lisa_machine.specs.machine_parts.Parts.{registers_of}
 use Rattle.activation_trees.specs.Unfolding.{occurrences}
-use Rattle.description_sizes.specs.Laws.{AreWithinLimits}
+use Rattle.description_weight.specs.description_sizes.Laws.{AreWithinLimits}
 use Rattle.description_types.specs.Types.{Types}
 use Rattle.lisa_machine.specs.Soundness.{IsSound}
 use Rattle.description_weight.specs.Weights.{weight, unfolded_nodes, pairs, form_nodes}
@@ -13,11 +13,11 @@ use Rattle.pipeline_time.specs.Sound as time
 use Rattle.step_program.specs.Programs.{Program}
 use Rattle.netlist_wires.specs.Tables.{program_names}
 use Rattle.netlist_rules.specs.Sizes.{longest, module_most}
-use Rattle.lisa_meaning.specs.Cores.{core_of}
-use Rattle.lisa_meaning.specs.Laws.{TreesAreOccurrences}
-use Rattle.meaning_promises.specs.Fitting.{HaveWordPlaces}
+use Rattle.touch_promises.specs.lisa_meaning.Cores.{core_of}
+use Rattle.touch_promises.specs.lisa_meaning.Laws.{TreesAreOccurrences}
+use Rattle.lowered_edges.specs.meaning_promises.Fitting.{HaveWordPlaces}
 use Rattle.lowered_time.specs.Lowering.{IsLaidOut}
-use Rattle.lowered_layouts.specs.Items.{time_layout}
+use Rattle.lowered_edges.specs.lowered_layouts.Items.{time_layout}
 use Rattle.lowered_edges.specs.Programs.{word_width, edge_program}
 use Rattle.module_sizes.specs.Charges.{pair_most}
 use Rattle.module_sizes.specs.Costs.{Rates, IsLongest, AreFormed, pair_rates}

@@ -13,9 +13,9 @@ use Rattle.step_program.specs.Programs.{Program, Expr, Const, Temp, Move}
 use Rattle.step_pieces.specs.Pieces.{Piece, nothing, behind, top, held}
 use Rattle.lowered_values.specs.Operands.{Operand}
 use Rattle.lowered_values.specs.Templates.{as_shape, picked}
-use Rattle.lowered_statements.specs.Scopes.{Scope, entered}
-use Rattle.lowered_statements.specs.Ways.{Ways}
-use Rattle.lowered_statements.specs.Stated.{given, first_of, with_local, on, off, counter_of, turn_moves, all_moves, looped, stated, stated_all}
+use Rattle.lowered_edges.specs.lowered_statements.Scopes.{Scope, entered}
+use Rattle.lowered_edges.specs.lowered_statements.Ways.{Ways}
+use Rattle.lowered_edges.specs.lowered_statements.Stated.{given, first_of, with_local, on, off, counter_of, turn_moves, all_moves, looped, stated, stated_all}
 use Rattle.module_sizes.specs.Costs.{Rates, IsLongest, IsFree, moves_cost}
 use Rattle.module_sizes.specs.Worths.{unit, Naming, value_worth, place_worth, statement_worth, statements_worth}
 use Rattle.module_sizes.proofs.Templates.{shape_cost, held_picked_cost}

@@ -7,8 +7,8 @@ use Rattle.activation_trees.specs.declared.parts.Occurrence.{Occurrence}
 use Rattle.activation_trees.specs.Unfolding.{occurrences}
 use Rattle.pipeline_time.specs.Acts.{Acts, Done, Act, When, Node, nodes}
 use Rattle.pipeline_time.specs.Cores.{all_nodes}
-use Rattle.lisa_meaning.specs.Cores.{core_of}
-use Rattle.lisa_meaning.specs.Laws.{Listed, node_listed, occurrence_listed, listed_from, TreesAreOccurrences}
+use Rattle.touch_promises.specs.lisa_meaning.Cores.{core_of}
+use Rattle.touch_promises.specs.lisa_meaning.Laws.{Listed, node_listed, occurrence_listed, listed_from, TreesAreOccurrences}
 use Rattle.module_sizes.specs.Costs.{Rates}
 use Rattle.module_sizes.specs.Unfolded.{worth_of}
 use Rattle.module_sizes.specs.Activating.{Activating, Prices, items_worth, acts_worth, each_worth, activating, edge_worth}

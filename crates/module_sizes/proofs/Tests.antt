@@ -14,9 +14,9 @@ use Rattle.activation_trees.specs.declared.parts.Occurrence.{Occurrence}
 use Rattle.activation_trees.specs.Starting.{Activated, start_of, activated_by}
 use Rattle.activation_trees.specs.Unfolding.{occurrences, child}
 use Rattle.pipeline_time.specs.Acts.{Acts, Done, Act, When, Node, nodes, size}
-use Rattle.lisa_meaning.specs.Trees.{Activator, followed, item_tests, items_tests, row, item_acts, items_acts, activation_acts, acts_within}
-use Rattle.lisa_meaning.specs.Cores.{item_conditions, items_conditions, conditions_in, core_of}
-use Rattle.lisa_meaning.specs.Laws.{TreesAreOccurrences}
+use Rattle.touch_promises.specs.lisa_meaning.Trees.{Activator, followed, item_tests, items_tests, row, item_acts, items_acts, activation_acts, acts_within}
+use Rattle.touch_promises.specs.lisa_meaning.Cores.{item_conditions, items_conditions, conditions_in, core_of}
+use Rattle.touch_promises.specs.lisa_meaning.Laws.{TreesAreOccurrences}
 use Rattle.module_sizes.specs.Costs.{Rates}
 use Rattle.module_sizes.specs.Worths.{value_worth}
 use Rattle.module_sizes.specs.Standing.{read_worth}

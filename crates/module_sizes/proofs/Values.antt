@@ -11,7 +11,7 @@ use Rattle.lowered_values.specs.Operands.{Operand}
 use Rattle.lowered_values.specs.Templates.{made_by, chosen_by, as_shape, complement, negated}
 use Rattle.lowered_values.specs.Sources.{Sources, cell_at}
 use Rattle.lowered_values.specs.Computed.{Computed, kept, computed}
-use Rattle.lowered_behaviors.specs.Values.{names_in}
+use Rattle.lowered_edges.specs.lowered_behaviors.Values.{names_in}
 use Rattle.module_sizes.specs.Costs.{Rates, IsLongest, expr_cost, IsFree}
 use Rattle.module_sizes.specs.Worths.{Naming, value_worth}
 use Rattle.module_sizes.proofs.Templates.{made_cost, chosen_cost, shape_cost, complement_cost, negated_cost, element_cost}

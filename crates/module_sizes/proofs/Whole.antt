@@ -9,14 +9,14 @@ use Rattle.step_pieces.specs.Pieces.{Builder}
 use Rattle.netlist_wires.specs.Tables.{program_names}
 use Rattle.netlist_rules.specs.Sizes.{longest, module_most}
 use Rattle.module_sizes.specs.Charges.{name_most, pair_most}
-use Rattle.lisa_meaning.specs.Cores.{core_of}
+use Rattle.touch_promises.specs.lisa_meaning.Cores.{core_of}
 use Rattle.lowered_time.specs.Pieces.{steps, chain}
 use Rattle.lowered_time.specs.Building.{held_at, open_at, ends}
 use Rattle.lowered_time.specs.Lowering.{IsLaidOut}
-use Rattle.lowered_layouts.specs.Temps.{lasting_widths}
-use Rattle.lowered_resources.specs.Places.{Flush}
-use Rattle.lowered_layouts.specs.Items.{places_of, time_layout}
-use Rattle.lowered_layouts.specs.Ends as closing
+use Rattle.lowered_edges.specs.lowered_layouts.Temps.{lasting_widths}
+use Rattle.lowered_edges.specs.lowered_resources.Places.{Flush}
+use Rattle.lowered_edges.specs.lowered_layouts.Items.{places_of, time_layout}
+use Rattle.lowered_edges.specs.lowered_layouts.Ends as closing
 use Rattle.lowered_edges.specs.Parts.{operations}
 use Rattle.lowered_edges.specs.Programs.{word_width, edge_piece, edge_program}
 use Rattle.module_sizes.specs.Costs.{Rates, IsLongest, AreFormed, moves_accesses, pair_rates, write_rates}

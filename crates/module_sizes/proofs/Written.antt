@@ -10,15 +10,15 @@ use Rattle.lisa_machine.specs.Soundness.{IsSound}
 use Rattle.description_types.specs.Types.{Types}
 use Rattle.activation_trees.specs.declared.parts.Occurrence.{Occurrence}
 use Rattle.activation_trees.specs.Unfolding.{occurrences}
-use Rattle.description_sizes.specs.Laws.{AreWithinLimits}
+use Rattle.description_weight.specs.description_sizes.Laws.{AreWithinLimits}
 use Rattle.description_weight.specs.Unfolded.{accesses}
 use Rattle.pipeline_time.specs.Sound as time
 use Rattle.step_program.specs.Programs.{Program, Aim, ToItem, ToTemp, ToCell, Move}
-use Rattle.lisa_meaning.specs.Cores.{core_of}
-use Rattle.lisa_meaning.specs.Laws.{TreesAreOccurrences}
-use Rattle.meaning_promises.specs.Fitting.{HaveWordPlaces}
+use Rattle.touch_promises.specs.lisa_meaning.Cores.{core_of}
+use Rattle.touch_promises.specs.lisa_meaning.Laws.{TreesAreOccurrences}
+use Rattle.lowered_edges.specs.meaning_promises.Fitting.{HaveWordPlaces}
 use Rattle.lowered_time.specs.Lowering.{IsLaidOut}
-use Rattle.lowered_layouts.specs.Items.{time_layout}
+use Rattle.lowered_edges.specs.lowered_layouts.Items.{time_layout}
 use Rattle.lowered_edges.specs.Programs.{edge_piece}
 use Rattle.module_sizes.specs.Costs.{Rates, IsLongest, AreFormed, expr_reads, aim_accesses, move_accesses, moves_accesses, moves_cost, write_rates}
 use Rattle.module_sizes.specs.Unfolded.{worth_of}

@@ -4,11 +4,11 @@ use Rattle.lisa_tree.specs.Descriptions.{DescriptionTree}
 use Rattle.description_types.specs.Types.{Types}
 use Rattle.lisa_machine.specs.Verdicts.{IsAccepted}
 use Rattle.lisa_machine.specs.Machines.{IsSpelled}
-use Rattle.lisa_forms.specs.Verdicts.{HasForms}
-use Rattle.meaning_promises.specs.Fitting.{HaveWordPlaces}
+use Rattle.description_weight.specs.lisa_forms.Verdicts.{HasForms}
+use Rattle.lowered_edges.specs.meaning_promises.Fitting.{HaveWordPlaces}
 use Rattle.description_weight.specs.Weights.{weight}
 use Rattle.step_program.specs.WellFormed.{IsWellFormed}
-use Rattle.lowered_layouts.specs.Items.{IsArranged}
+use Rattle.lowered_edges.specs.lowered_layouts.Items.{IsArranged}
 use Rattle.lowered_edges.specs.Programs.{word_width, edge_program}
 use Rattle.module_sizes.specs.Units.{IsSmall}
 

@@ -12,3 +12,14 @@ pub mod Whole
 pub mod Counted
 pub mod Units
 pub mod Laws
+pub mod access_counts
+pub mod description_sizes
+pub mod description_weight
+pub mod instruction_forms
+pub mod lisa_forms
+pub mod lisa_machine
+pub mod lisa_meaning
+pub mod lowered_edges
+pub mod machine_parts
+pub mod netlist_rules
+pub mod program_declarations

@@ -8,9 +8,9 @@ use Rattle.lisa_tree.specs.Operations.{number_of, sections_at, expression_in, be
 use Rattle.graph_paths.specs.Paths.{is_in}
 use Rattle.stage_checks.specs.Controls.{main_name}
 use Rattle.activation_trees.specs.Starting.{plain_named}
-use Rattle.lisa_meaning.specs.Values.{Array, named_array}
-use Rattle.lowered_resources.specs.Reading.{cells_of}
-use Rattle.lowered_behaviors.specs.Standpoints.{Standpoint, running, alternatives}
+use Rattle.touch_promises.specs.lisa_meaning.Values.{Array, named_array}
+use Rattle.lowered_edges.specs.lowered_resources.Reading.{cells_of}
+use Rattle.lowered_edges.specs.lowered_behaviors.Standpoints.{Standpoint, running, alternatives}
 use Rattle.module_sizes.specs.Costs.{Rates}
 use Rattle.module_sizes.specs.Worths.{unit, Naming, value_worth, place_worth, statements_worth}
 

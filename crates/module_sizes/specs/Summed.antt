@@ -4,7 +4,7 @@ use Rattle.lisa_tree.specs.Descriptions.{DescriptionTree}
 use Rattle.activation_trees.specs.Unfolding.{occurrences}
 use Rattle.pipeline_time.specs.Acts.{Acts, Done, Act, When}
 use Rattle.pipeline_time.specs.Cores.{Core, all_nodes}
-use Rattle.lisa_meaning.specs.Cores.{core_of}
+use Rattle.touch_promises.specs.lisa_meaning.Cores.{core_of}
 use Rattle.module_sizes.specs.Costs.{Rates}
 use Rattle.module_sizes.specs.Unfolded.{worth_of}
 use Rattle.module_sizes.specs.Activating.{Activating, items_worth, Prices, root_worth, each_worth, activating}

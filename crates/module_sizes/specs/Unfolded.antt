@@ -5,10 +5,10 @@ use Rattle.std.specs.Option.{option_map_or}
 use Rattle.lisa_tree.specs.Descriptions.{DescriptionTree}
 use Rattle.lisa_tree.specs.Operations.{sections_at, expression_in, behavior_in}
 use Rattle.lisa_tree.specs.Declarations.{declared_at}
-use Rattle.description_sizes.specs.Texts.{levels}
+use Rattle.description_weight.specs.description_sizes.Texts.{levels}
 use Rattle.description_weight.specs.Unfolded.{chosen_by}
-use Rattle.lisa_meaning.specs.Values.{Array, named_array}
-use Rattle.lowered_resources.specs.Reading.{cells_of}
+use Rattle.touch_promises.specs.lisa_meaning.Values.{Array, named_array}
+use Rattle.lowered_edges.specs.lowered_resources.Reading.{cells_of}
 use Rattle.module_sizes.specs.Costs.{Rates}
 use Rattle.module_sizes.specs.Worths.{unit, Naming}
 use Rattle.module_sizes.specs.Standing.{read_worth, assigned_worth, run_worth}

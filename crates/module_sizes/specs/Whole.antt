@@ -3,10 +3,10 @@ use Rattle.std.specs.Prelude.{ℕ, ◌+◌, length}
 use Rattle.lisa_tree.specs.Descriptions.{DescriptionTree}
 use Rattle.description_types.specs.Types.{Types}
 use Rattle.step_program.specs.Programs.{Temp}
-use Rattle.lisa_meaning.specs.Cores.{core_of}
+use Rattle.touch_promises.specs.lisa_meaning.Cores.{core_of}
 use Rattle.lowered_time.specs.Building.{held_at, open_at, ends}
-use Rattle.lowered_layouts.specs.Items.{time_layout}
-use Rattle.lowered_layouts.specs.Ends as closing
+use Rattle.lowered_edges.specs.lowered_layouts.Items.{time_layout}
+use Rattle.lowered_edges.specs.lowered_layouts.Ends as closing
 use Rattle.lowered_edges.specs.Parts.{operations}
 
 -- how many bits, words and fields are given their next values

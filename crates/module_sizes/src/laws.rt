@@ -8,33 +8,33 @@ ghost use Rattle.description_places.specs.Places.{uses};
 ghost use Rattle.lisa_machine.specs.Freedom.{AllStand};
 ghost use Rattle.lisa_machine.specs.Verdicts.{IsAccepted};
 ghost use Rattle.lisa_machine.specs.Machines.{IsSpelled};
-ghost use Rattle.machine_parts.specs.Parts.{registers_of};
-ghost use Rattle.instruction_forms.specs.Widths.{HasWidth};
+ghost use Rattle.lisa_machine.specs.machine_parts.Parts.{registers_of};
+ghost use Rattle.description_weight.specs.instruction_forms.Widths.{HasWidth};
 ghost use Rattle.activation_trees.specs.Unfolding.{occurrences};
 ghost use Rattle.access_counts.specs.Accesses.{value_accesses};
 ghost use Rattle.text_counts.specs.Expressions.{expression_nodes};
-ghost use Rattle.description_sizes.specs.Texts.{expression_counts, texts};
+ghost use Rattle.description_weight.specs.description_sizes.Texts.{expression_counts, texts};
 ghost use Rattle.description_weight.specs.Unfolded.{accesses};
 ghost use Rattle.description_weight.specs.Weights.{unfolded_nodes, pairs, weight};
 ghost use Rattle.pipeline_time.specs.Cores.{all_nodes};
-ghost use Rattle.lisa_meaning.specs.Cores.{core_of};
-ghost use Rattle.meaning_promises.specs.Fitting.{HaveWordPlaces};
+ghost use Rattle.touch_promises.specs.lisa_meaning.Cores.{core_of};
+ghost use Rattle.lowered_edges.specs.meaning_promises.Fitting.{HaveWordPlaces};
 ghost use Rattle.step_program.specs.Programs.{Program, Expr, Move};
 ghost use Rattle.netlist_wires.specs.Tables.{program_names};
 ghost use Rattle.netlist_rules.specs.Sizes.{longest};
-ghost use Rattle.lowered_statements.specs.Scopes.{Scope};
+ghost use Rattle.lowered_edges.specs.lowered_statements.Scopes.{Scope};
 ghost use Rattle.lowered_time.specs.Pieces.{chain};
 ghost use Rattle.lowered_time.specs.Building.{Layout, ends, main_run, turns};
 ghost use Rattle.lowered_time.specs.Lowering.{IsLaidOut};
-ghost use Rattle.lisa_forms.specs.Verdicts.{HasForms};
-ghost use Rattle.lowered_layouts.specs.Items.{time_layout};
+ghost use Rattle.description_weight.specs.lisa_forms.Verdicts.{HasForms};
+ghost use Rattle.lowered_edges.specs.lowered_layouts.Items.{time_layout};
 ghost use Rattle.lowered_edges.specs.Parts.{operations};
 ghost use Rattle.lowered_edges.specs.Programs.{word_width, edge_program};
 ghost use Rattle.description_types.specs.Types.{Types};
-ghost use Rattle.lowered_words.specs.Loading.{load};
-ghost use Rattle.lowered_behaviors.specs.Standpoints.{Standpoint, running};
-ghost use Rattle.lowered_behaviors.specs.Values.{Ground, value_within};
-ghost use Rattle.lowered_behaviors.specs.Behaviors.{behavior_within};
+ghost use Rattle.lowered_edges.specs.lowered_words.Loading.{load};
+ghost use Rattle.lowered_edges.specs.lowered_behaviors.Standpoints.{Standpoint, running};
+ghost use Rattle.lowered_edges.specs.lowered_behaviors.Values.{Ground, value_within};
+ghost use Rattle.lowered_edges.specs.lowered_behaviors.Behaviors.{behavior_within};
 ghost use Rattle.module_sizes.specs.Charges.{moves_most, pair_most};
 ghost use Rattle.module_sizes.specs.Costs.{Rates, IsLongest, AreFormed, IsFree, moves_accesses, moves_cost, pair_rates, write_rates};
 ghost use Rattle.module_sizes.specs.Worths.{unit, value_worth};
@@ -50,9 +50,9 @@ ghost use Rattle.module_sizes.specs.Counted.{behavior_weight, activation_weight,
 ghost use Rattle.module_sizes.specs.Units.{units};
 ghost use Rattle.module_sizes.specs.Laws.{ModulesAreSmall};
 
-use item_promises::sizes_are_limited;
-use lisa_meaning::laws::{cores_are_sound, trees_are_occurrences};
-use lowered_layouts::laws::time_is_laid_out;
+use lowered_edges::time_is_laid_out;
+use touch_promises::laws::{cores_are_sound, trees_are_occurrences};
+use touch_promises::sizes_are_limited;
 
 /// Behind writes of cells steps are charged with no more than they cost where a read of an array costs a pair for each of its writes.
 pub fn pairs_are_paid_by_reads()

@@ -3,3 +3,9 @@
 #![tactic(auto)]
 
 pub mod laws;
+
+pub use description_weight::weigh;
+pub use lisa_machine::Machine;
+pub use lowered_edges::{
+    lower_edges, programs_are_formed, programs_make_edges, programs_show_states, shown_is_declared,
+};

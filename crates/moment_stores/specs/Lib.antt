@@ -6,3 +6,8 @@ pub mod Locals
 pub mod Changes
 pub mod Fitting
 pub mod Stores
+pub mod coding_tables
+pub mod description_sizes
+pub mod instruction_forms
+pub mod lisa_machine
+pub mod machine_parts

@@ -14,4 +14,5 @@ mod row_values;
 mod store;
 mod values;
 
+pub use lisa_meaning::Machine;
 pub use store::Store;

@@ -3,17 +3,17 @@ use Rattle.std.proofs.Common.{◌≡◌, ◌↔◌, ◌≤◌, ◌∙◌, ℕ, L
 use Rattle.std.specs.Prelude.{slice_get}
 use Rattle.std.specs.Option.{option_and_then}
 use Rattle.lisa_tree.specs.Descriptions.{DescriptionTree}
-use Rattle.instruction_forms.specs.Trees.{FormTree}
-use Rattle.activation_trees.specs.declared.parts.Occurrence.{Occurrence}
-use Rattle.activation_trees.specs.Unfolding.{occurrences}
-use Rattle.activation_trees.specs.Activators.{HasActivator, IsChild}
-use Rattle.activation_trees.specs.Places.{IsBelow}
-use Rattle.activation_trees.proofs.Lying.{has_activator}
-use Rattle.lisa_forms.specs.declared.way.Way.{Way as Activation}
-use Rattle.lisa_forms.specs.Choosing.{numbered_form}
-use Rattle.lisa_forms.specs.Ways.{way}
-use Rattle.lisa_forms.specs.Standings.{stood}
-use Rattle.lisa_meaning.specs.Standings.{Stood, stood_below, standing_within, standing}
+use Rattle.scene_paths.specs.instruction_forms.Trees.{FormTree}
+use Rattle.scene_paths.specs.activation_trees.declared.parts.Occurrence.{Occurrence}
+use Rattle.scene_paths.specs.activation_trees.Unfolding.{occurrences}
+use Rattle.scene_paths.specs.activation_trees.Activators.{HasActivator, IsChild}
+use Rattle.scene_paths.specs.activation_trees.Places.{IsBelow}
+use Rattle.scene_paths.proofs.activation_trees_proofs.Lying.{has_activator}
+use Rattle.scene_paths.specs.lisa_forms.declared.way.Way.{Way as Activation}
+use Rattle.scene_paths.specs.lisa_forms.Choosing.{numbered_form}
+use Rattle.scene_paths.specs.lisa_forms.Ways.{way}
+use Rattle.scene_paths.specs.lisa_forms.Standings.{stood}
+use Rattle.scene_paths.specs.lisa_meaning.Standings.{Stood, stood_below, standing_within, standing}
 use Rattle.scene_paths.proofs.Standing.{standing_is, stands_by, stood_by}
 use Rattle.occurrence_choices.specs.declared.standing.Standing.{Standing}
 use Rattle.occurrence_choices.specs.Standings.{told_at, AreStandings, HasStandings}

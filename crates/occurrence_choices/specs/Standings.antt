@@ -5,15 +5,15 @@ use Rattle.std.specs.Borrow.{Bor}
 use Rattle.std.specs.Global.{Vec}
 use Rattle.lisa_tree.specs.Descriptions.{DescriptionTree}
 use Rattle.stage_checks.specs.Graphs.{names_in}
-use Rattle.activation_trees.specs.declared.parts.Occurrence.{Occurrence}
-use Rattle.activation_trees.specs.Starting.{activating_names}
-use Rattle.activation_trees.specs.Unfolding.{occurrences}
-use Rattle.instruction_forms.specs.Trees.{FormTree}
-use Rattle.lisa_forms.specs.declared.way.Way.{Way as Activation}
-use Rattle.lisa_forms.specs.declared.way.Way.TheVariants as activations
-use Rattle.lisa_forms.specs.Choosing.{numbered_form}
-use Rattle.lisa_forms.specs.Ways.{way}
-use Rattle.lisa_meaning.specs.Standings.{Stood, standing}
+use Rattle.scene_paths.specs.activation_trees.declared.parts.Occurrence.{Occurrence}
+use Rattle.scene_paths.specs.activation_trees.Starting.{activating_names}
+use Rattle.scene_paths.specs.activation_trees.Unfolding.{occurrences}
+use Rattle.scene_paths.specs.instruction_forms.Trees.{FormTree}
+use Rattle.scene_paths.specs.lisa_forms.declared.way.Way.{Way as Activation}
+use Rattle.scene_paths.specs.lisa_forms.declared.way.Way.TheVariants as activations
+use Rattle.scene_paths.specs.lisa_forms.Choosing.{numbered_form}
+use Rattle.scene_paths.specs.lisa_forms.Ways.{way}
+use Rattle.scene_paths.specs.lisa_meaning.Standings.{Stood, standing}
 use Rattle.scene_paths.specs.Parts.{part_tree}
 use Rattle.occurrence_choices.specs.declared.way.Way.{Way}
 use Rattle.occurrence_choices.specs.declared.way.Way.TheVariants as ways

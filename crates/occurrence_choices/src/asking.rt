@@ -2,18 +2,18 @@
 
 ghost use Rattle.std.specs.Prelude.{◌≡◌, ◌<◌, ℕ, None, Some, length};
 ghost use Rattle.lisa_tree.specs.Descriptions.{DescriptionTree};
-ghost use Rattle.activation_trees.specs.Unfolding.{occurrences};
-ghost use Rattle.lisa_forms.specs.Codings.{IsCodingOf};
-ghost use Rattle.coding_tables.specs.Instructions.{form_count};
+ghost use Rattle.scene_paths.specs.activation_trees.Unfolding.{occurrences};
+ghost use Rattle.scene_paths.specs.lisa_forms.Codings.{IsCodingOf};
+ghost use Rattle.scene_paths.specs.coding_tables.Instructions.{form_count};
 ghost use Rattle.graph_paths.specs.Paths.{targets};
-ghost use Rattle.lisa_meaning.specs.Cores.{chooses, decodes};
-ghost use Rattle.lisa_meaning.specs.Scenes.{form_with};
+ghost use Rattle.scene_paths.specs.lisa_meaning.Cores.{chooses, decodes};
+ghost use Rattle.scene_paths.specs.lisa_meaning.Scenes.{form_with};
 ghost use Rattle.occurrence_choices.specs.Choices.{chosen_by};
 ghost use Rattle.occurrence_choices.specs.Holders.{choices_tree};
 
 use crate::choices::Choices;
 use activation_bits::contains;
-use lisa_forms::Coding;
+use scene_paths::Coding;
 
 // The form of a word.
 pub(crate) fn form_of_word(coding: &Coding, word: u64) -> Option<u32>

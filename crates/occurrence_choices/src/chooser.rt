@@ -2,16 +2,14 @@
 
 ghost use Rattle.std.specs.Prelude.{◌≡◌, IfOk};
 ghost use Rattle.lisa_tree.specs.Descriptions.{description_tree};
-ghost use Rattle.lisa_forms.specs.Parts.{AreFormsOf};
-ghost use Rattle.lisa_forms.specs.Codings.{IsCodingOf};
-ghost use Rattle.lisa_meaning.specs.Cores.{chooses, decodes};
+ghost use Rattle.scene_paths.specs.lisa_forms.Parts.{AreFormsOf};
+ghost use Rattle.scene_paths.specs.lisa_forms.Codings.{IsCodingOf};
+ghost use Rattle.scene_paths.specs.lisa_meaning.Cores.{chooses, decodes};
 ghost use Rattle.scene_paths.specs.Lookups.{tree_of};
 
 use crate::choices::Choices;
-use lisa_forms::{Coding, Forms};
-use lisa_machine::Machine;
 use lisa_words::NoMemory;
-use scene_paths::Described;
+use scene_paths::{Coding, Described, Forms, Machine};
 use std::alloc::Global;
 use std::marker::Model;
 

@@ -4,9 +4,9 @@ ghost use Rattle.std.specs.Prelude.{◌≡◌, ◌<◌, ◌≤◌, ◌*◌, ◌|
 ghost use Rattle.std.specs.Option.{option_map_or};
 ghost use Rattle.lisa_tree.specs.Descriptions.{DescriptionTree, description_tree};
 ghost use Rattle.activation_bits.specs.Members.{member};
-ghost use Rattle.activation_trees.specs.Unfolding.{occurrences};
-ghost use Rattle.lisa_forms.specs.Parts.{AreFormsOf};
-ghost use Rattle.lisa_forms.specs.Codings.{IsCodingOf};
+ghost use Rattle.scene_paths.specs.activation_trees.Unfolding.{occurrences};
+ghost use Rattle.scene_paths.specs.lisa_forms.Parts.{AreFormsOf};
+ghost use Rattle.scene_paths.specs.lisa_forms.Codings.{IsCodingOf};
 ghost use Rattle.scene_paths.specs.Lookups.{tree_of};
 ghost use Rattle.occurrence_choices.specs.Choices.{AreRows, IsRow};
 ghost use Rattle.occurrence_choices.specs.Holders.{choices_tree};
@@ -20,10 +20,8 @@ use crate::way::Way;
 use crate::ways::ways;
 use activation_bits::insert;
 use description_tables::Tables;
-use lisa_forms::{Coding, Forms};
-use lisa_machine::Machine;
 use lisa_words::NoMemory;
-use scene_paths::Described;
+use scene_paths::{Coding, Described, Forms, Machine};
 use std::alloc::{AllocError, Global};
 
 // Whether an occurrence is past the root.

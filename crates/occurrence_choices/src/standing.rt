@@ -1,7 +1,7 @@
 //! How occurrences stand to a form.
 
 ghost use Rattle.std.specs.Prelude.{◌≡◌, is_some};
-ghost use Rattle.lisa_forms.specs.Standings.{beside, matched, matched_child, stood};
+ghost use Rattle.scene_paths.specs.lisa_forms.Standings.{beside, matched, matched_child, stood};
 ghost use Rattle.scene_paths.specs.Parts.{part_tree};
 ghost use Rattle.occurrence_choices.specs.Standings.{activation, told};
 

@@ -3,18 +3,17 @@
 ghost use Rattle.std.specs.Prelude.{◌≡◌, ◌<◌, Option, Some, OnOk, length};
 ghost use Rattle.std.specs.Option.{option_and_then};
 ghost use Rattle.lisa_tree.specs.Descriptions.{DescriptionTree};
-ghost use Rattle.activation_trees.specs.Unfolding.{occurrences};
-ghost use Rattle.coding_tables.specs.Instructions.{form_count};
-ghost use Rattle.lisa_forms.specs.Choosing.{numbered_form};
-ghost use Rattle.lisa_meaning.specs.Standings.{standing};
+ghost use Rattle.scene_paths.specs.activation_trees.Unfolding.{occurrences};
+ghost use Rattle.scene_paths.specs.coding_tables.Instructions.{form_count};
+ghost use Rattle.scene_paths.specs.lisa_forms.Choosing.{numbered_form};
+ghost use Rattle.scene_paths.specs.lisa_meaning.Standings.{standing};
 ghost use Rattle.scene_paths.specs.Lookups.{tree_of};
 ghost use Rattle.scene_paths.specs.Parts.{part_tree};
 ghost use Rattle.occurrence_choices.specs.Standings.{activation, told, way_at, told_at, AreWays, AreStandings, HasStandings};
 
 use crate::standing::{Standing, stood};
 use crate::way::Way;
-use lisa_forms::Occurrence;
-use scene_paths::{Described, Part};
+use scene_paths::{Described, Occurrence, Part};
 use std::alloc::AllocError;
 
 fn way_at(ways: &[Way], number: usize) -> Way

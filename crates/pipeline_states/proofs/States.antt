@@ -6,7 +6,7 @@ use Rattle.lisa_engine.specs.Memory.{Memory}
 use Rattle.lisa_engine.specs.Images.{IsImage, missing_memory}
 use Rattle.lisa_engine.specs.State.{State}
 use Rattle.lisa_tree.specs.Resources.{stages}
-use Rattle.machine_parts.specs.Parts.{arrays_of}
+use Rattle.lisa_meaning.specs.machine_parts.Parts.{arrays_of}
 use Rattle.item_layouts.specs.declared.place.ItemPlace.{ItemPlace}
 use Rattle.item_layouts.specs.declared.place.ItemPlace.TheVariants.{Register, Field, Word, Bit}
 use Rattle.item_layouts.specs.Layouts.{HasPlace, item_places, value_at, item_values}

@@ -4,7 +4,7 @@ use Rattle.lisa_tree.specs.Descriptions.{DescriptionTree}
 use Rattle.lisa_engine.specs.Memory.{Memory}
 use Rattle.lisa_engine.specs.Images.{IsImage, missing_memory}
 use Rattle.lisa_tree.specs.Resources.{stages}
-use Rattle.machine_parts.specs.Parts.{arrays_of}
+use Rattle.lisa_meaning.specs.machine_parts.Parts.{arrays_of}
 use Rattle.item_layouts.specs.Layouts.{item_places, item_values}
 use Rattle.pipeline_time.specs.Bits.{Hardware, shown}
 use Rattle.pipeline_time.specs.States.{after}

@@ -9,20 +9,20 @@ use Rattle.lisa_engine.specs.declared.parts.Item.{Item}
 use Rattle.lisa_engine.specs.declared.parts.ArrayItem.{ArrayItem}
 use Rattle.lisa_engine.specs.Shape.{HaveWidths, HaveDistinctNames}
 use Rattle.lisa_tree.specs.Resources.{stages, fields}
-use Rattle.machine_parts.specs.Parts.{arrays_of, pins_of, registers_of}
-use Rattle.lisa_machine.specs.Verdicts.{IsAccepted}
-use Rattle.lisa_machine.specs.Machines.{IsSpelled}
-use Rattle.lisa_machine.proofs.Sound.{sound}
-use Rattle.use_promises.specs.Showing.{FitsArray, FitsShown, shown_names}
-use Rattle.use_promises.proofs.Shown.{shown_fits}
+use Rattle.item_promises.specs.machine_parts.Parts.{arrays_of, pins_of, registers_of}
+use Rattle.item_promises.specs.lisa_machine.Verdicts.{IsAccepted}
+use Rattle.item_promises.specs.lisa_machine.Machines.{IsSpelled}
+use Rattle.item_promises.proofs.lisa_machine_proofs.Sound.{sound}
+use Rattle.item_promises.specs.use_promises.Showing.{FitsArray, FitsShown, shown_names}
+use Rattle.item_promises.proofs.use_promises_proofs.Shown.{shown_fits}
 use Rattle.spelled_promises.specs.Trees.{IsWellFormed}
 use Rattle.spelled_promises.proofs.Outer.{well_formed}
-use Rattle.activation_trees.specs.Unfolding.{occurrences}
-use Rattle.activation_trees.specs.Items.{boundary_items, root_stage, word_item, word_items, bit_items, items_behind}
-use Rattle.instruction_forms.specs.Widths.{HasWidth}
-use Rattle.description_sizes.specs.Sizes.{items}
-use Rattle.description_sizes.specs.Laws.{AreWithinLimits}
-use Rattle.coding_tables.specs.Instructions.{form_count}
+use Rattle.item_promises.specs.activation_trees.Unfolding.{occurrences}
+use Rattle.item_promises.specs.activation_trees.Items.{boundary_items, root_stage, word_item, word_items, bit_items, items_behind}
+use Rattle.item_promises.specs.instruction_forms.Widths.{HasWidth}
+use Rattle.item_promises.specs.description_sizes.Sizes.{items}
+use Rattle.item_promises.specs.description_sizes.Laws.{AreWithinLimits}
+use Rattle.item_promises.specs.coding_tables.Instructions.{form_count}
 use Rattle.step_program.specs.WellFormed.{IsStored}
 use Rattle.program_declarations.specs.Laws.{AreDeclared}
 use Rattle.program_declarations.proofs.Naming.{IsWhole, IsMarked, unlike_whole}

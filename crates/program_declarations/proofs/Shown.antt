@@ -9,13 +9,13 @@ use Rattle.lisa_engine.specs.declared.parts.Item.{Item}
 use Rattle.lisa_engine.specs.declared.parts.ArrayItem.{ArrayItem}
 use Rattle.lisa_tree.specs.Resources.{stages, stages_in, fields, fields_in}
 use Rattle.lisa_tree.specs.Operations.{name_at, operation_at}
-use Rattle.machine_parts.specs.Parts.{array_in, pin_in, register_in, registers_of}
+use Rattle.item_promises.specs.machine_parts.Parts.{array_in, pin_in, register_in, registers_of}
 use Rattle.spelled_promises.specs.Words.{IsName}
 use Rattle.spelled_promises.specs.Trees.{IsWellFormed, IsWellFormedResource, IsWellFormedOperation}
-use Rattle.activation_trees.specs.declared.parts.Occurrence.{Occurrence}
-use Rattle.activation_trees.specs.Unfolding.{occurrences}
-use Rattle.activation_trees.specs.Items.{boundary_items, root_stage, word_item, word_items, has_bit, bit_item, bits_from, bit_items, field_item, items_behind}
-use Rattle.description_sizes.specs.Sizes.{items}
+use Rattle.item_promises.specs.activation_trees.declared.parts.Occurrence.{Occurrence}
+use Rattle.item_promises.specs.activation_trees.Unfolding.{occurrences}
+use Rattle.item_promises.specs.activation_trees.Items.{boundary_items, root_stage, word_item, word_items, has_bit, bit_item, bits_from, bit_items, field_item, items_behind}
+use Rattle.item_promises.specs.description_sizes.Sizes.{items}
 use Rattle.step_program.specs.WellFormed.{IsFreeName}
 use Rattle.program_declarations.proofs.Apart.{each_append, each_drop, each_map_of, each_weaker}
 use Rattle.program_declarations.proofs.Naming.{IsWhole, dot, slash, IsMarked, marked, IsPlain, plain, alone_free, across_free, held_free, standing_free}

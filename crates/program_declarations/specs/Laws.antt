@@ -3,12 +3,12 @@ use Rattle.std.specs.Prelude.{◌≢◌, ℕ, ◌≤◌, List, ◌++◌, Option,
 use Rattle.lisa_tree.specs.Descriptions.{DescriptionTree}
 use Rattle.lisa_engine.specs.declared.parts.Item.{Item}
 use Rattle.lisa_engine.specs.declared.parts.ArrayItem.{ArrayItem}
-use Rattle.machine_parts.specs.Parts.{arrays_of, pins_of}
-use Rattle.lisa_machine.specs.Verdicts.{IsAccepted}
-use Rattle.lisa_machine.specs.Machines.{IsSpelled}
-use Rattle.instruction_forms.specs.Widths.{HasWidth}
-use Rattle.description_sizes.specs.Sizes.{items}
-use Rattle.lisa_forms.specs.Verdicts.{HasForms}
+use Rattle.item_promises.specs.machine_parts.Parts.{arrays_of, pins_of}
+use Rattle.item_promises.specs.lisa_machine.Verdicts.{IsAccepted}
+use Rattle.item_promises.specs.lisa_machine.Machines.{IsSpelled}
+use Rattle.item_promises.specs.instruction_forms.Widths.{HasWidth}
+use Rattle.item_promises.specs.description_sizes.Sizes.{items}
+use Rattle.item_promises.specs.lisa_forms.Verdicts.{HasForms}
 use Rattle.step_program.specs.WellFormed.{IsDeclared, IsStored}
 
 -- what well-formed programs declare

@@ -7,7 +7,7 @@ use Rattle.lisa_outcomes.specs.declared.status.Refusal.TheVariants as refusals
 use Rattle.lisa_outcomes.specs.declared.status.Status.TheVariants as statuses
 use Rattle.lisa_outcomes.specs.Outcomes.{Given}
 use Rattle.lisa_outcomes.specs.NamedFiles.{AreFiles, file_at}
-use Rattle.verdict_promises.specs.Firsts.{IsFirstFaultOf}
+use Rattle.command_promises.specs.verdict_promises.Firsts.{IsFirstFaultOf}
 use Rattle.command_promises.specs.Refusals.{RefusesWith}
 use Rattle.command_words.specs.Requests.{Request, Format, Check, Verilog, Assemble, Link, Disassemble, Generate, Soak, Simulate, Clock, Asks}
 use Rattle.lisa_cli.specs.Files.{files_of}

@@ -5,11 +5,11 @@ use Rattle.std.specs.List.{cons_option}
 use Rattle.std.specs.Option.{option_and_then}
 use Rattle.lisa_tree.specs.Descriptions.{DescriptionTree}
 use Rattle.lisa_tree.specs.Declarations.{is_reference}
-use Rattle.instruction_forms.specs.Trees.{FormTree}
-use Rattle.activation_trees.specs.declared.parts.Occurrence.{Occurrence}
-use Rattle.activation_trees.specs.Activators.{HasActivator, IsChild}
-use Rattle.activation_trees.specs.Unfolding.{occurrences}
-use Rattle.activation_trees.proofs.Lying.{has_activator}
+use Rattle.lisa_meaning.specs.instruction_forms.Trees.{FormTree}
+use Rattle.lisa_meaning.specs.activation_trees.declared.parts.Occurrence.{Occurrence}
+use Rattle.lisa_meaning.specs.activation_trees.Activators.{HasActivator, IsChild}
+use Rattle.lisa_meaning.specs.activation_trees.Unfolding.{occurrences}
+use Rattle.lisa_meaning.proofs.activation_trees_proofs.Lying.{has_activator}
 use Rattle.lisa_meaning.specs.Scenes.{Link, link, declared, home, line_within, occurrence_part, occurrence_link}
 use Rattle.scene_paths.specs.Paths.{occurrence_links, numbered_links}
 

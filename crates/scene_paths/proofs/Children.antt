@@ -7,7 +7,7 @@ use Rattle.std.proofs.lemmas.Bool.Decides.{nat_tests}
 use Rattle.lisa_tree.specs.declared.descriptions.CodingItem.{CodingItem}
 use Rattle.lisa_tree.specs.declared.descriptions.CodingItem.TheVariants as items
 use Rattle.lisa_tree.specs.Same.{same_name}
-use Rattle.lisa_forms.specs.Choosing.{child_name, child_names}
+use Rattle.lisa_meaning.specs.lisa_forms.Choosing.{child_name, child_names}
 
 -- so many places further on
 abbrev pub behind : ℕ → Option ℕ → Option ℕ

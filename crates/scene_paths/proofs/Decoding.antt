@@ -3,29 +3,29 @@ use Rattle.std.proofs.Common.{◌≡◌, ◌↔◌, ◌<◌, ◌∙◌, ℕ, Boo
 use Rattle.std.specs.Prelude.{slice_get, option_map, is_some, if◌then◌else◌}
 use Rattle.std.specs.Option.{option_and_then, option_map_or}
 use Rattle.std.specs.Borrow.{Bor}
-use Rattle.activation_trees.specs.declared.parts.Occurrence.{Occurrence}
-use Rattle.activation_trees.specs.Unfolding.{occurrences}
+use Rattle.lisa_meaning.specs.activation_trees.declared.parts.Occurrence.{Occurrence}
+use Rattle.lisa_meaning.specs.activation_trees.Unfolding.{occurrences}
 use Rattle.std.proofs.lemmas.List.{length-map}
 use Rattle.std.proofs.lemmas.Option.{slice_get-map, slice_get_within, same_Some, slice_get-get_or}
 use Rattle.lisa_tree.specs.Descriptions.{DescriptionTree}
-use Rattle.coding_tables.specs.Instructions.{forms_of, form_count}
+use Rattle.lisa_meaning.specs.coding_tables.Instructions.{forms_of, form_count}
 use Rattle.instruction_trees.specs.Trees as plain
-use Rattle.instruction_forms.specs.declared.form.Form.{Form}
-use Rattle.instruction_forms.specs.Trees.{FormTree, form_tree}
-use Rattle.instruction_forms.specs.Described.{instruction_form, AreForms}
-use Rattle.lisa_forms.specs.declared.forms.Forms.{Forms}
-use Rattle.lisa_forms.specs.Parts.{AreFormsOf}
-use Rattle.lisa_forms.specs.Choosing.{numbered_form, Stands, Chooses}
+use Rattle.lisa_meaning.specs.instruction_forms.declared.form.Form.{Form}
+use Rattle.lisa_meaning.specs.instruction_forms.Trees.{FormTree, form_tree}
+use Rattle.lisa_meaning.specs.instruction_forms.Described.{instruction_form, AreForms}
+use Rattle.lisa_meaning.specs.lisa_forms.declared.forms.Forms.{Forms}
+use Rattle.lisa_meaning.specs.lisa_forms.Parts.{AreFormsOf}
+use Rattle.lisa_meaning.specs.lisa_forms.Choosing.{numbered_form, Stands, Chooses}
 use Rattle.lisa_meaning.specs.Cores.{chooses}
-use Rattle.lisa_forms.specs.declared.coding.Coding.{Coding}
-use Rattle.lisa_forms.specs.Codings.{IsCodingOf, IsDecodedAs}
+use Rattle.lisa_meaning.specs.lisa_forms.declared.coding.Coding.{Coding}
+use Rattle.lisa_meaning.specs.lisa_forms.Codings.{IsCodingOf, IsDecodedAs}
 use Rattle.lisa_meaning.specs.Scenes.{form_with, instruction_with, occurrence_part}
 use Rattle.lisa_meaning.specs.Standings.{standing}
 use Rattle.lisa_meaning.proofs.Words.{decoded_once}
 use Rattle.scene_paths.specs.Spans.{HasFields}
 use Rattle.scene_paths.proofs.Wide.{form_fields, part_fields}
 use Rattle.scene_paths.proofs.Standing.{part_is, choice_is}
-use Rattle.lisa_machine.specs.Verdicts.{IsAccepted}
+use Rattle.lisa_meaning.specs.lisa_machine.Verdicts.{IsAccepted}
 
 pub forms_counted : (d : DescriptionTree) (all : List Form) → AreForms d all → length all ≡ form_count d
 forms_counted d all are = sym (length-map all form_tree) ∙ ap length are ∙ length-map (forms_of d) (instruction_form d)

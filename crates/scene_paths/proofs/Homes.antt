@@ -2,8 +2,8 @@
 use Rattle.std.proofs.Common.{◌≡◌, List, [], ◌∷◌, ℕ, Option, None, Some, refl, ap}
 use Rattle.std.proofs.lemmas.Option.{same_Some}
 use Rattle.lisa_tree.specs.Descriptions.{DescriptionTree}
-use Rattle.instruction_forms.specs.Trees.{FormTree}
-use Rattle.activation_trees.specs.Starting.{plain_named}
+use Rattle.lisa_meaning.specs.instruction_forms.Trees.{FormTree}
+use Rattle.lisa_meaning.specs.activation_trees.Starting.{plain_named}
 use Rattle.lisa_meaning.specs.Scenes.{Link, child_at_home, child_part, chosen, onto}
 use Rattle.scene_paths.specs.Paths.{first_link}
 

@@ -11,3 +11,9 @@ pub mod Acts
 pub mod Parted
 pub mod Homes
 pub mod Rooting
+pub mod activation_trees_proofs
+pub mod form_patterns_proofs
+pub mod lisa_forms_proofs
+pub mod lisa_machine_proofs
+pub mod lisa_meaning_proofs
+pub mod use_promises_proofs

@@ -4,8 +4,8 @@ use Rattle.lisa_tree.specs.declared.tokens.Shape.{Shape}
 use Rattle.lisa_tree.specs.declared.descriptions.Description.{Description}
 use Rattle.lisa_tree.specs.Expressions.{ExprTree}
 use Rattle.lisa_tree.specs.Descriptions.{DescriptionTree, description_tree}
-use Rattle.lisa_forms.specs.declared.forms.Forms.{Forms}
-use Rattle.lisa_forms.specs.declared.coding.Coding.{Coding}
+use Rattle.lisa_meaning.specs.lisa_forms.declared.forms.Forms.{Forms}
+use Rattle.lisa_meaning.specs.lisa_forms.declared.coding.Coding.{Coding}
 use Rattle.scene_paths.specs.declared.before.Before.{Before}
 use Rattle.scene_paths.specs.Kept.{IsKept}
 

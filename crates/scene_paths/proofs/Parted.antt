@@ -5,12 +5,12 @@ use Rattle.std.specs.List.{All}
 use Rattle.std.proofs.lemmas.Option.{same_Some}
 use Rattle.lisa_tree.specs.Same.{same_name}
 use Rattle.description_tables.proofs.Lists.{one_more}
-use Rattle.instruction_forms.specs.declared.form.Field.{Field}
-use Rattle.instruction_forms.specs.declared.form.Form.{Form}
-use Rattle.instruction_forms.specs.declared.form.Form.TheViews.{out-Form}
-use Rattle.instruction_forms.specs.declared.form.Form.TheFolds.{fold_out-Form}
-use Rattle.instruction_forms.specs.Trees.{FormTree, in_turn, layer_tree, form_tree}
-use Rattle.lisa_forms.specs.Choosing.{tree_at, child_at}
+use Rattle.lisa_meaning.specs.instruction_forms.declared.form.Field.{Field}
+use Rattle.lisa_meaning.specs.instruction_forms.declared.form.Form.{Form}
+use Rattle.lisa_meaning.specs.instruction_forms.declared.form.Form.TheViews.{out-Form}
+use Rattle.lisa_meaning.specs.instruction_forms.declared.form.Form.TheFolds.{fold_out-Form}
+use Rattle.lisa_meaning.specs.instruction_forms.Trees.{FormTree, in_turn, layer_tree, form_tree}
+use Rattle.lisa_meaning.specs.lisa_forms.Choosing.{tree_at, child_at}
 use Rattle.lisa_meaning.specs.Values.{fields_of, field_value, label_value}
 use Rattle.scene_paths.specs.Spans.{IsField, HasFields}
 use Rattle.scene_paths.proofs.Wide.{own_fields}

@@ -5,7 +5,7 @@ use Rattle.std.specs.List.{cons_option}
 use Rattle.lisa_tree.specs.declared.descriptions.Resource.{Resource}
 use Rattle.lisa_tree.specs.Descriptions.{ResourceTree, DescriptionTree, resource_tree}
 use Rattle.description_tables.proofs.Lists.{one_resource}
-use Rattle.machine_parts.specs.Parts.{array_in, pin_in, register_in}
+use Rattle.lisa_meaning.specs.machine_parts.Parts.{array_in, pin_in, register_in}
 use Rattle.lisa_meaning.specs.Values.{register_place, array_place, pin_place}
 use Rattle.scene_paths.specs.declared.before.Before.{Before}
 use Rattle.scene_paths.specs.Places.{counted, before, past, befores, ArePlaces}

@@ -5,7 +5,7 @@ use Rattle.std.specs.Option.{option_or}
 use Rattle.lisa_tree.specs.Descriptions as trees
 use Rattle.lisa_tree.specs.Descriptions.{CodingTree, DescriptionTree}
 use Rattle.lisa_tree.specs.Operations.{coding_in, sections_at, is_root}
-use Rattle.coding_tables.specs.Instructions.{Root, root, root_group, root_at, root_from}
+use Rattle.lisa_meaning.specs.coding_tables.Instructions.{Root, root, root_group, root_at, root_from}
 
 module _ (d : DescriptionTree) (o : ℕ) where
   with_root : is_root d o ≡ true → option_map (λ (found : Root). found.operation) (root_at d o) ≡ Some o

@@ -5,17 +5,17 @@ use Rattle.std.specs.Option.{option_and_then}
 use Rattle.std.proofs.lemmas.Bool.{eq-eqb, eqb-true}
 use Rattle.std.proofs.lemmas.Option.{same_Some}
 use Rattle.lisa_tree.specs.Descriptions.{DescriptionTree}
-use Rattle.instruction_forms.specs.Trees.{FormTree}
-use Rattle.activation_trees.specs.declared.parts.Occurrence.{Occurrence}
-use Rattle.activation_trees.specs.Unfolding.{occurrences}
-use Rattle.activation_trees.specs.Activators.{HasActivator, IsChild}
-use Rattle.activation_trees.specs.Places.{IsBelow, name_by}
-use Rattle.activation_trees.proofs.Lying.{has_activator}
-use Rattle.lisa_forms.specs.declared.way.Way.{Way}
-use Rattle.lisa_forms.specs.declared.way.Way.TheVariants as ways
-use Rattle.lisa_forms.specs.Choosing.{child_place, child_at, operation_of, Stands, whole, child, other, further, Chooses}
-use Rattle.lisa_forms.specs.Ways.{by_place, by_name, by_activator, way_below, way}
-use Rattle.lisa_forms.specs.Standings.{part_in, matched, matched_in, matched_child, beside, stood}
+use Rattle.lisa_meaning.specs.instruction_forms.Trees.{FormTree}
+use Rattle.lisa_meaning.specs.activation_trees.declared.parts.Occurrence.{Occurrence}
+use Rattle.lisa_meaning.specs.activation_trees.Unfolding.{occurrences}
+use Rattle.lisa_meaning.specs.activation_trees.Activators.{HasActivator, IsChild}
+use Rattle.lisa_meaning.specs.activation_trees.Places.{IsBelow, name_by}
+use Rattle.lisa_meaning.proofs.activation_trees_proofs.Lying.{has_activator}
+use Rattle.lisa_meaning.specs.lisa_forms.declared.way.Way.{Way}
+use Rattle.lisa_meaning.specs.lisa_forms.declared.way.Way.TheVariants as ways
+use Rattle.lisa_meaning.specs.lisa_forms.Choosing.{child_place, child_at, operation_of, Stands, whole, child, other, further, Chooses}
+use Rattle.lisa_meaning.specs.lisa_forms.Ways.{by_place, by_name, by_activator, way_below, way}
+use Rattle.lisa_meaning.specs.lisa_forms.Standings.{part_in, matched, matched_in, matched_child, beside, stood}
 use Rattle.lisa_meaning.specs.Standings.{Stood, stood_below, standing_within, standing}
 
 -- ---- what is chosen is past the root

@@ -10,30 +10,30 @@ use Rattle.lisa_tree.specs.declared.descriptions.CodingItem.TheVariants as items
 use Rattle.lisa_tree.specs.Descriptions as trees
 use Rattle.lisa_tree.specs.Descriptions.{CodingTree, DescriptionTree}
 use Rattle.lisa_tree.specs.Operations.{coding_in, sections_at}
-use Rattle.lisa_machine.specs.Verdicts.{IsAccepted}
-use Rattle.lisa_machine.specs.Codings.{FitsCoding, FitsItem}
-use Rattle.lisa_machine.proofs.Sound.{sound}
-use Rattle.lisa_machine.proofs.Standing.{coding_stand}
-use Rattle.lisa_machine.proofs.Fitting.{coding_fits}
+use Rattle.lisa_meaning.specs.lisa_machine.Verdicts.{IsAccepted}
+use Rattle.lisa_meaning.specs.lisa_machine.Codings.{FitsCoding, FitsItem}
+use Rattle.lisa_meaning.proofs.lisa_machine_proofs.Sound.{sound}
+use Rattle.lisa_meaning.proofs.lisa_machine_proofs.Standing.{coding_stand}
+use Rattle.lisa_meaning.proofs.lisa_machine_proofs.Fitting.{coding_fits}
 use Rattle.instruction_trees.specs.Trees.{Table, Item, Fixed, Free, Field, Child, Tree, Done, Pass, Value, Choose, coding, size, placed}
 use Rattle.instruction_trees.specs.Values.{own_values, inner_values, values, StandsBelow}
-use Rattle.coding_tables.specs.Codings.{digit_item, pattern_digits, items_of, coding_table}
-use Rattle.coding_tables.specs.Instructions.{instruction_items, forms_of, form_count}
-use Rattle.pattern_tables.specs.Instructions.{form_at}
-use Rattle.instruction_forms.specs.declared.form.Field as fields
-use Rattle.instruction_forms.specs.declared.form.Form.{Form}
-use Rattle.instruction_forms.specs.Trees.{FormTree, FormTrees, Node, End, Then, form_tree}
-use Rattle.instruction_forms.specs.Described.{own_items, instruction_form, AreForms}
-use Rattle.instruction_forms.proofs.Whole.{items_list}
-use Rattle.form_patterns.specs.Instructions.{field_places, tree_fields, trees_fields}
-use Rattle.form_patterns.proofs.Placing.{place_of, whole_places}
-use Rattle.form_patterns.proofs.Filling.{fit_at}
-use Rattle.form_patterns.proofs.Rowed.{row_is}
-use Rattle.lisa_forms.specs.Choosing.{tree_at, child_at, Stands, whole, child, other, further}
-use Rattle.lisa_forms.specs.declared.coding.Coding.{Coding}
-use Rattle.lisa_forms.specs.Codings.{IsCodingOf}
-use Rattle.lisa_forms.proofs.Patterned.{patterns_counted}
-use Rattle.lisa_forms.proofs.Fielded.{rows_inside}
+use Rattle.lisa_meaning.specs.coding_tables.Codings.{digit_item, pattern_digits, items_of, coding_table}
+use Rattle.lisa_meaning.specs.coding_tables.Instructions.{instruction_items, forms_of, form_count}
+use Rattle.lisa_meaning.specs.pattern_tables.Instructions.{form_at}
+use Rattle.lisa_meaning.specs.instruction_forms.declared.form.Field as fields
+use Rattle.lisa_meaning.specs.instruction_forms.declared.form.Form.{Form}
+use Rattle.lisa_meaning.specs.instruction_forms.Trees.{FormTree, FormTrees, Node, End, Then, form_tree}
+use Rattle.lisa_meaning.specs.instruction_forms.Described.{own_items, instruction_form, AreForms}
+use Rattle.lisa_meaning.proofs.instruction_forms_proofs.Whole.{items_list}
+use Rattle.lisa_meaning.specs.form_patterns.Instructions.{field_places, tree_fields, trees_fields}
+use Rattle.lisa_meaning.proofs.form_patterns_proofs.Placing.{place_of, whole_places}
+use Rattle.lisa_meaning.proofs.form_patterns_proofs.Filling.{fit_at}
+use Rattle.lisa_meaning.proofs.form_patterns_proofs.Rowed.{row_is}
+use Rattle.lisa_meaning.specs.lisa_forms.Choosing.{tree_at, child_at, Stands, whole, child, other, further}
+use Rattle.lisa_meaning.specs.lisa_forms.declared.coding.Coding.{Coding}
+use Rattle.lisa_meaning.specs.lisa_forms.Codings.{IsCodingOf}
+use Rattle.lisa_meaning.proofs.lisa_forms_proofs.Patterned.{patterns_counted}
+use Rattle.lisa_meaning.proofs.lisa_forms_proofs.Fielded.{rows_inside}
 use Rattle.scene_paths.specs.Spans.{IsField, HasFields}
 
 -- ---- parts of lists

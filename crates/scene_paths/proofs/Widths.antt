@@ -11,11 +11,11 @@ use Rattle.lisa_engine.specs.declared.parts.Item.{Item}
 use Rattle.lisa_engine.specs.declared.parts.ArrayItem.{ArrayItem}
 use Rattle.lisa_engine.specs.Shape.{IsFitting}
 use Rattle.lisa_tree.specs.Resources.{fields_in}
-use Rattle.machine_parts.specs.Parts.{array, item, array_in, arrays_of, pin_in, pins_of, register_in, registers_of}
-use Rattle.lisa_machine.specs.Verdicts.{IsAccepted}
-use Rattle.lisa_machine.specs.Resolving.{IsWidth, FitsResource}
-use Rattle.lisa_machine.proofs.Sound.{sound}
-use Rattle.lisa_machine.proofs.Resolved.{resource_fits}
+use Rattle.lisa_meaning.specs.machine_parts.Parts.{array, item, array_in, arrays_of, pin_in, pins_of, register_in, registers_of}
+use Rattle.lisa_meaning.specs.lisa_machine.Verdicts.{IsAccepted}
+use Rattle.lisa_meaning.specs.lisa_machine.Resolving.{IsWidth, FitsResource}
+use Rattle.lisa_meaning.proofs.lisa_machine_proofs.Sound.{sound}
+use Rattle.lisa_meaning.proofs.lisa_machine_proofs.Resolved.{resource_fits}
 use Rattle.lisa_meaning.specs.Values as values
 use Rattle.scene_paths.specs.declared.array.Array.{Array}
 use Rattle.scene_paths.specs.declared.array.ArrayType.{ArrayType}

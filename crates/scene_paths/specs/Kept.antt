@@ -4,13 +4,13 @@ use Rattle.lisa_tree.specs.declared.tokens.Shape.{Shape}
 use Rattle.lisa_tree.specs.Expressions.{ExprTree}
 use Rattle.lisa_tree.specs.Descriptions.{DescriptionTree}
 use Rattle.lisa_tree.specs.Resources as resources
-use Rattle.description_sizes.specs.Texts as texts
-use Rattle.coding_tables.specs.Instructions.{first_root}
-use Rattle.lisa_machine.specs.Verdicts.{IsAccepted}
-use Rattle.lisa_forms.specs.declared.forms.Forms.{Forms}
-use Rattle.lisa_forms.specs.Parts.{AreFormsOf}
-use Rattle.lisa_forms.specs.declared.coding.Coding.{Coding}
-use Rattle.lisa_forms.specs.Codings.{IsCodingOf}
+use Rattle.lisa_meaning.specs.description_sizes.Texts as texts
+use Rattle.lisa_meaning.specs.coding_tables.Instructions.{first_root}
+use Rattle.lisa_meaning.specs.lisa_machine.Verdicts.{IsAccepted}
+use Rattle.lisa_meaning.specs.lisa_forms.declared.forms.Forms.{Forms}
+use Rattle.lisa_meaning.specs.lisa_forms.Parts.{AreFormsOf}
+use Rattle.lisa_meaning.specs.lisa_forms.declared.coding.Coding.{Coding}
+use Rattle.lisa_meaning.specs.lisa_forms.Codings.{IsCodingOf}
 use Rattle.lisa_meaning.specs.Values.{field_place}
 use Rattle.scene_paths.specs.declared.before.Before.{Before}
 use Rattle.scene_paths.specs.Places.{ArePlaces}

@@ -6,3 +6,13 @@ pub mod Spans
 pub mod Parts
 pub mod Paths
 pub mod Sights
+pub mod activation_trees
+pub mod coding_tables
+pub mod description_sizes
+pub mod form_patterns
+pub mod instruction_forms
+pub mod lisa_forms
+pub mod lisa_machine
+pub mod lisa_meaning
+pub mod machine_parts
+pub mod use_promises

@@ -1,6 +1,6 @@
 -- Parts of instructions' forms.
 use Rattle.std.specs.Prelude.{Option, option_map}
-use Rattle.instruction_forms.specs.Trees.{FormTree, form_tree}
+use Rattle.lisa_meaning.specs.instruction_forms.Trees.{FormTree, form_tree}
 use Rattle.scene_paths.specs.declared.part.Part.{Part}
 
 abbrev pub part_tree : Part → FormTree

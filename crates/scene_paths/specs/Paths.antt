@@ -1,7 +1,7 @@
 -- Paths as lists of links.
 use Rattle.std.specs.Prelude.{ℕ, List, [], ◌∷◌, Option, None, Some, filter_map}
 use Rattle.lisa_tree.specs.Descriptions.{DescriptionTree}
-use Rattle.instruction_forms.specs.Trees.{FormTree}
+use Rattle.lisa_meaning.specs.instruction_forms.Trees.{FormTree}
 use Rattle.lisa_meaning.specs.Scenes.{Link, link, line, occurrence_link}
 use Rattle.scene_paths.specs.declared.paths.Here.{Here}
 use Rattle.scene_paths.specs.declared.paths.Path.{Path, Occurrence, Alone, Child'}

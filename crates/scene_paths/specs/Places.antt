@@ -1,7 +1,7 @@
 -- Where resources stand among the registers, the arrays and the pins.
 use Rattle.std.specs.Prelude.{ℕ, ◌≡◌, ◌+◌, List, [], ◌∷◌, Option, None, Some}
 use Rattle.lisa_tree.specs.Descriptions.{ResourceTree, DescriptionTree}
-use Rattle.machine_parts.specs.Parts.{array_in, pin_in, register_in}
+use Rattle.lisa_meaning.specs.machine_parts.Parts.{array_in, pin_in, register_in}
 use Rattle.scene_paths.specs.declared.before.Before.{Before}
 
 -- one more, where there is one

@@ -1,8 +1,8 @@
 -- The instruction of which the operations on a path are parts.
 use Rattle.std.specs.Prelude.{ℕ, Option, option_map}
 use Rattle.lisa_tree.specs.Descriptions.{DescriptionTree}
-use Rattle.instruction_forms.specs.Trees.{FormTree}
-use Rattle.lisa_forms.specs.Choosing.{numbered_form}
+use Rattle.lisa_meaning.specs.instruction_forms.Trees.{FormTree}
+use Rattle.lisa_meaning.specs.lisa_forms.Choosing.{numbered_form}
 use Rattle.lisa_meaning.specs.Scenes.{Scene}
 use Rattle.scene_paths.specs.declared.sight.Sight.{Sight}
 use Rattle.scene_paths.specs.declared.paths.Path.{Path, Occurrence}

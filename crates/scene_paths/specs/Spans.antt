@@ -1,8 +1,8 @@
 -- The fields of forms stand in words.
 use Rattle.std.specs.Prelude.{◌≤◌, ◌+◌, All}
-use Rattle.instruction_forms.specs.declared.form.Field.{Field}
-use Rattle.instruction_forms.specs.Trees.{FormTree}
-use Rattle.form_patterns.specs.Instructions.{tree_fields}
+use Rattle.lisa_meaning.specs.instruction_forms.declared.form.Field.{Field}
+use Rattle.lisa_meaning.specs.instruction_forms.Trees.{FormTree}
+use Rattle.lisa_meaning.specs.form_patterns.Instructions.{tree_fields}
 
 -- it has at least one bit, and stands in a word
 pub record IsField (f : Field) : Type 0 where

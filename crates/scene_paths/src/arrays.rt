@@ -3,7 +3,7 @@
 ghost use Rattle.std.specs.Prelude.{◌≡◌, IfSome, option_map, slice_get, slice_index_or};
 ghost use Rattle.lisa_engine.specs.declared.parts.ArrayItem.{ArrayItem};
 ghost use Rattle.lisa_tree.specs.Descriptions.{resource_tree};
-ghost use Rattle.machine_parts.specs.Parts.{arrays_of};
+ghost use Rattle.lisa_meaning.specs.machine_parts.Parts.{arrays_of};
 ghost use Rattle.lisa_meaning.specs.Values as values;
 ghost use Rattle.lisa_meaning.specs.Values.{named_array};
 ghost use Rattle.scene_paths.specs.Lookups.{tree_of, array_of, array_type};

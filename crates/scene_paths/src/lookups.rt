@@ -11,13 +11,13 @@ ghost use Rattle.lisa_tree.specs.Operations.{sections_at, activation_in, behavio
 ghost use Rattle.lisa_tree.specs.Declarations.{what_at};
 ghost use Rattle.lisa_tree.specs.Meanings.{meaning};
 ghost use Rattle.lisa_tree.specs.Paths.{node_count};
-ghost use Rattle.description_sizes.specs.Texts.{levels};
-ghost use Rattle.coding_tables.specs.Instructions.{first_root};
-ghost use Rattle.lisa_machine.specs.Verdicts.{IsAccepted};
-ghost use Rattle.lisa_forms.specs.Parts.{AreFormsOf};
-ghost use Rattle.lisa_forms.specs.Codings.{IsCodingOf};
-ghost use Rattle.stage_checks.specs.Running.{started, choice_of};
-ghost use Rattle.activation_trees.specs.Starting.{plain_named};
+ghost use Rattle.lisa_meaning.specs.description_sizes.Texts.{levels};
+ghost use Rattle.lisa_meaning.specs.coding_tables.Instructions.{first_root};
+ghost use Rattle.lisa_meaning.specs.lisa_machine.Verdicts.{IsAccepted};
+ghost use Rattle.lisa_meaning.specs.lisa_forms.Parts.{AreFormsOf};
+ghost use Rattle.lisa_meaning.specs.lisa_forms.Codings.{IsCodingOf};
+ghost use Rattle.lisa_meaning.specs.stage_checks.Running.{started, choice_of};
+ghost use Rattle.lisa_meaning.specs.activation_trees.Starting.{plain_named};
 ghost use Rattle.lisa_meaning.specs.Scenes.{declared};
 ghost use Rattle.lisa_meaning.specs.Values.{register_place, array_place, pin_place, field_place, shape_at};
 ghost use Rattle.lisa_meaning.specs.Cores.{conditions_in};
@@ -29,9 +29,7 @@ use crate::before::{Before, places};
 use crate::conditions::{condition_at, conditions};
 use crate::described::Described;
 use crate::fields::{boundary_fields, field_places, shape_at};
-use description_types::{is_root, operation_count, resource, sections};
-use lisa_forms::{Coding, Forms};
-use lisa_machine::Machine;
+use lisa_meaning::{Coding, Forms, Machine, is_root, operation_count, resource, sections};
 use lisa_tree::{
     CodingPart, Description, Expr, Meaning, Names, Resource, Shape, Stmt, What, behavior, coding,
     expression,

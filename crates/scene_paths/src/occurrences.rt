@@ -2,7 +2,7 @@
 
 ghost use Rattle.std.specs.Prelude.{◌≡◌, Some, option_map, slice_get, true};
 ghost use Rattle.lisa_tree.specs.Expressions.{expr_tree};
-ghost use Rattle.activation_trees.specs.Unfolding.{occurrences};
+ghost use Rattle.lisa_meaning.specs.activation_trees.Unfolding.{occurrences};
 ghost use Rattle.lisa_meaning.specs.Scenes.{has_word, scene_of};
 ghost use Rattle.lisa_meaning.specs.Cores.{chooses, condition, decodes, is_root_at};
 ghost use Rattle.scene_paths.specs.Lookups.{tree_of};
@@ -10,7 +10,7 @@ ghost use Rattle.scene_paths.specs.Sights.{sight_tree, occurrence_scene};
 
 use crate::described::Described;
 use crate::sight::Sight;
-use lisa_forms::Occurrence;
+use lisa_meaning::Occurrence;
 use lisa_tree::Expr;
 
 impl<'a> Described<'a> {

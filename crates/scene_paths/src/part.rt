@@ -1,9 +1,9 @@
 //! Parts of instructions' forms.
 
-ghost use Rattle.instruction_forms.specs.Trees.{form_tree};
+ghost use Rattle.lisa_meaning.specs.instruction_forms.Trees.{form_tree};
 ghost use Rattle.scene_paths.specs.Spans.{HasFields};
 
-use instruction_forms::Form;
+use lisa_meaning::Form;
 
 /// A part of a form: an operation with its own fields and the parts of its children. Each field of it has a bit at least, and stands in a
 /// word.

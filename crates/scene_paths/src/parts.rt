@@ -2,18 +2,16 @@
 
 ghost use Rattle.std.specs.Prelude.{◌≡◌, ◌≤◌, ◌<◌, ◌+◌, ◌^◌, Some, find, option_map};
 ghost use Rattle.lisa_tree.specs.Same.{same_name};
-ghost use Rattle.instruction_forms.specs.Trees.{form_tree};
-ghost use Rattle.lisa_forms.specs.Choosing.{child_at, operation_of};
-ghost use Rattle.typed_values.specs.Words.{typed_word};
+ghost use Rattle.lisa_meaning.specs.instruction_forms.Trees.{form_tree};
+ghost use Rattle.lisa_meaning.specs.lisa_forms.Choosing.{child_at, operation_of};
+ghost use Rattle.lisa_meaning.specs.typed_values.Words.{typed_word};
 ghost use Rattle.lisa_meaning.specs.Values.{field_kind, field_value, label_value};
 ghost use Rattle.scene_paths.specs.Spans.{HasFields, IsField};
 ghost use Rattle.scene_paths.specs.Parts.{part_tree, part_trees};
 
 use crate::part::Part;
-use instruction_forms::{Field, Form};
+use lisa_meaning::{Field, Form, Place, Value, field};
 use lisa_words::{Kind, Name, Word};
-use pattern_tables::{Place, field};
-use typed_values::Value;
 
 fn field_kind(signed: bool) -> Kind
     ensures { result ≡ field_kind signed }

@@ -2,7 +2,7 @@
 
 ghost use Rattle.std.specs.Prelude.{◌≡◌, ◌<◌, ℕ, Some};
 ghost use Rattle.lisa_tree.specs.Descriptions.{description_tree};
-ghost use Rattle.coding_tables.specs.Instructions.{form_count};
+ghost use Rattle.lisa_meaning.specs.coding_tables.Instructions.{form_count};
 
 use crate::described::Described;
 

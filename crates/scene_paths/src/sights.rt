@@ -1,7 +1,7 @@
 //! What is seen of an instruction.
 
 ghost use Rattle.std.specs.Prelude.{◌≡◌, ◌<◌, ℕ, Some, None, is_some, length, slice_get};
-ghost use Rattle.activation_trees.specs.Unfolding.{occurrences};
+ghost use Rattle.lisa_meaning.specs.activation_trees.Unfolding.{occurrences};
 ghost use Rattle.lisa_meaning.specs.Scenes.{occurrence_part, instruction_with};
 ghost use Rattle.scene_paths.specs.Lookups.{tree_of};
 ghost use Rattle.scene_paths.specs.Parts.{part_trees};
@@ -10,7 +10,7 @@ ghost use Rattle.scene_paths.specs.Sights.{sight_tree, form_of};
 use crate::described::Described;
 use crate::part::Part;
 use crate::sight::Sight;
-use lisa_forms::Occurrence;
+use lisa_meaning::Occurrence;
 
 impl<'a> Sight<'a> {
     /// Where no word is.

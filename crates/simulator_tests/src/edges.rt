@@ -4,8 +4,7 @@ ghost use Rattle.lisa_engine.specs.PinValues.{IsFor};
 
 use instruction_samples::{PINS, machine};
 use lisa_engine::{Engine, Image, Schedule, read_schedule};
-use lisa_forms::{Coding, Forms};
-use lisa_sim::{Seen, Simulator};
+use lisa_sim::{Coding, Forms, Seen, Simulator};
 use std::alloc::Global;
 use std::test::Fail;
 

@@ -17,27 +17,27 @@ use Rattle.lisa_engine.proofs.Played.{entries_fit}
 use Rattle.lisa_object.specs.Objects.{PlainObject}
 use Rattle.lisa_object.specs.ObjectRules.{IsObject}
 use Rattle.lisa_machine.specs.Verdicts.{IsAccepted}
-use Rattle.lisa_forms.specs.Verdicts.{HasForms}
+use Rattle.generator_commands.specs.lisa_forms.Verdicts.{HasForms}
 use Rattle.machine_parts.specs.Parts.{arrays_of, pins_of}
-use Rattle.description_sizes.specs.Sizes.{items}
-use Rattle.lisa_meaning.specs.States.{state_of}
-use Rattle.lisa_assembler.specs.Memories.{memory_items}
-use Rattle.lisa_assembler.specs.Objects.{IsObjectOf}
+use Rattle.generator_commands.specs.description_sizes.Sizes.{items}
+use Rattle.generator_commands.specs.lisa_meaning.States.{state_of}
+use Rattle.generator_commands.specs.lisa_assembler.Memories.{memory_items}
+use Rattle.generator_commands.specs.lisa_assembler.Objects.{IsObjectOf}
 use Rattle.lisa_linker.specs.Memories.{AreMemories}
-use Rattle.generated_programs.proofs.Widths.{one_width}
+use Rattle.generator_commands.proofs.generated_programs_proofs.Widths.{one_width}
 use Rattle.verilog_text.specs.Trees.{ModuleTree}
 use Rattle.verilog_text.specs.Clocked.{v_state}
 use Rattle.verilog_text.specs.Faults.{VAccepts}
 use Rattle.verilog_reader.proofs.TextLaws.{one_spelled}
 use Rattle.lisa_outcomes.specs.Outcomes.{Outcome, Finished, After, passed, stopped}
 use Rattle.lisa_engine.specs.Machines.{Machine, machine_of}
-use Rattle.checked_descriptions.specs.Checked.{Checked, IsChecked, AfterChecks}
-use Rattle.checked_descriptions.specs.Descriptions.{AfterSpelling}
-use Rattle.checked_descriptions.proofs.Listed.{sound_parts}
-use Rattle.description_commands.specs.Runs.{described_machine}
-use Rattle.module_commands.specs.Designs.{clock_machine}
-use Rattle.assembler_commands.specs.Assembled.{IsSource}
-use Rattle.assembler_commands.specs.Links.{IsLinked, stamped}
+use Rattle.verilog_command.specs.checked_descriptions.Checked.{Checked, IsChecked, AfterChecks}
+use Rattle.verilog_command.specs.checked_descriptions.Descriptions.{AfterSpelling}
+use Rattle.verilog_command.proofs.checked_descriptions_proofs.Listed.{sound_parts}
+use Rattle.generator_commands.specs.description_commands.Runs.{described_machine}
+use Rattle.generator_commands.specs.module_commands.Designs.{clock_machine}
+use Rattle.generator_commands.specs.assembler_commands.Assembled.{IsSource}
+use Rattle.generator_commands.specs.assembler_commands.Links.{IsLinked, stamped}
 use Rattle.verilog_command.specs.Modules.{IsModuleOf, IsModuleText, WritesVerilog, written}
 use Rattle.generator_commands.specs.declared.reports.Report.{Report}
 use Rattle.generator_commands.specs.Reports.{final_text, report_of, report_text}

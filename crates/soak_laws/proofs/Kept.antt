@@ -11,11 +11,11 @@ use Rattle.lisa_object.specs.Objects.{PlainObject}
 use Rattle.lisa_object.specs.ObjectRules.{IsObject}
 use Rattle.object_links.specs.LinkFaults.{Entries, first_unknown, double_export, overfull, undefined_from, all_exported, fault_before_values, out_of_range}
 use Rattle.object_links.specs.LineNames.{parts_of}
-use Rattle.lisa_assembler.specs.Memories.{memory_items}
+use Rattle.generator_commands.specs.lisa_assembler.Memories.{memory_items}
 use Rattle.lisa_linker.specs.Memories.{AreMemories}
 use Rattle.lisa_linker.proofs.Images.{image_rules}
 use Rattle.lisa_linker.proofs.Within.{none_both}
-use Rattle.assembler_commands.specs.Links.{IsLinked}
+use Rattle.generator_commands.specs.assembler_commands.Links.{IsLinked}
 
 none_mapped : {A B : Type 0} (f : A → B) (x : Option A) → option_map f x ≡ None → x ≡ None
 none_mapped f None e = refl

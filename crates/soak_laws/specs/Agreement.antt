@@ -1,7 +1,7 @@
 -- The module that `verilog` wrote of a description comes to the state of the description.
 use Rattle.std.specs.Prelude.{ℕ, ◌≡◌, List}
 use Rattle.lisa_outcomes.specs.Outcomes.{Finished}
-use Rattle.checked_descriptions.specs.Descriptions.{AfterSpelling}
+use Rattle.verilog_command.specs.checked_descriptions.Descriptions.{AfterSpelling}
 use Rattle.verilog_command.specs.Modules.{WritesVerilog}
 use Rattle.generator_commands.specs.declared.reports.Report.{Report}
 use Rattle.generator_commands.specs.Reports.{report_text}

@@ -1,8 +1,7 @@
 //! What holds of soaks. The law is the contract of a function that does nothing.
 ghost use Rattle.soak_laws.specs.Agreement.{SoaksAgree};
 
-use item_promises::sizes_are_limited;
-use source_promises::objects_of_sources_keep_rules;
+use generator_commands::{objects_of_sources_keep_rules, sizes_are_limited};
 use use_promises::machines_show;
 
 /// Where the module is the one that `verilog` wrote of the description, what `soak` tells has the same digest for both states, whatever the

@@ -8,9 +8,9 @@ use Rattle.asm_source.specs.declared.flaw.SourceFault.{SourceFault}
 use Rattle.asm_source.specs.declared.flaw.SourceFault.TheVariants as faults
 use Rattle.instruction_texts.specs.Lines.{Plain}
 use Rattle.text_tables.specs.Reading.{IsMatch}
-use Rattle.lisa_forms.specs.Verdicts.{form_name_at}
-use Rattle.lisa_syntax.specs.Lines.{all_shapes, IsLineFault}
-use Rattle.lisa_syntax.specs.declared.reading.LineFault.TheVariants as line_faults
+use Rattle.lisa_assembler.specs.lisa_forms.Verdicts.{form_name_at}
+use Rattle.lisa_assembler.specs.lisa_syntax.Lines.{all_shapes, IsLineFault}
+use Rattle.lisa_assembler.specs.lisa_syntax.declared.reading.LineFault.TheVariants as line_faults
 use Rattle.lisa_assembler.specs.Faults.{IsOutside, IsTextFault, none, two, IsPartFault, IsRangeFault, IsCellsFault, IsFaultOf, outside, part, double, range, IsSourceFault, first_double}
 use Rattle.lisa_assembler.specs.Sources.{HoldsInstructions, IsInRange, section_behind, line_names}
 

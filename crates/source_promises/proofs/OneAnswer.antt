@@ -14,17 +14,17 @@ use Rattle.asm_source.specs.Plain as sources
 use Rattle.asm_source.specs.declared.flaw.SourceFault.{SourceFault}
 use Rattle.lisa_tree.specs.Descriptions.{DescriptionTree}
 use Rattle.lisa_engine.specs.declared.parts.ArrayItem.{ArrayItem}
-use Rattle.lisa_machine.specs.Verdicts.{IsAccepted}
-use Rattle.lisa_forms.specs.Verdicts.{HasForms}
+use Rattle.lisa_assembler.specs.lisa_machine.Verdicts.{IsAccepted}
+use Rattle.lisa_assembler.specs.lisa_forms.Verdicts.{HasForms}
 use Rattle.lisa_object.specs.Objects.{PlainObject}
 use Rattle.instruction_texts.specs.declared.shapes.Shape.{Shape}
 use Rattle.instruction_texts.specs.Lines.{Plain, Matches}
 use Rattle.instruction_texts.proofs.Reading.{matches_read}
 use Rattle.text_tables.specs.Reading.{IsMatch, IsFound}
 use Rattle.text_tables.specs.Shared.{shapes_at}
-use Rattle.lisa_syntax.specs.Orders.{IsNowhere, IsOrder, IsInOrder, order_at}
-use Rattle.lisa_syntax.specs.Lines.{all_shapes, all_orders}
-use Rattle.lisa_syntax.proofs.Shown as shown_orders
+use Rattle.lisa_assembler.specs.lisa_syntax.Orders.{IsNowhere, IsOrder, IsInOrder, order_at}
+use Rattle.lisa_assembler.specs.lisa_syntax.Lines.{all_shapes, all_orders}
+use Rattle.lisa_assembler.proofs.lisa_syntax_proofs.Shown as shown_orders
 use Rattle.placed_programs.specs.Entries.{Entry, Enter, Put, Mark, mapped, lines_of}
 use Rattle.lisa_assembler.specs.Memories.{memory_named}
 use Rattle.lisa_assembler.specs.Sources.{SourceCell, Coded, FitsCell, IsRead, IsInstructionEntry, ArePartEntries, section_behind, AreLineEntries, AreEntries, line_names, IsSourceOf}

@@ -1,10 +1,10 @@
 //! That a source has one answer.
 ghost use Rattle.std.specs.Prelude.{◌≡◌, List, [], None};
 ghost use Rattle.lisa_tree.specs.Descriptions.{DescriptionTree};
-ghost use Rattle.lisa_machine.specs.Verdicts.{IsAccepted};
+ghost use Rattle.lisa_assembler.specs.lisa_machine.Verdicts.{IsAccepted};
 ghost use Rattle.asm_source.specs.Plain.{PlainLine};
 ghost use Rattle.asm_source.specs.declared.flaw.SourceFault.{SourceFault};
-ghost use Rattle.lisa_forms.specs.Verdicts.{HasForms};
+ghost use Rattle.lisa_assembler.specs.lisa_forms.Verdicts.{HasForms};
 ghost use Rattle.lisa_object.specs.Objects.{PlainObject};
 ghost use Rattle.lisa_assembler.specs.Faults.{IsSourceFault};
 ghost use Rattle.lisa_assembler.specs.Objects.{IsObjectOf};

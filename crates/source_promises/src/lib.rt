@@ -7,4 +7,5 @@ mod objects;
 
 pub use answers::sources_have_one_answer;
 pub use images::sources_link_to_their_image;
+pub use lisa_assembler::{Tools, assemble, assemble_bytes};
 pub use objects::objects_of_sources_keep_rules;

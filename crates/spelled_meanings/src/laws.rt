@@ -2,7 +2,7 @@
 ghost use Rattle.std.specs.Prelude.{ℕ, List};
 ghost use Rattle.lisa_tree.specs.Descriptions.{DescriptionTree};
 ghost use Rattle.lisa_tree.specs.Texts.{SpellsText};
-ghost use Rattle.meaning_promises.specs.Fitting.{HaveNumbers, HaveWordPlaces};
+ghost use Rattle.lowered_behaviors.specs.meaning_promises.Fitting.{HaveNumbers, HaveWordPlaces};
 ghost use Rattle.lowered_behaviors.specs.Agreement.{HaveNumbersInBehaviors};
 ghost use Rattle.spelled_meanings.specs.Tests.{HaveNumbersInTests};
 

@@ -2,12 +2,12 @@
 use Rattle.std.proofs.Common.{◌≡◌, Option, None, Some, inl, inr, refl}
 use Rattle.std.specs.Prelude.{option_map}
 use Rattle.lisa_tree.specs.Descriptions.{DescriptionTree}
-use Rattle.coding_tables.specs.Instructions.{form_count}
-use Rattle.description_sizes.specs.Limits.{fault}
-use Rattle.description_sizes.specs.Sizes.{first_too_many}
-use Rattle.description_sizes.proofs.Limited.{within_limits}
-use Rattle.lisa_machine.specs.Verdicts.{Verdict, before}
-use Rattle.lisa_forms.specs.Verdicts.{HasForms, IsSizeVerdict, from_texts, from_sizes, from_roots, from_writings}
+use Rattle.lisa_meaning.specs.coding_tables.Instructions.{form_count}
+use Rattle.lisa_meaning.specs.description_sizes.Limits.{fault}
+use Rattle.lisa_meaning.specs.description_sizes.Sizes.{first_too_many}
+use Rattle.lisa_meaning.proofs.description_sizes_proofs.Limited.{within_limits}
+use Rattle.lisa_meaning.specs.lisa_machine.Verdicts.{Verdict, before}
+use Rattle.lisa_meaning.specs.lisa_forms.Verdicts.{HasForms, IsSizeVerdict, from_texts, from_sizes, from_roots, from_writings}
 use Rattle.state_items.specs.Laws.{HasLimits}
 
 passed : {v : Verdict} (w : Verdict) → before v w None → v None × w None

@@ -2,9 +2,9 @@
 use Rattle.std.specs.Prelude.{ℕ, ◌≡◌, List, Option, Some, slice_get}
 use Rattle.lisa_tree.specs.Descriptions.{DescriptionTree}
 use Rattle.lisa_engine.specs.Memory.{Memory}
-use Rattle.coding_tables.specs.Instructions.{form_count}
-use Rattle.instruction_forms.specs.Widths.{HasWidth}
-use Rattle.description_sizes.specs.Laws.{AreWithinLimits}
+use Rattle.lisa_meaning.specs.coding_tables.Instructions.{form_count}
+use Rattle.lisa_meaning.specs.instruction_forms.Widths.{HasWidth}
+use Rattle.lisa_meaning.specs.description_sizes.Laws.{AreWithinLimits}
 use Rattle.item_layouts.specs.declared.place.ItemPlace.{ItemPlace}
 use Rattle.item_layouts.specs.Layouts.{item_places, value_at}
 use Rattle.pipeline_time.specs.Bits.{shown}

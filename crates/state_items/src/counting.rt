@@ -5,10 +5,9 @@ ghost use Rattle.std.specs.Prelude.{◌≡◌, filter_map, is_some, length, map}
 ghost use Rattle.lisa_tree.specs.Descriptions.{resource_tree};
 ghost use Rattle.lisa_tree.specs.Resources.{stages_in, fields_in};
 ghost use Rattle.machine_parts.specs.Parts.{register_in};
-ghost use Rattle.activation_trees.specs.Items.{stage_or_first, root_stage};
+ghost use Rattle.lisa_meaning.specs.activation_trees.Items.{stage_or_first, root_stage};
 
-use description_types::is_root;
-use lisa_forms::Occurrence;
+use lisa_meaning::{Occurrence, is_root};
 use lisa_tree::{Names, Resource};
 
 fn is_register(resource: &Resource) -> bool

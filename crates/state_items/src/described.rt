@@ -4,18 +4,16 @@ ghost use Rattle.std.specs.Prelude.{◌≡◌, ◌<◌, ◌^◌, length, IfOk};
 ghost use Rattle.lisa_tree.specs.Descriptions.{description_tree};
 ghost use Rattle.lisa_tree.specs.Resources.{stages, fields};
 ghost use Rattle.machine_parts.specs.Parts.{registers_of};
-ghost use Rattle.activation_trees.specs.Unfolding.{occurrences};
-ghost use Rattle.activation_trees.specs.Items.{root_stage, has_bit};
-ghost use Rattle.coding_tables.specs.Instructions.{instruction_choice};
-ghost use Rattle.lisa_forms.specs.Parts.{AreFormsOf};
+ghost use Rattle.lisa_meaning.specs.activation_trees.Unfolding.{occurrences};
+ghost use Rattle.lisa_meaning.specs.activation_trees.Items.{root_stage, has_bit};
+ghost use Rattle.lisa_meaning.specs.coding_tables.Instructions.{instruction_choice};
+ghost use Rattle.lisa_meaning.specs.lisa_forms.Parts.{AreFormsOf};
 ghost use Rattle.lisa_meaning.specs.States.{first_word as first_word_behind, layout_of};
 
 use crate::counting::{count_fields, count_registers, count_stages, root_stage};
-use coding_tables::instruction_choice;
 use description_tables::Tables;
 use item_layouts::Arrangement;
-use lisa_forms::{Forms, Occurrence};
-use lisa_machine::Machine;
+use lisa_meaning::{Forms, Machine, Occurrence, instruction_choice};
 use lisa_words::NoMemory;
 use std::alloc::Global;
 

@@ -1,7 +1,7 @@
 //! Laws on items and their places. Each is the contract of a function that does nothing.
 
 ghost use Rattle.lisa_tree.specs.Descriptions.{DescriptionTree};
-ghost use Rattle.lisa_forms.specs.Verdicts.{HasForms};
+ghost use Rattle.lisa_meaning.specs.lisa_forms.Verdicts.{HasForms};
 ghost use Rattle.state_items.specs.Laws.{ItemsAreAtPlaces, HasLimits};
 
 /// The value of each item after any edges is what stands at its place.

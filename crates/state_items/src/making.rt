@@ -3,13 +3,12 @@
 ghost use Rattle.std.specs.Prelude.{◌≡◌, IfOk};
 ghost use Rattle.lisa_tree.specs.Descriptions.{description_tree};
 ghost use Rattle.item_layouts.specs.Layouts.{item_places};
-ghost use Rattle.lisa_forms.specs.Parts.{AreFormsOf};
+ghost use Rattle.lisa_meaning.specs.lisa_forms.Parts.{AreFormsOf};
 ghost use Rattle.lisa_meaning.specs.States.{layout_of};
 
 use crate::described::Described;
 use item_layouts::{ItemPlace, item_places};
-use lisa_forms::Forms;
-use lisa_machine::Machine;
+use lisa_meaning::{Forms, Machine};
 use lisa_words::NoMemory;
 use std::alloc::Global;
 

@@ -14,24 +14,24 @@ use Rattle.description_graph.proofs.Nodes.{at_choice, at_entry}
 use Rattle.description_graph.proofs.Numbered.{chosen_within}
 use Rattle.description_graph.proofs.Meant.{meant_below}
 use Rattle.description_graph.proofs.Hits.{Found, found}
-use Rattle.lisa_machine.specs.Ranks.{Ranks}
-use Rattle.lisa_machine.specs.Soundness.{IsSound}
-use Rattle.lisa_machine.specs.Declaring.{Chooses}
-use Rattle.lisa_machine.proofs.Entries.{entry_chooses}
-use Rattle.lisa_machine.proofs.Named.{what_is}
+use Rattle.item_promises.specs.lisa_machine.Ranks.{Ranks}
+use Rattle.item_promises.specs.lisa_machine.Soundness.{IsSound}
+use Rattle.item_promises.specs.lisa_machine.Declaring.{Chooses}
+use Rattle.item_promises.proofs.lisa_machine_proofs.Entries.{entry_chooses}
+use Rattle.item_promises.proofs.lisa_machine_proofs.Named.{what_is}
 use Rattle.meant_declarations.specs.Meant as meant
 use Rattle.meant_declarations.specs.Meant.{itself, higher}
-use Rattle.use_promises.specs.Meant.{ChoosesFrom}
-use Rattle.use_promises.proofs.Traits.{means}
-use Rattle.activation_trees.specs.Starting.{plain_named}
+use Rattle.lisa_meaning.specs.use_promises.Meant.{ChoosesFrom}
+use Rattle.lisa_meaning.proofs.use_promises_proofs.Traits.{means}
+use Rattle.item_promises.specs.activation_trees.Starting.{plain_named}
 use Rattle.text_counts.specs.Sums.{Counts, plus, sum_of}
 use Rattle.text_counts.specs.References.{MayMean, chosen, referenced}
 use Rattle.text_counts.specs.Expressions.{counted_at, counted_of, known_or}
 use Rattle.text_counts.specs.Behaviors.{called}
 use Rattle.text_counts.specs.Steps.{node_count_of, statements_counting}
-use Rattle.description_sizes.specs.Texts.{may_choose, levels, chosen_by, counts_within}
-use Rattle.description_sizes.proofs.Rising.{passing_has, some_below}
-use Rattle.description_sizes.proofs.Chosen.{by_choice, by_name, meant_within}
+use Rattle.item_promises.specs.description_sizes.Texts.{may_choose, levels, chosen_by, counts_within}
+use Rattle.item_promises.proofs.description_sizes_proofs.Rising.{passing_has, some_below}
+use Rattle.item_promises.proofs.description_sizes_proofs.Chosen.{by_choice, by_name, meant_within}
 use Rattle.lisa_meaning.proofs.Above.{NamedBy, named_by}
 use Rattle.touch_promises.proofs.Walked.{summed}
 

@@ -14,22 +14,22 @@ use Rattle.description_places.specs.Scopes.{Scope}
 use Rattle.description_graph.proofs.Nodes.{at_operation}
 use Rattle.stage_checks.specs.Controls.{main_name}
 use Rattle.stage_checks.proofs.Nodes.{plain_within}
-use Rattle.machine_parts.specs.Parts.{reset_count}
-use Rattle.lisa_machine.specs.Running.{FitsMain}
-use Rattle.lisa_machine.specs.Soundness.{IsSound}
-use Rattle.lisa_machine.proofs.Falling.{node_ranks}
-use Rattle.lisa_machine.proofs.Standing.{behavior_stand}
-use Rattle.use_promises.specs.Using.{IsCallable}
-use Rattle.use_promises.proofs.Used.{call_fits}
-use Rattle.activation_trees.specs.declared.parts.Occurrence.{Occurrence}
-use Rattle.activation_trees.specs.Unfolding.{occurrences}
+use Rattle.item_promises.specs.machine_parts.Parts.{reset_count}
+use Rattle.item_promises.specs.lisa_machine.Running.{FitsMain}
+use Rattle.item_promises.specs.lisa_machine.Soundness.{IsSound}
+use Rattle.item_promises.proofs.lisa_machine_proofs.Falling.{node_ranks}
+use Rattle.item_promises.proofs.lisa_machine_proofs.Standing.{behavior_stand}
+use Rattle.lisa_meaning.specs.use_promises.Using.{IsCallable}
+use Rattle.lisa_meaning.proofs.use_promises_proofs.Used.{call_fits}
+use Rattle.item_promises.specs.activation_trees.declared.parts.Occurrence.{Occurrence}
+use Rattle.item_promises.specs.activation_trees.Unfolding.{occurrences}
 use Rattle.text_counts.specs.Behaviors.{called, behavior_count}
 use Rattle.text_counts.specs.Steps.{node_count_of, statements_counting}
-use Rattle.description_sizes.specs.Texts.{levels, chosen_by, counts_of, texts, statements_at}
-use Rattle.description_sizes.specs.Sums.{statements_by}
-use Rattle.description_sizes.specs.Laws.{AreCounted, AreWithinLimits}
-use Rattle.description_sizes.proofs.Sums.{are_counted}
-use Rattle.instruction_forms.specs.Trees.{FormTree}
+use Rattle.item_promises.specs.description_sizes.Texts.{levels, chosen_by, counts_of, texts, statements_at}
+use Rattle.item_promises.specs.description_sizes.Sums.{statements_by}
+use Rattle.item_promises.specs.description_sizes.Laws.{AreCounted, AreWithinLimits}
+use Rattle.item_promises.proofs.description_sizes_proofs.Sums.{are_counted}
+use Rattle.item_promises.specs.instruction_forms.Trees.{FormTree}
 use Rattle.lisa_meaning.specs.Scenes.{Link, Scene, at_path, instruction_with, scene_by, has_word, scene_with}
 use Rattle.lisa_meaning.specs.Scenes as scenes
 use Rattle.lisa_meaning.specs.Moments.{Moment, bare}

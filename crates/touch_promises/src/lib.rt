@@ -4,4 +4,6 @@
 
 mod writing;
 
+pub use item_promises::sizes_are_limited;
+pub use lisa_meaning::laws;
 pub use writing::behaviors_write_few_cells;

@@ -2,11 +2,11 @@
 
 ghost use Rattle.std.specs.Prelude.{◌≡◌, ℕ, Some, slice_get};
 ghost use Rattle.lisa_tree.specs.Descriptions.{DescriptionTree};
-ghost use Rattle.lisa_machine.specs.Verdicts.{IsAccepted};
-ghost use Rattle.activation_trees.specs.declared.parts.Occurrence.{Occurrence};
-ghost use Rattle.activation_trees.specs.Unfolding.{occurrences};
-ghost use Rattle.description_sizes.specs.Texts.{statements_at};
-ghost use Rattle.lisa_forms.specs.Verdicts.{HasForms};
+ghost use Rattle.item_promises.specs.lisa_machine.Verdicts.{IsAccepted};
+ghost use Rattle.item_promises.specs.activation_trees.declared.parts.Occurrence.{Occurrence};
+ghost use Rattle.item_promises.specs.activation_trees.Unfolding.{occurrences};
+ghost use Rattle.item_promises.specs.description_sizes.Texts.{statements_at};
+ghost use Rattle.lisa_meaning.specs.lisa_forms.Verdicts.{HasForms};
 ghost use Rattle.lisa_meaning.specs.Cores.{behave};
 ghost use Rattle.lisa_meaning.specs.Moments.{Moment};
 ghost use Rattle.touch_promises.specs.Writes.{FewWrites};

@@ -16,9 +16,9 @@ use Rattle.description_places.specs.Places as places
 use Rattle.description_places.specs.Places.{at}
 use Rattle.lisa_tree.specs.Same.{same_name}
 use Rattle.lisa_tree.specs.Operations.{name_at}
-use Rattle.shape_checks.specs.declared.bounds.Bounds.{Bounds}
-use Rattle.shape_checks.specs.Bounds.{limit_of, step_of, bounds_with, where_typed, bounds_of, turns, last_value, number_bits, holds, holds_values}
-use Rattle.shape_checks.specs.Shapes.{is_width, counter_width, bad_width, open_fault, without_bound}
+use Rattle.lisa_machine.specs.shape_checks.declared.bounds.Bounds.{Bounds}
+use Rattle.lisa_machine.specs.shape_checks.Bounds.{limit_of, step_of, bounds_with, where_typed, bounds_of, turns, last_value, number_bits, holds, holds_values}
+use Rattle.lisa_machine.specs.shape_checks.Shapes.{is_width, counter_width, bad_width, open_fault, without_bound}
 use Rattle.lisa_machine.specs.Freedom.{IsFree, Stands}
 use Rattle.lisa_machine.specs.Running.{FitsLoop}
 use Rattle.lisa_machine.proofs.Among.{free_place}

@@ -1,7 +1,7 @@
 -- What gives a declared name its value.
 use Rattle.std.proofs.Common.{◌≡◌, ◌⊎◌, ℕ, Option, None, Some, true, refl, sym, ap, ◌∙◌, inl, inr, ⊎_elim}
 use Rattle.std.specs.Prelude.{slice_get}
-use Rattle.lisa_words.specs.declared.words.Kind.{Kind}
+use Rattle.lisa_machine.specs.lisa_words.declared.words.Kind.{Kind}
 use Rattle.lisa_tree.specs.declared.tokens.Shape.{Shape}
 use Rattle.lisa_tree.specs.Expressions.{ExprTree}
 use Rattle.lisa_tree.specs.Descriptions.{DescriptionTree}
@@ -10,26 +10,26 @@ use Rattle.lisa_tree.specs.declared.declared.What.TheVariants as whats
 use Rattle.lisa_tree.specs.Operations.{sections_at, coding_in, syntax_in, expression_in}
 use Rattle.lisa_tree.specs.Declarations.{Entry, entries, plain_at, what_at}
 use Rattle.lisa_tree.specs.Paths.{entry_node}
-use Rattle.description_graph.proofs.Nodes.{alternatives_below}
+use Rattle.lisa_machine.proofs.description_graph_proofs.Nodes.{alternatives_below}
 use Rattle.graph_paths.specs.Paths.{is_in}
-use Rattle.coded_names.specs.Codings.{field_width, number_kind}
-use Rattle.description_types.specs.declared.values.TypeOf.TheVariants as types
-use Rattle.description_types.specs.declared.values.CodedName.{CodedName}
-use Rattle.description_types.specs.Shapes.{shape_of}
-use Rattle.description_types.specs.Codings.{kind_or_unsigned, width_type}
-use Rattle.description_types.specs.Facts.{entry_value}
-use Rattle.description_types.specs.Kinds.{expression_type, type_fact}
-use Rattle.description_types.specs.Steady.{types_steady}
-use Rattle.description_types.specs.Tables.{apart, Known, AreKinds}
-use Rattle.name_checks.specs.Doubled.{duplicate}
-use Rattle.name_checks.specs.Unknown.{unknown}
-use Rattle.kind_checks.specs.WrongKinds.{wrong_kind}
+use Rattle.lisa_machine.specs.coded_names.Codings.{field_width, number_kind}
+use Rattle.lisa_machine.specs.description_types.declared.values.TypeOf.TheVariants as types
+use Rattle.lisa_machine.specs.description_types.declared.values.CodedName.{CodedName}
+use Rattle.lisa_machine.specs.description_types.Shapes.{shape_of}
+use Rattle.lisa_machine.specs.description_types.Codings.{kind_or_unsigned, width_type}
+use Rattle.lisa_machine.specs.description_types.Facts.{entry_value}
+use Rattle.lisa_machine.specs.description_types.Kinds.{expression_type, type_fact}
+use Rattle.lisa_machine.specs.description_types.Steady.{types_steady}
+use Rattle.lisa_machine.specs.description_types.Tables.{apart, Known, AreKinds}
+use Rattle.lisa_machine.specs.name_checks.Doubled.{duplicate}
+use Rattle.lisa_machine.specs.name_checks.Unknown.{unknown}
+use Rattle.lisa_machine.specs.kind_checks.WrongKinds.{wrong_kind}
 use Rattle.lisa_machine.specs.Freedom.{IsFree}
 use Rattle.lisa_machine.proofs.Named.{what_is}
 use Rattle.lisa_machine.proofs.Settling.{operation_is, entry_is}
 use Rattle.lisa_machine.proofs.Typing.{child_types, reference_types}
 use Rattle.lisa_machine.proofs.Chosen.{plain_listed}
-use Rattle.meant_declarations.specs.Meant.{MayMean, itself, higher}
+use Rattle.lisa_machine.specs.meant_declarations.Meant.{MayMean, itself, higher}
 use Rattle.use_promises.specs.Meant.{ChoosesFrom}
 use Rattle.use_promises.specs.Valued.{HasExpression, IsField, HasValues}
 use Rattle.use_promises.proofs.Traits.{coding_is}

@@ -13,8 +13,8 @@ use Rattle.lisa_tree.specs.Resources.{resource_at}
 use Rattle.lisa_tree.specs.Operations.{name_at}
 use Rattle.lisa_tree.specs.Declarations.{declared_at}
 use Rattle.lisa_tree.specs.Meanings.{meaning, meaning_of}
-use Rattle.stage_checks.specs.Controls.{reset_name}
-use Rattle.stage_checks.specs.Resets.{means_scalar, may_use, goes_beyond, refused, bad_reset}
+use Rattle.lisa_machine.specs.stage_checks.Controls.{reset_name}
+use Rattle.lisa_machine.specs.stage_checks.Resets.{means_scalar, may_use, goes_beyond, refused, bad_reset}
 use Rattle.lisa_machine.specs.Freedom.{IsFree, Stands}
 use Rattle.lisa_machine.specs.Codings.{IsScalar}
 use Rattle.lisa_machine.proofs.Among.{free_place}

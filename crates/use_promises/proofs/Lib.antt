@@ -7,3 +7,6 @@ pub mod Given
 pub mod Counted
 pub mod Held
 pub mod Shown
+pub mod description_graph_proofs
+pub mod lisa_machine_proofs
+pub mod machine_parts_proofs

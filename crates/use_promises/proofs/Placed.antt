@@ -10,19 +10,19 @@ use Rattle.lisa_tree.specs.declared.declared.What.{What}
 use Rattle.lisa_tree.specs.declared.declared.What.TheVariants as whats
 use Rattle.lisa_tree.specs.Declarations.{Entry, entries, declared_at}
 use Rattle.lisa_tree.specs.Paths.{entry_node}
-use Rattle.description_types.specs.declared.values.Assignable.TheVariants as assigns
-use Rattle.description_types.specs.Facts.{entry_value}
-use Rattle.description_types.specs.Kinds.{assignable_fact}
-use Rattle.description_types.specs.Steady.{assignables_steady}
-use Rattle.description_types.specs.Tables.{unfit, Known, AreKinds}
-use Rattle.name_checks.specs.Doubled.{duplicate}
-use Rattle.name_checks.specs.Unknown.{unknown}
-use Rattle.kind_checks.specs.WrongKinds.{wrong_kind}
+use Rattle.lisa_machine.specs.description_types.declared.values.Assignable.TheVariants as assigns
+use Rattle.lisa_machine.specs.description_types.Facts.{entry_value}
+use Rattle.lisa_machine.specs.description_types.Kinds.{assignable_fact}
+use Rattle.lisa_machine.specs.description_types.Steady.{assignables_steady}
+use Rattle.lisa_machine.specs.description_types.Tables.{unfit, Known, AreKinds}
+use Rattle.lisa_machine.specs.name_checks.Doubled.{duplicate}
+use Rattle.lisa_machine.specs.name_checks.Unknown.{unknown}
+use Rattle.lisa_machine.specs.kind_checks.WrongKinds.{wrong_kind}
 use Rattle.lisa_machine.specs.Freedom.{IsFree, Stands}
 use Rattle.lisa_machine.specs.Ranks.{Ranks}
 use Rattle.lisa_machine.proofs.Settling.{entry_is}
 use Rattle.lisa_machine.proofs.Assigned.{written, reference_yes}
-use Rattle.meant_declarations.specs.Meant.{MayMean, itself, higher}
+use Rattle.lisa_machine.specs.meant_declarations.Meant.{MayMean, itself, higher}
 use Rattle.use_promises.specs.Using.{IsChildEntry}
 use Rattle.use_promises.proofs.References.{definite}
 

@@ -12,15 +12,15 @@ use Rattle.lisa_tree.specs.Same.{same_name}
 use Rattle.lisa_tree.specs.Operations.{name_at}
 use Rattle.lisa_tree.specs.Declarations.{Entry, entries, declared_at, above, is_reference}
 use Rattle.lisa_tree.specs.Paths.{Declaring, refers}
-use Rattle.description_graph.proofs.Hits.{found}
+use Rattle.lisa_machine.proofs.description_graph_proofs.Hits.{found}
 use Rattle.graph_paths.specs.Paths.{is_in}
-use Rattle.description_types.specs.declared.values.Traits.{Traits}
-use Rattle.description_types.specs.declared.values.Trait.TheVariants as which
-use Rattle.description_types.specs.Tables.{Known, AreKinds}
-use Rattle.name_checks.specs.Doubled.{duplicate}
-use Rattle.name_checks.specs.Unknown.{unknown, is_main, lacks, is_loose, what_of}
-use Rattle.kind_checks.specs.Uses.{sorts_differ, what_misdeclared}
-use Rattle.kind_checks.specs.WrongKinds.{wrong_kind}
+use Rattle.lisa_machine.specs.description_types.declared.values.Traits.{Traits}
+use Rattle.lisa_machine.specs.description_types.declared.values.Trait.TheVariants as which
+use Rattle.lisa_machine.specs.description_types.Tables.{Known, AreKinds}
+use Rattle.lisa_machine.specs.name_checks.Doubled.{duplicate}
+use Rattle.lisa_machine.specs.name_checks.Unknown.{unknown, is_main, lacks, is_loose, what_of}
+use Rattle.lisa_machine.specs.kind_checks.Uses.{sorts_differ, what_misdeclared}
+use Rattle.lisa_machine.specs.kind_checks.WrongKinds.{wrong_kind}
 use Rattle.lisa_machine.specs.Freedom.{IsFree}
 use Rattle.lisa_machine.specs.Ranks.{Ranks}
 use Rattle.lisa_machine.proofs.Among.{free_place}
@@ -28,7 +28,7 @@ use Rattle.lisa_machine.proofs.Entries.{entry_stands}
 use Rattle.lisa_machine.proofs.Decoding.{off_left, not_off, some_of, is_found}
 use Rattle.lisa_machine.proofs.Named.{entry_found, what_is}
 use Rattle.lisa_machine.proofs.Choosing.{rightly_declared}
-use Rattle.meant_declarations.specs.Meant.{MayMean, itself, higher}
+use Rattle.lisa_machine.specs.meant_declarations.Meant.{MayMean, itself, higher}
 use Rattle.use_promises.specs.Meant.{ChoosesFrom, FitsReference}
 use Rattle.use_promises.proofs.Traits.{none_in, means, own_child, own_label, shows}
 

@@ -6,12 +6,12 @@ use Rattle.std.proofs.lemmas.List.Elements.{All-append, All-from_recursion}
 use Rattle.std.proofs.lemmas.List.Kept.{AllPairs-cons}
 use Rattle.lisa_tree.specs.Descriptions as trees
 use Rattle.lisa_tree.specs.Descriptions.{ResourceTree, DescriptionTree}
-use Rattle.lisa_engine.specs.declared.parts.Item.{Item}
-use Rattle.lisa_engine.specs.declared.parts.ArrayItem.{ArrayItem}
+use Rattle.lisa_machine.specs.lisa_engine.declared.parts.Item.{Item}
+use Rattle.lisa_machine.specs.lisa_engine.declared.parts.ArrayItem.{ArrayItem}
 use Rattle.lisa_tree.specs.Resources.{resource_at}
-use Rattle.machine_parts.specs.Parts.{array_in, arrays_of, pin_in, pins_of, register_in, registers_of}
-use Rattle.name_checks.specs.Doubled.{duplicate}
-use Rattle.shape_checks.specs.Shapes.{bad_width, bad_depth}
+use Rattle.lisa_machine.specs.machine_parts.Parts.{array_in, arrays_of, pin_in, pins_of, register_in, registers_of}
+use Rattle.lisa_machine.specs.name_checks.Doubled.{duplicate}
+use Rattle.lisa_machine.specs.shape_checks.Shapes.{bad_width, bad_depth}
 use Rattle.lisa_machine.specs.Freedom.{IsFree}
 use Rattle.lisa_machine.specs.Distinctness.{AreDistinct, name_of}
 use Rattle.lisa_machine.specs.Resolving.{IsDepth, FitsResource}

@@ -13,9 +13,9 @@ use Rattle.description_places.specs.Places.{at}
 use Rattle.lisa_tree.specs.Same.{same_name}
 use Rattle.lisa_tree.specs.Resources.{resource_at, stage_at, stages, is_pipeline}
 use Rattle.lisa_tree.specs.Operations.{operation_at, own_stage}
-use Rattle.description_types.specs.Tables.{Known}
-use Rattle.name_checks.specs.Unknown.{unknown, unknown_fault, is_stage, head_unknown}
-use Rattle.kind_checks.specs.WrongKinds.{wrong_kind}
+use Rattle.lisa_machine.specs.description_types.Tables.{Known}
+use Rattle.lisa_machine.specs.name_checks.Unknown.{unknown, unknown_fault, is_stage, head_unknown}
+use Rattle.lisa_machine.specs.kind_checks.WrongKinds.{wrong_kind}
 use Rattle.lisa_machine.specs.Freedom.{IsFree}
 use Rattle.lisa_machine.proofs.Among.{free_place}
 use Rattle.lisa_machine.proofs.Standing.{resource_stands, operation_stands}

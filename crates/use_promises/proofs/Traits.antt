@@ -9,16 +9,16 @@ use Rattle.lisa_tree.specs.declared.declared.What.TheVariants as whats
 use Rattle.lisa_tree.specs.Operations.{sections_at}
 use Rattle.lisa_tree.specs.Declarations.{Entry, entry, entries, declared_at, owner_at, entry_name_at, above}
 use Rattle.lisa_tree.specs.Paths.{Declaring, leads, refers}
-use Rattle.description_graph.specs.Graph.{is_at}
-use Rattle.description_graph.proofs.Hits.{any_at, is_at-Some}
-use Rattle.description_graph.proofs.Meant.{next_of}
+use Rattle.lisa_machine.specs.description_graph.Graph.{is_at}
+use Rattle.lisa_machine.proofs.description_graph_proofs.Hits.{any_at, is_at-Some}
+use Rattle.lisa_machine.proofs.description_graph_proofs.Meant.{next_of}
 use Rattle.graph_paths.specs.Paths.{is_in}
-use Rattle.meant_declarations.specs.Meant.{MayMean, itself}
-use Rattle.description_types.specs.declared.values.Trait.{Trait}
-use Rattle.description_types.specs.declared.values.Traits.{Traits}
-use Rattle.description_types.specs.Codings.{coding_at, name_coding}
-use Rattle.description_types.specs.Uses.{holds, label_traits, choice_traits, child_traits, what_traits, own_traits}
-use Rattle.description_types.specs.Tables.{AreTraits}
+use Rattle.lisa_machine.specs.meant_declarations.Meant.{MayMean, itself}
+use Rattle.lisa_machine.specs.description_types.declared.values.Trait.{Trait}
+use Rattle.lisa_machine.specs.description_types.declared.values.Traits.{Traits}
+use Rattle.lisa_machine.specs.description_types.Codings.{coding_at, name_coding}
+use Rattle.lisa_machine.specs.description_types.Uses.{holds, label_traits, choice_traits, child_traits, what_traits, own_traits}
+use Rattle.lisa_machine.specs.description_types.Tables.{AreTraits}
 use Rattle.lisa_machine.proofs.Decoding.{off_left, off_right}
 use Rattle.lisa_machine.proofs.Named.{what_is}
 use Rattle.use_promises.specs.Meant.{ChoosesFrom}

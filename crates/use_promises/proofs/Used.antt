@@ -22,21 +22,21 @@ use Rattle.lisa_tree.specs.Resources.{resource_at}
 use Rattle.lisa_tree.specs.Operations.{name_at, sections_at, coding_in, own_stage, is_root}
 use Rattle.lisa_tree.specs.Declarations.{Entry, entries, declared_at, what_at, plain_at, alternatives_at}
 use Rattle.lisa_tree.specs.Meanings.{meaning, meaning_of}
-use Rattle.description_graph.proofs.Hits.{found}
+use Rattle.lisa_machine.proofs.description_graph_proofs.Hits.{found}
 use Rattle.graph_paths.specs.Paths.{is_in}
-use Rattle.coded_names.specs.Codings.{is_coding}
-use Rattle.description_types.specs.declared.values.Trait.{Trait}
-use Rattle.description_types.specs.declared.values.Trait.TheVariants as traits
-use Rattle.description_types.specs.declared.values.Traits.{Traits}
-use Rattle.description_types.specs.declared.values.CodedName.{CodedName}
-use Rattle.description_types.specs.Codings.{coding_at}
-use Rattle.description_types.specs.Refused.{is_apart}
-use Rattle.description_types.specs.Uses.{holds, choice_traits, child_traits, own_traits}
-use Rattle.description_types.specs.Tables.{Known, AreKinds}
-use Rattle.name_checks.specs.Doubled.{duplicate}
-use Rattle.name_checks.specs.Unknown.{unknown, is_something, stands, is_known, register_unknown, part_unknown}
-use Rattle.kind_checks.specs.Uses.{by_sort, is_no_operand, is_empty, meant_misread, is_misread, meant_miswritten, is_miswritten, meant_miscalled, is_miscalled, is_misstarted, is_wrong_operand, is_wrong_root_group, is_wrong_shown, what_misdeclared}
-use Rattle.kind_checks.specs.WrongKinds.{wrong_kind, owner_name, faulty, register_name, root_name}
+use Rattle.lisa_machine.specs.coded_names.Codings.{is_coding}
+use Rattle.lisa_machine.specs.description_types.declared.values.Trait.{Trait}
+use Rattle.lisa_machine.specs.description_types.declared.values.Trait.TheVariants as traits
+use Rattle.lisa_machine.specs.description_types.declared.values.Traits.{Traits}
+use Rattle.lisa_machine.specs.description_types.declared.values.CodedName.{CodedName}
+use Rattle.lisa_machine.specs.description_types.Codings.{coding_at}
+use Rattle.lisa_machine.specs.description_types.Refused.{is_apart}
+use Rattle.lisa_machine.specs.description_types.Uses.{holds, choice_traits, child_traits, own_traits}
+use Rattle.lisa_machine.specs.description_types.Tables.{Known, AreKinds}
+use Rattle.lisa_machine.specs.name_checks.Doubled.{duplicate}
+use Rattle.lisa_machine.specs.name_checks.Unknown.{unknown, is_something, stands, is_known, register_unknown, part_unknown}
+use Rattle.lisa_machine.specs.kind_checks.Uses.{by_sort, is_no_operand, is_empty, meant_misread, is_misread, meant_miswritten, is_miswritten, meant_miscalled, is_miscalled, is_misstarted, is_wrong_operand, is_wrong_root_group, is_wrong_shown, what_misdeclared}
+use Rattle.lisa_machine.specs.kind_checks.WrongKinds.{wrong_kind, owner_name, faulty, register_name, root_name}
 use Rattle.lisa_machine.specs.Freedom.{IsFree, Stands}
 use Rattle.lisa_machine.proofs.Among.{free_place}
 use Rattle.lisa_machine.proofs.Chosen.{plain_listed}

@@ -3,8 +3,8 @@ use Rattle.std.specs.Prelude.{◌≡◌, ◌<◌, ◌≤◌, ◌↔◌, ◌+◌,
 use Rattle.lisa_tree.specs.declared.tokens.Shape.{Shape}
 use Rattle.lisa_tree.specs.Statements.{HeadTree}
 use Rattle.description_places.specs.Literals.{literal}
-use Rattle.shape_checks.specs.declared.bounds.Bounds.{Bounds}
-use Rattle.shape_checks.specs.Bounds.{bounds_of, limit_of, step_of, turns, number_bits}
+use Rattle.lisa_machine.specs.shape_checks.declared.bounds.Bounds.{Bounds}
+use Rattle.lisa_machine.specs.shape_checks.Bounds.{bounds_of, limit_of, step_of, turns, number_bits}
 
 -- `for (type i = first; i < limit; i = i + step)`: the three are literals, the step is at least 1, the step's variable is the loop's own,
 -- and the type has each value that the loop gives it

@@ -5,3 +5,10 @@ pub mod Valued
 pub mod Counting
 pub mod Resetting
 pub mod Showing
+pub mod coded_names
+pub mod description_places
+pub mod kind_checks
+pub mod lisa_machine
+pub mod machine_parts
+pub mod meant_declarations
+pub mod shape_checks

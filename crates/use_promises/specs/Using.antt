@@ -5,8 +5,8 @@ use Rattle.description_places.specs.Scopes.{Scope, local_named}
 use Rattle.lisa_tree.specs.Operations.{sections_at, coding_in, own_stage, is_root}
 use Rattle.lisa_tree.specs.Declarations.{Entry, entries, declared_at, plain_at}
 use Rattle.graph_paths.specs.Paths.{is_in}
-use Rattle.coded_names.specs.Codings.{in_coding, names_instructions}
-use Rattle.meant_declarations.specs.Meant.{MayMean}
+use Rattle.lisa_machine.specs.coded_names.Codings.{in_coding, names_instructions}
+use Rattle.lisa_machine.specs.meant_declarations.Meant.{MayMean}
 use Rattle.use_promises.specs.Meant.{ChoosesFrom}
 
 -- an operation that has neither a stage of its own nor the root

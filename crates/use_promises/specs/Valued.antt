@@ -7,10 +7,10 @@ use Rattle.lisa_tree.specs.declared.declared.What.TheVariants as whats
 use Rattle.lisa_tree.specs.Operations.{sections_at, coding_in, syntax_in, expression_in}
 use Rattle.lisa_tree.specs.Declarations.{Entry, entries, plain_at}
 use Rattle.graph_paths.specs.Paths.{is_in}
-use Rattle.coded_names.specs.Codings.{field_width, number_kind}
-use Rattle.description_types.specs.Shapes.{shape_of}
-use Rattle.description_types.specs.Codings.{kind_or_unsigned}
-use Rattle.meant_declarations.specs.Meant.{MayMean}
+use Rattle.lisa_machine.specs.coded_names.Codings.{field_width, number_kind}
+use Rattle.lisa_machine.specs.description_types.Shapes.{shape_of}
+use Rattle.lisa_machine.specs.description_types.Codings.{kind_or_unsigned}
+use Rattle.lisa_machine.specs.meant_declarations.Meant.{MayMean}
 use Rattle.use_promises.specs.Meant.{ChoosesFrom}
 
 -- an operation has an EXPRESSION

@@ -9,6 +9,10 @@ mod stages;
 mod using;
 mod valued;
 
+pub use lisa_machine::{
+    Machine, first_values, first_values_fit, is_root, names_instructions, operation_count,
+    resource, sections,
+};
 pub use meant::references_resolve;
 pub use resetting::{counters_hold, resets_hold};
 pub use showing::machines_show;

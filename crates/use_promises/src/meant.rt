@@ -5,7 +5,7 @@ ghost use Rattle.lisa_tree.specs.Descriptions.{DescriptionTree};
 ghost use Rattle.lisa_tree.specs.declared.declared.What.TheVariants as whats;
 ghost use Rattle.lisa_tree.specs.Declarations.{Entry, entries};
 ghost use Rattle.lisa_machine.specs.Verdicts.{IsAccepted};
-ghost use Rattle.meant_declarations.specs.Meant.{MayMean};
+ghost use Rattle.lisa_machine.specs.meant_declarations.Meant.{MayMean};
 ghost use Rattle.use_promises.specs.Meant.{FitsReference};
 
 /// In an accepted description some operation stands above that of a reference, each that does declares or references its name, and it isn't

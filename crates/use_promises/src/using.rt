@@ -13,7 +13,7 @@ ghost use Rattle.lisa_tree.specs.Declarations.{Entry, entries, declared_at, alte
 ghost use Rattle.graph_paths.specs.Paths.{is_in};
 ghost use Rattle.lisa_machine.specs.Verdicts.{IsAccepted};
 ghost use Rattle.lisa_machine.specs.Freedom.{Stands};
-ghost use Rattle.meant_declarations.specs.Meant.{MayMean};
+ghost use Rattle.lisa_machine.specs.meant_declarations.Meant.{MayMean};
 ghost use Rattle.use_promises.specs.Meant.{ChoosesFrom};
 ghost use Rattle.use_promises.specs.Using.{IsCoded, IsCallable, ChildrenMayRun, IsChildEntry, IsStartable, IsOperand, IsRootGroup, IsShowable};
 

@@ -3,7 +3,7 @@
 ghost use Rattle.std.specs.Prelude.{ℕ};
 ghost use Rattle.lisa_tree.specs.declared.tokens.Shape.{Shape};
 ghost use Rattle.lisa_tree.specs.Descriptions.{DescriptionTree};
-ghost use Rattle.description_types.specs.Tables.{Known, AreKinds};
+ghost use Rattle.lisa_machine.specs.description_types.Tables.{Known, AreKinds};
 ghost use Rattle.lisa_machine.specs.Verdicts.{IsAccepted};
 ghost use Rattle.lisa_machine.specs.Values.{IsOfType};
 ghost use Rattle.use_promises.specs.Valued.{HasValues};

@@ -9,12 +9,9 @@ use Rattle.std.proofs.lemmas.List.Sums.{fold-append}
 use Rattle.lisa_engine.specs.State.{State}
 use Rattle.lisa_engine.specs.Memory.{Memory}
 use Rattle.lisa_engine.specs.Shape.{IsShaped, IsFitting, AreCells, IsWidth, HaveWidths, HaveDistinctNames}
-use Rattle.lisa_engine.specs.Machines.{Machine}
-use Rattle.lisa_engine.specs.Touches.{TakesBack, put_back}
 use Rattle.lisa_engine.specs.declared.parts.Item.{Item}
 use Rattle.lisa_engine.specs.declared.parts.ArrayItem.{ArrayItem}
 use Rattle.lisa_engine.specs.declared.parts.Touch.{Touch}
-use Rattle.lisa_engine.proofs.Journal.{taken_back}
 use Rattle.verilog_text.specs.Trees.{ModuleTree}
 use Rattle.verilog_text.specs.Clocked.{regs, arrays, nets, scalars, v_edge, v_first, v_state, first_items}
 use Rattle.verilog_text.specs.Clocked as modules
@@ -109,17 +106,6 @@ edge_kept m values cells new_values new_cells pins shape step =
     let is_cells = written new_cells cells
     (sym (length-map new_cells (λ (c : Vec ℕ). c.items)) ∙ new.cells.count ∙ sym shape.cells.count ∙ length-map cells.items (λ (c : Vec ℕ). c.items)) in
     (λ i. state_of (is_values i) (rows (is_cells i))) ∙ step
-
--- an edge taken back
-module _ {machine : Machine} {values given : List ℕ} {cells : List (List ℕ)} {touches : List Touch} {l : List (List ℕ)} {entry : List ℕ} where
-  pub back_to : TakesBack machine (state_of values cells) given touches l entry → (new_values : List ℕ) (new_cells : List (List ℕ)) → new_values ≡ given → new_cells ≡ put_back touches cells
-      → state_of new_values new_cells ≡ machine.defined l
-  back_to t new_values new_cells is_values is_cells = (λ i. state_of (is_values i) (is_cells i)) ∙ sym (taken_back t)
-
-  pub back_shaped : TakesBack machine (state_of values cells) given touches l entry → (new_values : List ℕ) (new_cells : List (List ℕ)) → new_values ≡ given → new_cells ≡ put_back touches cells
-      → {items : List Item} → ((entries : List (List ℕ)) → IsShaped items machine.arrays (machine.defined entries)) → IsShaped items machine.arrays (state_of new_values new_cells)
-  back_shaped t new_values new_cells is_values is_cells {items = items} shapes =
-      subst (IsShaped items machine.arrays) (sym (back_to t new_values new_cells is_values is_cells)) (shapes l)
 
 -- an edge, through what is borrowed
 module _ (m : ModuleTree) (w w' : List Net) (a a' : List Act) (all' : List ArrayItem) (v v' : List ℕ) (c c' : List (Vec ℕ)) (pins : List ℕ) (runs : Runs m w a)

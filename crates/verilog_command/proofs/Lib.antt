@@ -1,2 +1,3 @@
 pub mod Replying
 pub mod Texts
+pub mod checked_descriptions_proofs

@@ -6,7 +6,7 @@ use Rattle.lisa_tree.specs.Descriptions.{DescriptionTree}
 use Rattle.step_program.specs.declared.faults.LowerFault.{LowerFault}
 use Rattle.step_program.specs.declared.faults.LowerFault.TheVariants as faults
 use Rattle.lisa_lower.specs.Heavy.{weight_limit, IsTooHeavy}
-use Rattle.description_weight.specs.Weights.{weight}
+use Rattle.lisa_lower.specs.description_weight.Weights.{weight}
 use Rattle.lisa_outcomes.specs.declared.status.End.{End}
 use Rattle.lisa_outcomes.specs.declared.status.End.TheVariants as ends
 use Rattle.lisa_outcomes.specs.declared.status.Refusal.{Refusal}

@@ -3,4 +3,5 @@
 
 mod writing;
 
+pub use checked_descriptions::checks_are_unique;
 pub use writing::write_verilog;

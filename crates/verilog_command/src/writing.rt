@@ -1,7 +1,7 @@
 //! The command that writes the module of a description.
 ghost use Rattle.std.specs.Prelude.{◌<◌, ◌^◌, length, IfOk, IfErr};
 ghost use Rattle.lisa_tree.specs.Descriptions.{description_tree};
-ghost use Rattle.lisa_machine.specs.Machines.{IsSpelled};
+ghost use Rattle.lisa_lower.specs.lisa_machine.Machines.{IsSpelled};
 ghost use Rattle.lisa_outcomes.specs.Replies.{Replies};
 ghost use Rattle.lisa_outcomes.specs.Writes.{Writes};
 ghost use Rattle.checked_descriptions.specs.Descriptions.{AfterSpelling};

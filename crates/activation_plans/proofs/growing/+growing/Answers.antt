@@ -2,7 +2,7 @@ use Rattle.std.proofs.Common.{◌≡◌, ◌+◌, ◌-◌, ℕ, suc, ap, ap₂, 
 use Rattle.lisa_tree.specs.Activations.{ActTrees, act_tree, act_trees}
 use Rattle.lisa_tree.specs.Operations.{sections_at, activation_in}
 use Rattle.stage_checks.proofs.Rows.{one_act}
-use Rattle.activation_trees.specs.Starting.{Activated, activation}
+use Rattle.lisa_meaning.specs.activation_trees.Starting.{Activated, activation}
 use Rattle.pipeline_time.specs.Acts.{Acts, size}
 use Rattle.pipeline_runs.specs.Runs.{acts_of}
 use Rattle.lisa_meaning.specs.Trees.{followed, row, items_acts, items_tests}

@@ -1,6 +1,6 @@
 use Rattle.std.proofs.Common.{◌≡◌, ◌+◌, ◌*◌, drop, map}
 use Rattle.lisa_tree.specs.Activations.{act_tree, act_trees}
-use Rattle.activation_trees.specs.Starting.{activation}
+use Rattle.lisa_meaning.specs.activation_trees.Starting.{activation}
 use Rattle.pipeline_time.specs.Acts.{size}
 use Rattle.pipeline_runs.specs.Runs.{acts_of}
 use Rattle.lisa_meaning.specs.Trees.{followed, items_acts, items_tests, row}

@@ -1,6 +1,6 @@
 use Rattle.std.specs.Prelude.{All}
-use Rattle.lisa_assembler.specs.Memories.{memory_items}
-use Rattle.lisa_assembler.specs.Places.{HasWords}
+use Rattle.source_promises.specs.lisa_assembler.Memories.{memory_items}
+use Rattle.source_promises.specs.lisa_assembler.Places.{HasWords}
 use Rattle.assembler_commands.proofs.MemoryRules.{memories_are}
 use Rattle.assembler_commands.proofs.SourceImages.{linked_text}
 use Rattle.assembler_commands.proofs.laws.linked_sources_are_their_image.Goals as goal

@@ -1,7 +1,7 @@
 use Rattle.std.proofs.Common.{◌≡◌, take}
 use Rattle.lisa_tree.specs.Descriptions.{description_tree}
-use Rattle.machine_parts.specs.Parts.{arrays_of, memories_of}
-use Rattle.lisa_assembler.specs.Memories.{marked}
+use Rattle.item_promises.specs.machine_parts.Parts.{arrays_of, memories_of}
+use Rattle.source_promises.specs.lisa_assembler.Memories.{marked}
 use Rattle.assembler_commands.proofs.memories.memories_of.Given as goal
 
 abbrev pub invariant-loop-place : goal.invariant-loop-place

@@ -3,7 +3,7 @@ use Rattle.lisa_tree.specs.Expressions.{expr_tree}
 use Rattle.lisa_tree.specs.Descriptions.{DescriptionTree}
 use Rattle.lisa_tree.specs.Operations.{expression_in, sections_at}
 use Rattle.typed_values.specs.Words.{typed_word}
-use Rattle.lisa_meaning.specs.Scenes.{child_at_home}
+use Rattle.scene_paths.specs.lisa_meaning.Scenes.{child_at_home}
 use Rattle.scene_paths.specs.Paths.{links_of}
 use Rattle.scene_paths.specs.Sights.{sight_tree, form_of, scene_at}
 use Rattle.behavior_runs.specs.Views.{view_tree, moment_seen, below_within}

@@ -1,8 +1,8 @@
 use Rattle.std.proofs.Common.{◌∙◌, ap}
 use Rattle.lisa_tree.specs.Expressions.{expr_tree}
 use Rattle.typed_values.specs.Words.{typed_word}
-use Rattle.description_sizes.specs.Texts.{levels}
-use Rattle.lisa_meaning.specs.Moments.{bare}
+use Rattle.moment_stores.specs.description_sizes.Texts.{levels}
+use Rattle.scene_paths.specs.lisa_meaning.Moments.{bare}
 use Rattle.moment_stores.specs.Stores.{moment_of}
 use Rattle.behavior_runs.specs.Views.{moment_seen}
 use Rattle.behavior_runs.proofs.Scenes.{value_whole}

@@ -4,7 +4,7 @@ use Rattle.lisa_tree.specs.declared.expressions.Expr.{Expr}
 use Rattle.lisa_tree.specs.Expressions.{expr_tree}
 use Rattle.typed_values.specs.Words.{TypedWord, as_shape}
 use Rattle.typed_values.specs.Effects.{first_of}
-use Rattle.lisa_meaning.specs.Values.{reader_of}
+use Rattle.scene_paths.specs.lisa_meaning.Values.{reader_of}
 use Rattle.moment_stores.specs.Stores.{moment_of}
 use Rattle.scene_paths.specs.Sights.{sight_tree, scene_at}
 use Rattle.behavior_runs.proofs.statements.first_of.Goals as goal

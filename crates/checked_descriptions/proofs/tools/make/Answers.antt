@@ -1,7 +1,7 @@
 use Rattle.std.proofs.Common.{ap, sym, subst}
 use Rattle.lisa_tree.specs.declared.descriptions.Description.{Description}
 use Rattle.lisa_tree.specs.Descriptions.{description_tree}
-use Rattle.lisa_machine.specs.Verdicts.{IsAccepted}
+use Rattle.lisa_syntax.specs.lisa_machine.Verdicts.{IsAccepted}
 use Rattle.checked_descriptions.proofs.InstructionVerdicts.{forms_refused, words_refused, texts_refused, aliases_refused, all_kept}
 use Rattle.checked_descriptions.proofs.Tooled.{told, checks_refused, instructions_refused}
 use Rattle.checked_descriptions.proofs.tools.make.Goals as goal

@@ -1,6 +1,6 @@
 use Rattle.std.proofs.Common.{◌+◌, ◌∙◌, drop, ap, sym, arith}
 use Rattle.instruction_forms.specs.Trees.{form_tree}
-use Rattle.form_patterns.proofs.Views.{trees}
+use Rattle.lisa_forms.proofs.form_patterns_proofs.Views.{trees}
 use Rattle.access_counts.specs.Ledgers.{capped}
 use Rattle.description_weight.specs.Weights.{tree_nodes, trees_nodes}
 use Rattle.description_weight.proofs.Counting.{summed, told}

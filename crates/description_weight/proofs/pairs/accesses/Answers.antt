@@ -1,6 +1,6 @@
 use Rattle.std.proofs.Common.{◌≡◌, ◌<◌, ◌+◌, ℕ, List, suc, length, sym, subst, arith}
 use Rattle.std.specs.List.{AllByRecursion}
-use Rattle.activation_trees.specs.declared.parts.Occurrence.{Occurrence}
+use Rattle.description_sizes.specs.activation_trees.declared.parts.Occurrence.{Occurrence}
 use Rattle.graph_paths.specs.Paths.{targets}
 use Rattle.description_sizes.specs.Texts.{levels}
 use Rattle.description_sizes.proofs.Within.{all_there}

@@ -2,10 +2,10 @@
 use Rattle.std.proofs.Common.{◌≡◌, ℕ, Option, None, Some, refl}
 use Rattle.lisa_tree.specs.Descriptions.{DescriptionTree}
 use Rattle.lisa_tree.specs.Paths.{choice_node}
-use Rattle.coding_checks.specs.Uneven.{IsFirstGroupWidth, group_width}
-use Rattle.coding_tables.specs.Instructions.{instruction_choice}
-use Rattle.instruction_forms.specs.Widths.{HasInstructionWidth, HasWidth}
-use Rattle.instruction_forms.proofs.Wide.{small_width}
+use Rattle.form_texts.specs.coding_checks.Uneven.{IsFirstGroupWidth, group_width}
+use Rattle.form_texts.specs.coding_tables.Instructions.{instruction_choice}
+use Rattle.form_texts.specs.instruction_forms.Widths.{HasInstructionWidth, HasWidth}
+use Rattle.form_texts.proofs.instruction_forms_proofs.Wide.{small_width}
 use Rattle.lisa_machine.specs.Soundness.{IsSound}
 use Rattle.lisa_machine.specs.Freedom.{IsFree}
 use Rattle.lisa_machine.proofs.Sound.{sound}

@@ -1,6 +1,6 @@
 use Rattle.std.proofs.Common.{None}
 use Rattle.lisa_tree.specs.Descriptions.{DescriptionTree}
-use Rattle.coding_checks.specs.Uneven.{IsFirstGroupWidth, group_width}
+use Rattle.form_texts.specs.coding_checks.Uneven.{IsFirstGroupWidth, group_width}
 use Rattle.lisa_machine.specs.Freedom.{IsFree}
 use Rattle.lisa_machine.proofs.Sound.{sound}
 use Rattle.form_promises.proofs.Readable.{form_readable}

@@ -3,11 +3,11 @@ use Rattle.std.specs.Prelude.{slice_index_or}
 use Rattle.lisa_tree.specs.Descriptions as trees
 use Rattle.lisa_tree.specs.Descriptions.{CodingTree, DescriptionTree}
 use Rattle.lisa_tree.specs.Operations.{coding_in, sections_at}
-use Rattle.coded_names.specs.Codings.{is_coding}
-use Rattle.coding_checks.specs.Written.{not_written}
+use Rattle.lisa_machine.specs.coded_names.Codings.{is_coding}
+use Rattle.form_texts.specs.coding_checks.Written.{not_written}
 use Rattle.instruction_trees.specs.Trees.{coding}
-use Rattle.coding_tables.specs.Codings.{coding_table}
-use Rattle.instruction_texts.specs.Once.{IsWrittenOnce}
+use Rattle.form_texts.specs.coding_tables.Codings.{coding_table}
+use Rattle.form_texts.specs.instruction_texts.Once.{IsWrittenOnce}
 use Rattle.form_texts.specs.Syntaxes.{syntax_table}
 use Rattle.lisa_machine.specs.Freedom.{IsFree}
 use Rattle.lisa_machine.specs.Soundness.{IsSound}

@@ -1,4 +1,4 @@
-use Rattle.checked_descriptions.specs.ToolViews.{checked_of}
+use Rattle.assembler_commands.specs.checked_descriptions.ToolViews.{checked_of}
 use Rattle.generator_commands.proofs.Drawn.{all_covered, drawn_finds, undrawn_finds}
 use Rattle.generator_commands.proofs.generating.program_of.Goals as goal
 

@@ -1,5 +1,5 @@
 use Rattle.lisa_outcomes.proofs.Stages.{passed_replies, stopped_replies}
-use Rattle.checked_descriptions.specs.ToolViews.{checked_of}
+use Rattle.assembler_commands.specs.checked_descriptions.ToolViews.{checked_of}
 use Rattle.generator_commands.specs.Generates.{GeneratesChecked}
 use Rattle.generator_commands.proofs.generating.write_tree.Goals as goal
 

@@ -2,7 +2,7 @@ use Rattle.std.proofs.Common.{◌∙◌, refl, sym}
 use Rattle.lisa_engine.specs.Machines.{machine_of}
 use Rattle.lisa_outcomes.proofs.Told.{none_is_no_some}
 use Rattle.engine_commands.proofs.Made.{made_first}
-use Rattle.checked_descriptions.specs.ToolViews.{checked_of}
+use Rattle.assembler_commands.specs.checked_descriptions.ToolViews.{checked_of}
 use Rattle.description_commands.specs.Runs.{described_machine}
 use Rattle.description_commands.proofs.Wanted.{made_wanted}
 use Rattle.generator_commands.proofs.soaking.described_digest.Goals as goal

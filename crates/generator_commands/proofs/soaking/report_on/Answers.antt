@@ -3,7 +3,7 @@ use Rattle.sha2.specs.Sha256.{sha256}
 use Rattle.lisa_object.specs.Texts.{image_text}
 use Rattle.lisa_object.specs.declared.parts.Stamped.{Stamped}
 use Rattle.assembler_commands.specs.Links.{stamped}
-use Rattle.checked_descriptions.specs.ToolViews.{checked_of}
+use Rattle.assembler_commands.specs.checked_descriptions.ToolViews.{checked_of}
 use Rattle.generator_commands.proofs.Kept.{report_is}
 use Rattle.generator_commands.proofs.soaking.report_on.Goals as goal
 

@@ -1,6 +1,6 @@
 use Rattle.lisa_tree.specs.Descriptions.{description_tree}
 use Rattle.lisa_outcomes.proofs.Stages.{passed_replies, stopped_replies}
-use Rattle.checked_descriptions.specs.Checked.{AfterChecks}
+use Rattle.assembler_commands.specs.checked_descriptions.Checked.{AfterChecks}
 use Rattle.generator_commands.specs.Soaks.{SoaksChecked}
 use Rattle.generator_commands.proofs.soaking.soak.Goals as goal
 

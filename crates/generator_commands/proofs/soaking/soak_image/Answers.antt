@@ -5,7 +5,7 @@ use Rattle.verilog_text.specs.Trees.{module_tree}
 use Rattle.lisa_engine.specs.Machines.{Machine}
 use Rattle.engine_commands.proofs.Made.{is_made, made_finds, unmade_finds}
 use Rattle.assembler_commands.specs.Links.{stamped}
-use Rattle.checked_descriptions.specs.ToolViews.{checked_of}
+use Rattle.assembler_commands.specs.checked_descriptions.ToolViews.{checked_of}
 use Rattle.description_commands.specs.Runs.{described_machine}
 use Rattle.module_commands.specs.Designs.{clock_machine}
 use Rattle.generator_commands.specs.Reports.{report_text, report_of}

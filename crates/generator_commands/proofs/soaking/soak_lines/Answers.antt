@@ -4,7 +4,7 @@ use Rattle.lisa_object.specs.Objects.{PlainObject, object_tree}
 use Rattle.lisa_object.specs.declared.parts.Object.{Object}
 use Rattle.verilog_text.specs.Trees.{module_tree}
 use Rattle.lisa_outcomes.proofs.Stages.{passed_replies, stopped_replies, memory_replies}
-use Rattle.checked_descriptions.specs.ToolViews.{checked_of}
+use Rattle.assembler_commands.specs.checked_descriptions.ToolViews.{checked_of}
 use Rattle.assembler_commands.proofs.MemoryRules.{memories_are}
 use Rattle.generator_commands.specs.Soaks.{SoaksImage, AfterLink, AfterObject}
 use Rattle.generator_commands.proofs.DigestRules.{digest_rules}

@@ -2,7 +2,7 @@ use Rattle.std.proofs.Common.{List, ℕ}
 use Rattle.std.specs.Global.{Vec}
 use Rattle.verilog_text.specs.Trees.{module_tree}
 use Rattle.lisa_outcomes.proofs.Stages.{passed_replies, stopped_replies}
-use Rattle.checked_descriptions.specs.ToolViews.{checked_of}
+use Rattle.assembler_commands.specs.checked_descriptions.ToolViews.{checked_of}
 use Rattle.generator_commands.specs.Soaks.{SoaksImage, AfterImage}
 use Rattle.generator_commands.proofs.soaking.soak_module.Goals as goal
 

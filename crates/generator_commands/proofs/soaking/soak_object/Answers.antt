@@ -6,7 +6,7 @@ use Rattle.lisa_object.specs.ObjectRules.{IsObject}
 use Rattle.lisa_object.specs.declared.parts.Object.{Object}
 use Rattle.verilog_text.specs.Trees.{module_tree}
 use Rattle.lisa_outcomes.proofs.Stages.{passed_replies, stopped_replies}
-use Rattle.checked_descriptions.specs.ToolViews.{checked_of}
+use Rattle.assembler_commands.specs.checked_descriptions.ToolViews.{checked_of}
 use Rattle.generator_commands.specs.Soaks.{SoaksImage}
 use Rattle.generator_commands.proofs.Placing.{linked_there}
 use Rattle.generator_commands.proofs.soaking.soak_object.Goals as goal

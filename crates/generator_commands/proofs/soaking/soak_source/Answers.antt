@@ -4,7 +4,7 @@ use Rattle.asm_source.specs.Plain.{PlainLine, line_tree}
 use Rattle.asm_source.specs.declared.parts.SourceLine.{SourceLine}
 use Rattle.verilog_text.specs.Trees.{module_tree}
 use Rattle.lisa_outcomes.proofs.Stages.{passed_replies, stopped_replies, memory_replies}
-use Rattle.checked_descriptions.specs.ToolViews.{checked_of}
+use Rattle.assembler_commands.specs.checked_descriptions.ToolViews.{checked_of}
 use Rattle.generator_commands.specs.Soaks.{SoaksImage, AfterObject, AfterImage}
 use Rattle.generator_commands.proofs.soaking.soak_source.Goals as goal
 

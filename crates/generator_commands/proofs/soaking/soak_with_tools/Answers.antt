@@ -1,6 +1,6 @@
 use Rattle.verilog_text.specs.Trees.{module_tree}
 use Rattle.lisa_outcomes.proofs.Stages.{passed_replies, stopped_replies}
-use Rattle.checked_descriptions.specs.ToolViews.{checked_of}
+use Rattle.assembler_commands.specs.checked_descriptions.ToolViews.{checked_of}
 use Rattle.generator_commands.specs.Soaks.{SoaksModule}
 use Rattle.generator_commands.proofs.soaking.soak_with_tools.Goals as goal
 

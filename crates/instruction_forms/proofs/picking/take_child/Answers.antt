@@ -1,6 +1,6 @@
 use Rattle.std.proofs.Common.{◌≡◌, ◌/◌, ◌∙◌, ℕ, List, Some, sym, ap}
 use Rattle.least_fixed_points.specs.Settles.{entry}
-use Rattle.coding_checks.specs.Widths.{choice_named}
+use Rattle.coding_tables.specs.coding_checks.Widths.{choice_named}
 use Rattle.instruction_forms.specs.Picks.{pick, told}
 use Rattle.instruction_forms.proofs.Walking.{taken}
 use Rattle.instruction_forms.proofs.picking.take_child.Goals as goal

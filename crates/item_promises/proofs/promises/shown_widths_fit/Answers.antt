@@ -1,4 +1,4 @@
-use Rattle.lisa_machine.proofs.Sound.{sound}
+use Rattle.use_promises.proofs.lisa_machine_proofs.Sound.{sound}
 use Rattle.use_promises.proofs.Shown.{shown_fits}
 use Rattle.item_promises.proofs.Wide.{widths_fit}
 use Rattle.item_promises.proofs.promises.shown_widths_fit.Goals as goal

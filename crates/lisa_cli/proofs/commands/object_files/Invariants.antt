@@ -2,8 +2,8 @@ use Rattle.std.proofs.Common.{◌≡◌, ◌∷◌, map, take}
 use Rattle.std.specs.Prelude.{string_bytes}
 use Rattle.lisa_outcomes.specs.NamedFiles.{named}
 use Rattle.lisa_outcomes.specs.FileViews.{named_of}
-use Rattle.checked_descriptions.specs.Descriptions.{description_limit}
-use Rattle.assembler_commands.specs.Links.{object_limit}
+use Rattle.verilog_command.specs.checked_descriptions.Descriptions.{description_limit}
+use Rattle.generator_commands.specs.assembler_commands.Links.{object_limit}
 use Rattle.lisa_cli.proofs.commands.object_files.Given as goal
 
 abbrev pub invariant-loop-object : goal.invariant-loop-object

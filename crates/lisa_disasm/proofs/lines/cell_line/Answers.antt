@@ -1,7 +1,7 @@
 use Rattle.std.proofs.Common.{◌≡◌, ◌++◌, ◌∷◌, [], ℕ, Bool, List, refl, sym, subst}
 use Rattle.std.specs.Global.{Vec}
 use Rattle.lisa_tree.specs.Descriptions.{DescriptionTree}
-use Rattle.lisa_forms.specs.Codings.{IsCodingOf}
+use Rattle.lisa_syntax.specs.lisa_forms.Codings.{IsCodingOf}
 use Rattle.lisa_syntax.specs.Parts.{IsSyntaxOf}
 use Rattle.lisa_disasm.specs.Listings.{value_line, IsInstructionLine, IsCellLine}
 use Rattle.lisa_disasm.proofs.Reading.{if_ok}

@@ -1,7 +1,7 @@
 use Rattle.std.proofs.Common.{◌≡◌, ◌++◌, ◌∷◌, [], ℕ, List, refl}
 use Rattle.std.specs.Global.{Vec}
 use Rattle.lisa_tree.specs.Descriptions.{DescriptionTree}
-use Rattle.lisa_forms.specs.Codings.{IsCodingOf, IsOneTreeOf}
+use Rattle.lisa_syntax.specs.lisa_forms.Codings.{IsCodingOf, IsOneTreeOf}
 use Rattle.lisa_syntax.specs.Parts.{IsSyntaxOf}
 use Rattle.lisa_disasm.specs.Listings.{value_line, IsInstructionLine, unknown}
 use Rattle.lisa_disasm.proofs.Reading.{if_ok}

@@ -2,7 +2,7 @@ use Rattle.std.proofs.Common.{◌++◌, ◌∷◌, [], ℕ, List, Ok, take}
 use Rattle.std.specs.List.{flat_map}
 use Rattle.lisa_tree.specs.Descriptions.{DescriptionTree}
 use Rattle.lisa_engine.specs.Traces.{PutsUnless}
-use Rattle.lisa_forms.specs.Codings.{IsCodingOf}
+use Rattle.lisa_syntax.specs.lisa_forms.Codings.{IsCodingOf}
 use Rattle.lisa_syntax.specs.Parts.{IsSyntaxOf}
 use Rattle.lisa_disasm.specs.Listings.{IsCellLine}
 use Rattle.lisa_disasm.proofs.listing.put_cells.Given as goal

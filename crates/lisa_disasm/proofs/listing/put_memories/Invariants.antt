@@ -3,7 +3,7 @@ use Rattle.std.specs.List.{flat_map}
 use Rattle.lisa_tree.specs.Descriptions.{DescriptionTree}
 use Rattle.lisa_engine.specs.Traces.{PutsUnless}
 use Rattle.lisa_object.specs.Texts.{text_of}
-use Rattle.lisa_forms.specs.Codings.{IsCodingOf}
+use Rattle.lisa_syntax.specs.lisa_forms.Codings.{IsCodingOf}
 use Rattle.lisa_syntax.specs.Parts.{IsSyntaxOf}
 use Rattle.lisa_disasm.specs.Listings.{IsCellLine, holds_instructions, memory_lines}
 use Rattle.lisa_disasm.proofs.listing.put_memories.Given as goal

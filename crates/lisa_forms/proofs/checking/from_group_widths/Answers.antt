@@ -1,6 +1,6 @@
 use Rattle.std.proofs.Common.{subst, None, Option}
 use Rattle.lisa_tree.specs.declared.faults.DescFault.{DescFault}
-use Rattle.coding_checks.specs.Uneven.{IsFirstGroupWidth}
+use Rattle.form_patterns.specs.coding_checks.Uneven.{IsFirstGroupWidth}
 use Rattle.lisa_forms.specs.Verdicts.{from_writings}
 use Rattle.lisa_forms.proofs.Walking.{past, err_past, ok_past}
 use Rattle.lisa_forms.proofs.checking.from_group_widths.Goals as goal

@@ -1,6 +1,6 @@
 use Rattle.std.proofs.Common.{◌≡◌, None, option_map, sym, ap, ◌∙◌}
 use Rattle.lisa_tree.specs.Descriptions.{DescriptionTree}
-use Rattle.activation_trees.specs.Twice.{first_root_twice}
+use Rattle.description_sizes.specs.activation_trees.Twice.{first_root_twice}
 use Rattle.lisa_forms.specs.Verdicts.{root_twice, IsRootVerdict, from_sizes}
 use Rattle.lisa_forms.proofs.Walking.{past, err_past, ok_past}
 use Rattle.lisa_forms.proofs.checking.from_roots.Goals as goal

@@ -1,7 +1,7 @@
 use Rattle.std.proofs.Common.{subst, ◌<◌, List, None, Some, length, option_map, inl, inr, ⊎_elim, refl, sym, ap, ◌∙◌}
 use Rattle.lisa_tree.specs.declared.faults.DescFault.{DescFault}
-use Rattle.instruction_forms.specs.declared.form.Form.{Form}
-use Rattle.lisa_machine.specs.Verdicts.{nothing}
+use Rattle.form_patterns.specs.instruction_forms.declared.form.Form.{Form}
+use Rattle.form_promises.specs.lisa_machine.Verdicts.{nothing}
 use Rattle.lisa_forms.specs.Verdicts.{bad_text, IsTextVerdict}
 use Rattle.lisa_forms.proofs.Walking.{past, refused_here}
 use Rattle.lisa_forms.proofs.Parts.{bad_is_one}

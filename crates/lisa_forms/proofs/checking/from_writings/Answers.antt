@@ -1,6 +1,6 @@
 use Rattle.std.proofs.Common.{None, sym, ◌∙◌}
-use Rattle.coding_checks.specs.Written.{not_written}
-use Rattle.lisa_machine.specs.Verdicts.{at_places}
+use Rattle.form_patterns.specs.coding_checks.Written.{not_written}
+use Rattle.form_promises.specs.lisa_machine.Verdicts.{at_places}
 use Rattle.lisa_forms.specs.Verdicts.{from_roots}
 use Rattle.lisa_forms.proofs.Walking.{past, err_past, ok_past}
 use Rattle.lisa_forms.proofs.checking.from_writings.Goals as goal

@@ -1,5 +1,5 @@
 use Rattle.std.proofs.Common.{subst, ◌≤◌, ◌∙◌, ℕ, length, sym, ap}
-use Rattle.activation_trees.specs.Places.{AreParentsBefore}
+use Rattle.description_sizes.specs.activation_trees.Places.{AreParentsBefore}
 use Rattle.lisa_forms.proofs.Counts.{few_forms}
 use Rattle.lisa_forms.proofs.Kept.{parents_before}
 use Rattle.lisa_forms.proofs.Parts.{as_many, as_many_plain}

@@ -2,7 +2,7 @@ use Rattle.std.proofs.Common.{◌≡◌, ◌∙◌, Option, None, Some, length, 
 use Rattle.std.specs.Prelude.{option_map}
 use Rattle.std.proofs.lemmas.Bool.{ltb-true, ltb-false}
 use Rattle.std.proofs.lemmas.Option.{slice_get_read, slice_get_past}
-use Rattle.instruction_forms.specs.Trees.{FormTree, form_tree}
+use Rattle.form_patterns.specs.instruction_forms.Trees.{FormTree, form_tree}
 use Rattle.lisa_forms.specs.declared.standing.Standing.{Standing}
 use Rattle.lisa_forms.specs.Choosing.{child_at}
 use Rattle.lisa_forms.specs.Standings.{told, matched_in, matched_child}

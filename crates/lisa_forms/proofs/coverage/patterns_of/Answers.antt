@@ -1,7 +1,7 @@
 use Rattle.std.proofs.Common.{◌≡◌, List, ap, sym, ◌∙◌, subst}
 use Rattle.lisa_tree.specs.Descriptions.{DescriptionTree, description_tree}
-use Rattle.instruction_forms.specs.declared.form.Form.{Form}
-use Rattle.instruction_forms.specs.Described.{AreForms}
+use Rattle.form_patterns.specs.instruction_forms.declared.form.Form.{Form}
+use Rattle.form_patterns.specs.instruction_forms.Described.{AreForms}
 use Rattle.lisa_forms.proofs.coverage.patterns_of.Goals as goal
 
 pub patterns-requires : goal.patterns-requires

@@ -1,8 +1,8 @@
 use Rattle.std.proofs.Common.{◌≡◌, ℕ, Bool, List, Option, sym, ◌∙◌, subst}
 use Rattle.lisa_tree.specs.Descriptions.{description_tree}
-use Rattle.instruction_forms.specs.declared.form.Form.{Form}
-use Rattle.instruction_forms.specs.Described.{AreForms}
-use Rattle.instruction_forms.specs.Widths.{HasWidth}
+use Rattle.form_patterns.specs.instruction_forms.declared.form.Form.{Form}
+use Rattle.form_patterns.specs.instruction_forms.Described.{AreForms}
+use Rattle.form_patterns.specs.instruction_forms.Widths.{HasWidth}
 use Rattle.pattern_tables.specs.Tables.{HoldPlain}
 use Rattle.pattern_tables.specs.declared.bit_pattern.BitPattern.{BitPattern}
 use Rattle.form_patterns.specs.Instructions.{ArePatterns}

@@ -1,4 +1,4 @@
-use Rattle.lisa_machine.proofs.Sound.{sound}
+use Rattle.form_promises.proofs.lisa_machine_proofs.Sound.{sound}
 use Rattle.lisa_forms.proofs.Formed.{some_form, one_form}
 use Rattle.lisa_forms.proofs.laws.instructions_are_of_one_form.Goals as goal
 

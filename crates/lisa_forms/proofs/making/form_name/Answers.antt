@@ -1,8 +1,8 @@
 use Rattle.std.proofs.Common.{◌≡◌, ◌∙◌, ℕ, List, IfOk, subst, ap}
 use Rattle.lisa_tree.specs.Descriptions.{DescriptionTree, description_tree}
 use Rattle.lisa_tree.specs.Operations.{name_at}
-use Rattle.instruction_forms.specs.Naming.{form_text}
-use Rattle.instruction_forms.specs.Trees.{form_tree}
+use Rattle.form_patterns.specs.instruction_forms.Naming.{form_text}
+use Rattle.form_patterns.specs.instruction_forms.Trees.{form_tree}
 use Rattle.lisa_forms.proofs.Parts.{named}
 use Rattle.lisa_forms.proofs.making.form_name.Goals as goal
 

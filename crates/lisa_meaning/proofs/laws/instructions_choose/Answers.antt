@@ -1,5 +1,5 @@
-use Rattle.lisa_machine.proofs.Sound.{sound}
-use Rattle.lisa_machine.proofs.Forward.{main_is}
+use Rattle.use_promises.proofs.lisa_machine_proofs.Sound.{sound}
+use Rattle.use_promises.proofs.lisa_machine_proofs.Forward.{main_is}
 use Rattle.lisa_meaning.proofs.Nodes.{listed, no_stage}
 use Rattle.lisa_meaning.proofs.Onward.{chosen_decoded}
 use Rattle.lisa_meaning.proofs.laws.instructions_choose.Goals as goal

@@ -1,4 +1,4 @@
-use Rattle.lisa_machine.proofs.Sound.{sound}
+use Rattle.use_promises.proofs.lisa_machine_proofs.Sound.{sound}
 use Rattle.lisa_meaning.proofs.Sufficing.{occurrences_end}
 use Rattle.lisa_meaning.proofs.laws.levels_suffice.Goals as goal
 

@@ -1,4 +1,4 @@
-use Rattle.lisa_machine.proofs.Sound.{sound}
+use Rattle.use_promises.proofs.lisa_machine_proofs.Sound.{sound}
 use Rattle.use_promises.proofs.Shown.{shown_fits}
 use Rattle.lisa_meaning.proofs.Shaped.{shaped}
 use Rattle.lisa_meaning.proofs.Shown.{registers_fit, arrays_distinct}

@@ -2,7 +2,7 @@
 use Rattle.std.proofs.Common.{◌≡◌, ◌&&◌, ℕ, suc, nat_lt}
 use Rattle.activation_bits.specs.Members.{has}
 use Rattle.pipeline_time.specs.Edges.{is_held}
-use Rattle.moment_stores.specs.Stores.{moment_of}
+use Rattle.behavior_runs.specs.moment_stores.Stores.{moment_of}
 use Rattle.lisa_sim.proofs.edges.held_stages.Given as goal
 
 abbrev pub invariant-each : goal.invariant-each

@@ -3,7 +3,7 @@ use Rattle.lisa_tree.specs.Descriptions.{DescriptionTree, description_tree}
 use Rattle.behavior_runs.specs.Rooms.{room_for}
 use Rattle.pipeline_time.specs.Sound.{IsSound}
 use Rattle.pipeline_runs.specs.Turns.{IsPlanOf}
-use Rattle.lisa_meaning.specs.Cores.{core_of}
+use Rattle.activation_plans.specs.lisa_meaning.Cores.{core_of}
 use Rattle.lisa_sim.proofs.parts.make_pipeline.Goals as goal
 
 pub make-requires-clause-sound : goal.make-requires-clause-sound

@@ -1,6 +1,6 @@
 use Rattle.std.proofs.Common.{◌≡◌, length, arith, refl, ◌∙◌}
 use Rattle.std.proofs.lemmas.Option.{slice_get-get_or}
-use Rattle.moment_stores.specs.Stores.{memory_of, KeepsMachine}
+use Rattle.behavior_runs.specs.moment_stores.Stores.{memory_of, KeepsMachine}
 use Rattle.lisa_sim.proofs.Puttings.{item_put, all_put}
 use Rattle.lisa_sim.proofs.puts.put_items.Goals as goal
 

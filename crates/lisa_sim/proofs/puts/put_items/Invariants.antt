@@ -1,6 +1,6 @@
 -- The items so far are put.
 use Rattle.std.proofs.Common.{◌≡◌}
-use Rattle.moment_stores.specs.Stores.{local_count, memory_of, touches_of, KeepsMachine}
+use Rattle.behavior_runs.specs.moment_stores.Stores.{local_count, memory_of, touches_of, KeepsMachine}
 use Rattle.lisa_sim.proofs.Puttings.{PutTo}
 use Rattle.lisa_sim.proofs.puts.put_items.Given as goal
 

@@ -1,10 +1,10 @@
 use Rattle.std.proofs.Common.{[], ap, sym, subst}
-use Rattle.scene_paths.specs.Lookups.{tree_of}
+use Rattle.behavior_runs.specs.scene_paths.Lookups.{tree_of}
 use Rattle.lisa_activation.specs.Queued.{count}
 use Rattle.pipeline_time.specs.Bits.{shown}
 use Rattle.pipeline_runs.specs.Pipelines.{ShowsHardware}
-use Rattle.lisa_meaning.specs.Cores.{core_of}
-use Rattle.lisa_meaning.specs.States.{after_edges, first_contents}
+use Rattle.activation_plans.specs.lisa_meaning.Cores.{core_of}
+use Rattle.activation_plans.specs.lisa_meaning.States.{after_edges, first_contents}
 use Rattle.lisa_sim.specs.Bodies.{Seen, lasting_of}
 use Rattle.lisa_sim.proofs.Restored.{first_some, first_shown}
 use Rattle.lisa_sim.proofs.states.restart.Goals as goal

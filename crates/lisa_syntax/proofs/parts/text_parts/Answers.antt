@@ -1,7 +1,7 @@
 use Rattle.std.proofs.Common.{IfOk, sym, subst}
 use Rattle.lisa_tree.specs.Descriptions.{DescriptionTree}
-use Rattle.instruction_forms.specs.Described.{AreForms}
-use Rattle.form_texts.specs.Instructions.{AreTexts}
+use Rattle.lisa_forms.specs.instruction_forms.Described.{AreForms}
+use Rattle.lisa_forms.specs.form_texts.Instructions.{AreTexts}
 use Rattle.lisa_syntax.proofs.parts.text_parts.Goals as goal
 
 pub texts-requires : goal.texts-requires

@@ -1,4 +1,4 @@
-use Rattle.lowered_words.proofs.Choices.{part_is}
+use Rattle.lowered_layouts.proofs.lowered_words_proofs.Choices.{part_is}
 use Rattle.lowered_edges.proofs.Scenes.{scene_is}
 use Rattle.lowered_edges.proofs.laws.scenes_stand.Goals as goal
 

@@ -1,6 +1,6 @@
 use Rattle.std.proofs.Common.{sym, arith}
-use Rattle.scene_paths.proofs.Above.{before}
-use Rattle.lowered_words.specs.Code.{words_tree}
+use Rattle.lowered_behaviors.proofs.scene_paths_proofs.Above.{before}
+use Rattle.lowered_layouts.specs.lowered_words.Code.{words_tree}
 use Rattle.lowered_edges.proofs.Lining.{none_behind, first_behind, next_behind}
 use Rattle.lowered_edges.proofs.lines.+add_line.Goals as goal
 

@@ -3,13 +3,13 @@ use Rattle.lisa_tree.specs.Descriptions.{DescriptionTree, description_tree}
 use Rattle.lisa_tree.specs.declared.declared.Meaning.TheVariants.{Declared}
 use Rattle.description_types.specs.Types.{meant_type}
 use Rattle.description_types.specs.Tables.{known_by}
-use Rattle.lisa_forms.specs.Parts.{AreFormsOf}
+use Rattle.activation_plans.specs.lisa_forms.Parts.{AreFormsOf}
 use Rattle.pipeline_time.specs.Sound.{IsSound}
 use Rattle.pipeline_runs.specs.Turns.{IsPlanOf}
-use Rattle.lisa_meaning.specs.Cores.{core_of}
-use Rattle.scene_paths.specs.Lookups.{tree_of}
-use Rattle.lowered_words.specs.Rows.{IsWordWidth, row_size}
-use Rattle.lowered_words.specs.Code.{words_tree}
+use Rattle.activation_plans.specs.lisa_meaning.Cores.{core_of}
+use Rattle.lowered_behaviors.specs.scene_paths.Lookups.{tree_of}
+use Rattle.lowered_layouts.specs.lowered_words.Rows.{IsWordWidth, row_size}
+use Rattle.lowered_layouts.specs.lowered_words.Code.{words_tree}
 use Rattle.lowered_layouts.specs.Code.{positions_tree}
 use Rattle.lowered_behaviors.specs.Settled.{types_of, types_tree}
 use Rattle.lowered_edges.specs.Code.{program_piece}

@@ -1,6 +1,6 @@
 use Rattle.std.proofs.Common.{◌≡◌, ◌∙◌, ℕ, Option, ap, sym, subst}
 use Rattle.lisa_tree.specs.Descriptions.{description_tree}
-use Rattle.lowered_words.specs.Rows.{IsWordWidth}
+use Rattle.lowered_layouts.specs.lowered_words.Rows.{IsWordWidth}
 use Rattle.lowered_edges.specs.Programs.{word_width}
 use Rattle.lowered_edges.proofs.Worded.{words_are}
 use Rattle.lowered_edges.proofs.programs.word_width.Goals as goal

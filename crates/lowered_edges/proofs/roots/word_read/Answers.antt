@@ -1,12 +1,12 @@
 use Rattle.std.proofs.Common.{◌∙◌, Option, ap, sym}
 use Rattle.lisa_tree.specs.Expressions.{ExprTree, expr_tree}
 use Rattle.lisa_tree.specs.Operations.{sections_at, coding_in}
-use Rattle.lisa_meaning.specs.Cores.{root_place}
-use Rattle.scene_paths.specs.Lookups.{tree_of}
+use Rattle.activation_plans.specs.lisa_meaning.Cores.{root_place}
+use Rattle.lowered_behaviors.specs.scene_paths.Lookups.{tree_of}
 use Rattle.step_pieces.specs.Pieces.{behind, top}
 use Rattle.step_pieces.specs.Drafts.{piece_of}
 use Rattle.lowered_values.specs.Computed.{Computed}
-use Rattle.lowered_statements.specs.Code.{scope_of}
+use Rattle.lowered_behaviors.specs.lowered_statements.Code.{scope_of}
 use Rattle.lowered_layouts.specs.Code.{positions_tree}
 use Rattle.lowered_behaviors.specs.Code.{known_names}
 use Rattle.lowered_edges.specs.Code.{read_over}

@@ -1,10 +1,10 @@
-use Rattle.lisa_machine.proofs.Sound.{sound}
-use Rattle.lisa_machine.proofs.Forward.{onward, main_is}
+use Rattle.state_items.proofs.lisa_machine_proofs.Sound.{sound}
+use Rattle.state_items.proofs.lisa_machine_proofs.Forward.{onward, main_is}
 use Rattle.pipeline_time.proofs.Tree.{level_within}
-use Rattle.lisa_meaning.specs.Cores.{core_of}
-use Rattle.lisa_meaning.proofs.Back.{controls_back}
-use Rattle.lisa_meaning.proofs.Nodes.{listed, no_stage}
-use Rattle.lisa_meaning.proofs.Sounds.{sound_by}
+use Rattle.state_items.specs.lisa_meaning.Cores.{core_of}
+use Rattle.state_items.proofs.lisa_meaning_proofs.Back.{controls_back}
+use Rattle.state_items.proofs.lisa_meaning_proofs.Nodes.{listed, no_stage}
+use Rattle.state_items.proofs.lisa_meaning_proofs.Sounds.{sound_by}
 use Rattle.lowered_layouts.proofs.Laying.{laid_out, time_wide}
 use Rattle.lowered_layouts.proofs.laws.time_is_laid_out.Goals as goal
 

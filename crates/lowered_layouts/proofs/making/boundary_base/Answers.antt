@@ -1,6 +1,6 @@
 use Rattle.std.proofs.Common.{◌∙◌}
 use Rattle.std.specs.Prelude.{Result, Ok, Err, IfOk}
-use Rattle.scene_paths.specs.Lookups.{tree_of}
+use Rattle.lowered_words.specs.scene_paths.Lookups.{tree_of}
 use Rattle.lowered_layouts.proofs.Counted.{base_counted}
 use Rattle.lowered_layouts.proofs.making.boundary_base.Goals as goal
 

@@ -1,10 +1,10 @@
 use Rattle.std.proofs.Common.{◌≡◌, ◌<◌, ◌∙◌, ◌+◌, List, length, true, false, refl, sym, ap, subst, arith}
-use Rattle.coding_tables.specs.Instructions.{forms_of}
+use Rattle.instruction_forms.specs.coding_tables.Instructions.{forms_of}
 use Rattle.instruction_forms.specs.declared.form.Form.{Form}
 use Rattle.instruction_forms.specs.declared.form.Form.TheViews.{out-Form}
 use Rattle.instruction_forms.specs.Described.{AreForms}
-use Rattle.form_patterns.specs.Instructions.{instruction_plain}
-use Rattle.lisa_forms.proofs.Patterned.{forms_level}
+use Rattle.scene_paths.specs.form_patterns.Instructions.{instruction_plain}
+use Rattle.scene_paths.proofs.lisa_forms_proofs.Patterned.{forms_level}
 use Rattle.lowered_words.specs.declared.table.Table.{Table}
 use Rattle.lowered_words.specs.Ways.{Whole, form_ways}
 use Rattle.lowered_words.specs.Tables.{Holds}

@@ -1,5 +1,5 @@
 use Rattle.lisa_tree.specs.Descriptions.{DescriptionTree}
-use Rattle.lisa_forms.specs.Parts.{AreFormsOf}
+use Rattle.scene_paths.specs.lisa_forms.Parts.{AreFormsOf}
 use Rattle.lowered_words.specs.Tables.{Holds}
 use Rattle.lowered_words.proofs.Keeping.{ways_before}
 use Rattle.lowered_words.proofs.making.all_ways.Given as goal

@@ -1,6 +1,6 @@
 use Rattle.std.proofs.Common.{◌∙◌, List, length, ap, sym, arith}
 use Rattle.std.specs.Prelude.{slice_get}
-use Rattle.activation_trees.specs.declared.parts.Occurrence.{Occurrence}
+use Rattle.scene_paths.specs.activation_trees.declared.parts.Occurrence.{Occurrence}
 use Rattle.scene_paths.specs.Lookups.{tree_of}
 use Rattle.lowered_words.proofs.Choosing.{one_chosen, all_chosen}
 use Rattle.lowered_words.proofs.occurrences.choices.Goals as goal

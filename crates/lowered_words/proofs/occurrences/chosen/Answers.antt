@@ -3,9 +3,9 @@ use Rattle.std.specs.Prelude.{option_map, slice_get}
 use Rattle.std.specs.Borrow.{Bor}
 use Rattle.std.proofs.lemmas.Option.{slice_get-get_or}
 use Rattle.lisa_tree.specs.Descriptions.{DescriptionTree}
-use Rattle.activation_trees.specs.declared.parts.Occurrence.{Occurrence}
-use Rattle.activation_trees.specs.Unfolding.{occurrences}
-use Rattle.activation_trees.specs.Places.{ArePlaces}
+use Rattle.scene_paths.specs.activation_trees.declared.parts.Occurrence.{Occurrence}
+use Rattle.scene_paths.specs.activation_trees.Unfolding.{occurrences}
+use Rattle.scene_paths.specs.activation_trees.Places.{ArePlaces}
 use Rattle.scene_paths.specs.Lookups.{tree_of}
 use Rattle.lowered_words.specs.declared.way_at.Chosen.{Chosen}
 use Rattle.lowered_words.specs.Choosing.{choice}

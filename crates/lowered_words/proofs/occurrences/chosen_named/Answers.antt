@@ -1,5 +1,5 @@
 use Rattle.std.proofs.Common.{◌∙◌, sym}
-use Rattle.lisa_forms.specs.Choosing.{child_place}
+use Rattle.scene_paths.specs.lisa_forms.Choosing.{child_place}
 use Rattle.scene_paths.specs.Lookups.{tree_of}
 use Rattle.lowered_words.proofs.Choosing.{child_named}
 use Rattle.lowered_words.proofs.occurrences.chosen_named.Goals as goal

@@ -1,5 +1,5 @@
-use Rattle.lisa_machine.proofs.Sound.{sound}
-use Rattle.use_promises.proofs.Shown.{shown_fits}
+use Rattle.lisa_meaning.proofs.lisa_machine_proofs.Sound.{sound}
+use Rattle.lisa_meaning.proofs.use_promises_proofs.Shown.{shown_fits}
 use Rattle.lisa_meaning.specs.States.{first_contents, after_edges}
 use Rattle.lisa_meaning.proofs.Shaped.{first_stored, stored_after}
 use Rattle.lisa_meaning.proofs.Shown.{registers_fit, arrays_distinct}

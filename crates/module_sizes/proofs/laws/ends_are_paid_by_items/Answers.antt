@@ -1,8 +1,8 @@
 use Rattle.std.proofs.Common.{arith, refl}
-use Rattle.lisa_meaning.specs.Cores.{core_of}
+use Rattle.touch_promises.specs.lisa_meaning.Cores.{core_of}
 use Rattle.lowered_edges.specs.Parts.{operations}
-use Rattle.lowered_resources.specs.Places.{Flush}
-use Rattle.lowered_layouts.specs.Items.{places_of}
+use Rattle.lowered_edges.specs.lowered_resources.Places.{Flush}
+use Rattle.lowered_edges.specs.lowered_layouts.Items.{places_of}
 use Rattle.module_sizes.proofs.Operands.{temp_low}
 use Rattle.module_sizes.proofs.Ends.{ends_cost}
 use Rattle.module_sizes.proofs.laws.ends_are_paid_by_items.Goals as goal

@@ -1,7 +1,7 @@
 use Rattle.std.proofs.Common.{length, arith}
 use Rattle.activation_trees.specs.Unfolding.{occurrences}
 use Rattle.lisa_machine.proofs.Sound.{sound}
-use Rattle.lisa_meaning.specs.Cores.{core_of}
+use Rattle.touch_promises.specs.lisa_meaning.Cores.{core_of}
 use Rattle.module_sizes.specs.Priced.{prices_of}
 use Rattle.module_sizes.proofs.Rooted.{root_once, fetch_low}
 use Rattle.module_sizes.proofs.laws.roots_are_paid_once.Goals as goal

@@ -1,5 +1,5 @@
 use Rattle.lisa_machine.proofs.Sound.{sound}
-use Rattle.lisa_meaning.specs.Cores.{core_of}
+use Rattle.touch_promises.specs.lisa_meaning.Cores.{core_of}
 use Rattle.lowered_edges.specs.Parts.{operations}
 use Rattle.module_sizes.specs.Priced.{prices_of}
 use Rattle.module_sizes.proofs.Activating.{edge_few}

@@ -1,9 +1,9 @@
 use Rattle.std.proofs.Common.{◌≤◌, ◌∙◌, List, length, sym, ap, subst, arith}
-use Rattle.activation_trees.specs.declared.parts.Occurrence.{Occurrence}
-use Rattle.activation_trees.specs.Unfolding.{occurrences}
-use Rattle.instruction_forms.specs.Trees.{FormTree}
-use Rattle.lisa_forms.specs.Choosing.{numbered_form}
-use Rattle.lisa_meaning.specs.Standings.{standing}
+use Rattle.scene_paths.specs.activation_trees.declared.parts.Occurrence.{Occurrence}
+use Rattle.scene_paths.specs.activation_trees.Unfolding.{occurrences}
+use Rattle.scene_paths.specs.instruction_forms.Trees.{FormTree}
+use Rattle.scene_paths.specs.lisa_forms.Choosing.{numbered_form}
+use Rattle.scene_paths.specs.lisa_meaning.Standings.{standing}
 use Rattle.scene_paths.specs.Lookups.{tree_of}
 use Rattle.occurrence_choices.specs.Standings.{seen_standing, AreWays, AreStandings}
 use Rattle.occurrence_choices.proofs.Kept.{one_kept}

@@ -1,4 +1,4 @@
-use Rattle.lisa_forms.specs.Choosing.{numbered_form}
+use Rattle.scene_paths.specs.lisa_forms.Choosing.{numbered_form}
 use Rattle.scene_paths.specs.Lookups.{tree_of}
 use Rattle.occurrence_choices.specs.Standings.{AreStandings}
 use Rattle.occurrence_choices.proofs.standings.stand_all.Given as goal

@@ -1,11 +1,11 @@
 use Rattle.std.proofs.Common.{rules, ◌<◌, ◌∙◌, List, None, Some, false, length, get_or, sym, ap, subst, arith}
 use Rattle.std.specs.Prelude.{slice_get}
 use Rattle.std.proofs.lemmas.Option.{slice_get-get_or}
-use Rattle.activation_trees.specs.declared.parts.Occurrence.{Occurrence}
-use Rattle.activation_trees.specs.Unfolding.{occurrences}
-use Rattle.activation_trees.specs.Places.{ArePlaces}
+use Rattle.scene_paths.specs.activation_trees.declared.parts.Occurrence.{Occurrence}
+use Rattle.scene_paths.specs.activation_trees.Unfolding.{occurrences}
+use Rattle.scene_paths.specs.activation_trees.Places.{ArePlaces}
 use Rattle.scene_paths.specs.Lookups.{tree_of}
-use Rattle.lisa_forms.specs.Ways.{by_name}
+use Rattle.scene_paths.specs.lisa_forms.Ways.{by_name}
 use Rattle.occurrence_choices.specs.Standings.{all_rows}
 use Rattle.occurrence_choices.proofs.Activating.{listed, earlier, inside, rows_counted, none_above, outside, top, named, row_name}
 use Rattle.occurrence_choices.proofs.ways.way.Goals as goal

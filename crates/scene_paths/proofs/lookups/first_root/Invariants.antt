@@ -1,5 +1,5 @@
 use Rattle.std.proofs.Common.{◌≡◌, ◌-◌, length}
-use Rattle.coding_tables.specs.Instructions.{first_root, root_from}
+use Rattle.lisa_meaning.specs.coding_tables.Instructions.{first_root, root_from}
 use Rattle.scene_paths.proofs.lookups.first_root.Given as goal
 
 abbrev pub invariant-each : goal.invariant-each

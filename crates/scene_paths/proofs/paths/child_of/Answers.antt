@@ -1,7 +1,7 @@
 use Rattle.std.proofs.Common.{◌∙◌, Option, sym, ap, ap₂}
 use Rattle.std.specs.Prelude.{option_map}
 use Rattle.lisa_tree.specs.Descriptions.{DescriptionTree}
-use Rattle.activation_trees.specs.Starting.{plain_named}
+use Rattle.lisa_meaning.specs.activation_trees.Starting.{plain_named}
 use Rattle.lisa_meaning.specs.Scenes.{Link, chosen, onto}
 use Rattle.scene_paths.specs.Sights.{sight_tree, form_of}
 use Rattle.scene_paths.specs.Paths.{link_of, links_of}

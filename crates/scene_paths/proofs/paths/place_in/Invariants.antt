@@ -1,7 +1,7 @@
 use Rattle.std.proofs.Common.{◌≡◌, ◌≤◌, drop}
 use Rattle.std.specs.Prelude.{position}
 use Rattle.lisa_tree.specs.Same.{same_name}
-use Rattle.lisa_forms.specs.Choosing.{child_names}
+use Rattle.lisa_meaning.specs.lisa_forms.Choosing.{child_names}
 use Rattle.scene_paths.proofs.Children.{behind}
 use Rattle.scene_paths.proofs.paths.place_in.Given as goal
 

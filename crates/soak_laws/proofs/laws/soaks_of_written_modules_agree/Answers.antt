@@ -1,9 +1,9 @@
-use Rattle.lisa_forms.specs.Verdicts.{HasForms}
+use Rattle.generator_commands.specs.lisa_forms.Verdicts.{HasForms}
 use Rattle.lisa_linker.specs.Memories.{AreMemories}
 use Rattle.lisa_machine.specs.Verdicts.{IsAccepted}
 use Rattle.lisa_tree.specs.Descriptions.{DescriptionTree}
-use Rattle.lisa_assembler.specs.Memories.{memory_items}
-use Rattle.assembler_commands.proofs.MemoryRules.{memories_are}
+use Rattle.generator_commands.specs.lisa_assembler.Memories.{memory_items}
+use Rattle.generator_commands.proofs.assembler_commands_proofs.MemoryRules.{memories_are}
 use Rattle.generator_commands.proofs.DigestRules.{digest_rules}
 use Rattle.soak_laws.proofs.Agreed.{agree}
 use Rattle.soak_laws.proofs.laws.soaks_of_written_modules_agree.Goals as goal

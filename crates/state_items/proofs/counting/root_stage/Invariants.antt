@@ -1,6 +1,6 @@
 -- The root is among the occurrences that are left.
 use Rattle.std.proofs.Common.{◌≡◌, drop}
-use Rattle.activation_trees.specs.Items.{root_stage}
+use Rattle.lisa_meaning.specs.activation_trees.Items.{root_stage}
 use Rattle.state_items.proofs.counting.root_stage.Given as goal
 
 abbrev pub invariant-loop-occurrence : goal.invariant-loop-occurrence

@@ -1,5 +1,5 @@
-use Rattle.lisa_machine.proofs.Sound.{sound}
-use Rattle.coding_tables.specs.Instructions.{form_count}
+use Rattle.item_promises.proofs.lisa_machine_proofs.Sound.{sound}
+use Rattle.item_promises.specs.coding_tables.Instructions.{form_count}
 use Rattle.touch_promises.proofs.Limited.{behaves_few}
 use Rattle.touch_promises.proofs.writing.behaviors_write_few_cells.Goals as goal
 

@@ -1,9 +1,9 @@
 use Rattle.std.proofs.Common.{subst}
-use Rattle.description_types.specs.Tables.{Known}
-use Rattle.kind_checks.specs.WrongKinds.{wrong_kind}
+use Rattle.lisa_machine.specs.description_types.Tables.{Known}
+use Rattle.lisa_machine.specs.kind_checks.WrongKinds.{wrong_kind}
 use Rattle.lisa_machine.specs.Freedom.{IsFree}
 use Rattle.lisa_machine.proofs.Sound.{sound}
-use Rattle.description_types.proofs.OneKnown.{one_known}
+use Rattle.lisa_machine.proofs.description_types_proofs.OneKnown.{one_known}
 use Rattle.use_promises.proofs.Given.{values_given}
 use Rattle.use_promises.proofs.valued.values_are_given.Goals as goal
 

@@ -1,6 +1,6 @@
 use Rattle.std.proofs.Common.{◌≡◌, ◌∙◌, false, sym, ap}
 use Rattle.lisa_tree.specs.Descriptions.{DescriptionTree}
-use Rattle.lisa_meaning.specs.Scenes.{declared, is_label}
+use Rattle.scene_paths.specs.lisa_meaning.Scenes.{declared, is_label}
 use Rattle.scene_paths.specs.Paths.{link_of, links_of}
 use Rattle.scene_paths.specs.Sights.{form_of, scene_at}
 use Rattle.behavior_runs.specs.Views.{view_tree}

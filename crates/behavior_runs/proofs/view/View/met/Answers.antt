@@ -1,7 +1,7 @@
 use Rattle.std.proofs.Common.{◌≡◌, ◌∙◌, false, sym, ap}
 use Rattle.lisa_tree.specs.Descriptions.{DescriptionTree}
 use Rattle.lisa_tree.specs.Declarations.{is_reference, what_at}
-use Rattle.lisa_meaning.specs.Scenes.{is_label}
+use Rattle.scene_paths.specs.lisa_meaning.Scenes.{is_label}
 use Rattle.scene_paths.specs.Paths.{links_of}
 use Rattle.scene_paths.specs.Sights.{form_of, scene_at}
 use Rattle.behavior_runs.specs.Views.{view_tree}

@@ -1,6 +1,6 @@
 use Rattle.std.proofs.Common.{◌≡◌, ◌↔◌, Bool, true, length, refl, sym, subst}
 use Rattle.std.proofs.lemmas.Option.{slice_get_read}
-use Rattle.instruction_forms.specs.Trees.{FormTree, form_tree}
+use Rattle.form_patterns.specs.instruction_forms.Trees.{FormTree, form_tree}
 use Rattle.lisa_forms.specs.Choosing.{Chooses, numbered_form}
 use Rattle.lisa_forms.specs.Standings.{told}
 use Rattle.lisa_forms.proofs.Chosen.{choice_is}

@@ -1,7 +1,7 @@
 use Rattle.std.proofs.Common.{◌≡◌, ◌⊎◌, ◌∙◌, IfOk, IfErr, subst, sym, ap}
 use Rattle.lisa_tree.specs.declared.faults.DescFault.TheVariants as faults
 use Rattle.lisa_tree.specs.Descriptions.{DescriptionTree, description_tree}
-use Rattle.lisa_machine.specs.Verdicts.{IsAccepted}
+use Rattle.form_promises.specs.lisa_machine.Verdicts.{IsAccepted}
 use Rattle.lisa_forms.specs.Verdicts.{HasForms, IsFirstFormFault}
 use Rattle.lisa_forms.proofs.forms.Forms.make.Goals as goal
 

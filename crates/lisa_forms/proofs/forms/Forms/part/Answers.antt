@@ -1,6 +1,6 @@
 use Rattle.std.proofs.Common.{◌≡◌, ◌↔◌, Option, Some, length, refl, sym, subst}
 use Rattle.std.proofs.lemmas.Option.{slice_get_read}
-use Rattle.instruction_forms.specs.Trees.{FormTree, form_tree}
+use Rattle.form_patterns.specs.instruction_forms.Trees.{FormTree, form_tree}
 use Rattle.lisa_forms.specs.Choosing.{Stands, numbered_form}
 use Rattle.lisa_forms.specs.Standings.{told, part_in}
 use Rattle.lisa_forms.proofs.Chosen.{part_is}

@@ -1,9 +1,9 @@
 use Rattle.std.proofs.Common.{◌≡◌, List, ℕ, length, map, ap, ◌∙◌, subst}
 use Rattle.item_layouts.specs.Layouts.{ItemValues, value_at}
 use Rattle.lisa_engine.specs.Touches.{put_back}
-use Rattle.lisa_meaning.specs.Moments.{Contents}
-use Rattle.moment_stores.specs.Changes.{with_cells}
-use Rattle.moment_stores.specs.Stores.{memory_of}
+use Rattle.activation_plans.specs.lisa_meaning.Moments.{Contents}
+use Rattle.behavior_runs.specs.moment_stores.Changes.{with_cells}
+use Rattle.behavior_runs.specs.moment_stores.Stores.{memory_of}
 use Rattle.pipeline_states.specs.Putting.{IsPut}
 use Rattle.lisa_sim.specs.Bodies.{Seen, lasting_of}
 use Rattle.lisa_sim.proofs.Puttings.{cells_put}

@@ -1,7 +1,7 @@
 use Rattle.std.proofs.Common.{ap, ◌∙◌}
 use Rattle.lisa_tree.specs.declared.descriptions.Description.{Description}
-use Rattle.lisa_meaning.specs.Cores.{behave, core_of}
-use Rattle.scene_paths.specs.Lookups.{tree_of}
+use Rattle.activation_plans.specs.lisa_meaning.Cores.{behave, core_of}
+use Rattle.behavior_runs.specs.scene_paths.Lookups.{tree_of}
 use Rattle.lisa_sim.specs.Bodies.{Seen, kept_of}
 use Rattle.lisa_sim.proofs.Lasting.{fits_still, kept_still}
 use Rattle.lisa_sim.proofs.edges.BodyBehaves.behave.Goals as goal

@@ -1,6 +1,6 @@
 use Rattle.std.proofs.Common.{◌≡◌, List, ℕ, [], ◌∷◌, ◌++◌, refl, subst}
-use Rattle.scene_paths.specs.Lookups.{tree_of}
-use Rattle.lisa_meaning.specs.States.{state_of}
+use Rattle.behavior_runs.specs.scene_paths.Lookups.{tree_of}
+use Rattle.activation_plans.specs.lisa_meaning.States.{state_of}
 use Rattle.pipeline_states.specs.Showing.{state_in}
 use Rattle.lisa_sim.specs.Bodies.{lasting_of}
 use Rattle.lisa_sim.specs.Runnings.{Running}

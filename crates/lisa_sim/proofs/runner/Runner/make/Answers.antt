@@ -1,6 +1,6 @@
 use Rattle.std.proofs.Common.{[], ◌∙◌, arith}
 use Rattle.lisa_tree.specs.Descriptions.{description_tree}
-use Rattle.scene_paths.specs.Lookups.{tree_of}
+use Rattle.behavior_runs.specs.scene_paths.Lookups.{tree_of}
 use Rattle.lisa_sim.specs.Bodies.{lasting_of}
 use Rattle.lisa_sim.specs.Runnings.{CanRun}
 use Rattle.lisa_sim.proofs.Begun.{plan_counted}

@@ -1,7 +1,7 @@
 use Rattle.std.proofs.Common.{◌≡◌, Some, ap, arith}
 use Rattle.std.specs.Prelude.{slice_get}
 use Rattle.item_layouts.specs.declared.place.ItemPlace.TheVariants.{Word, Bit}
-use Rattle.scene_paths.specs.Lookups.{tree_of}
+use Rattle.behavior_runs.specs.scene_paths.Lookups.{tree_of}
 use Rattle.lisa_sim.specs.Bodies.{lasting_of}
 use Rattle.lisa_sim.specs.Runnings.{Running}
 use Rattle.lisa_sim.proofs.Going.{word_below, bit_below, bit_listed}

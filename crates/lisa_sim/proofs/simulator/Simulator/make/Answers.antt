@@ -1,7 +1,7 @@
 use Rattle.std.proofs.Common.{[], ap, sym}
 use Rattle.lisa_tree.specs.Descriptions.{description_tree}
 use Rattle.machine_parts.specs.Parts.{arrays_of, pins_of}
-use Rattle.description_sizes.specs.Sizes.{items}
+use Rattle.item_promises.specs.description_sizes.Sizes.{items}
 use Rattle.lisa_sim.proofs.Simulating.{Shapes, sized_first, named_first, shapes_first, shape_first}
 use Rattle.lisa_sim.proofs.simulator.Simulator.make.Goals as goal
 

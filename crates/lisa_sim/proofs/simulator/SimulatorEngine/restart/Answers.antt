@@ -1,7 +1,7 @@
 use Rattle.std.proofs.Common.{[], ◌∷◌, ◌++◌}
 use Rattle.lisa_tree.specs.Descriptions.{description_tree}
 use Rattle.machine_parts.specs.Parts.{arrays_of, pins_of}
-use Rattle.scene_paths.specs.Lookups.{tree_of}
+use Rattle.behavior_runs.specs.scene_paths.Lookups.{tree_of}
 use Rattle.lisa_sim.proofs.Simulating.{arrays_still, pins_still, sized_still, named_still, shapes_still, state_still, shape_still}
 use Rattle.lisa_sim.proofs.simulator.SimulatorEngine.restart.Goals as goal
 

@@ -1,8 +1,8 @@
 use Rattle.std.proofs.Common.{sym, subst, inr, List}
 use Rattle.lisa_tree.specs.declared.descriptions.Description.{Description}
 use Rattle.lisa_tree.specs.Descriptions.{description_tree}
-use Rattle.instruction_forms.specs.declared.form.Form.{Form}
-use Rattle.instruction_forms.specs.Described.{AreForms}
+use Rattle.lisa_forms.specs.instruction_forms.declared.form.Form.{Form}
+use Rattle.lisa_forms.specs.instruction_forms.Described.{AreForms}
 use Rattle.lisa_syntax.proofs.Made.{texts_sized, texts_level, texts_few, texts_ordered, none_ambiguous, first_ambiguous, made}
 use Rattle.lisa_syntax.proofs.syntax.Syntax.make.Goals as goal
 

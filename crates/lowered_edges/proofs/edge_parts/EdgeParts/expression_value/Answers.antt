@@ -3,7 +3,7 @@ use Rattle.lisa_tree.specs.Expressions.{expr_tree}
 use Rattle.step_pieces.specs.Pieces.{behind, top}
 use Rattle.step_pieces.specs.Drafts.{piece_of}
 use Rattle.lowered_values.specs.Computed.{Computed}
-use Rattle.lowered_statements.specs.Code.{scope_of}
+use Rattle.lowered_behaviors.specs.lowered_statements.Code.{scope_of}
 use Rattle.lowered_layouts.specs.Items.{places_of}
 use Rattle.lowered_layouts.specs.Code.{positions_tree}
 use Rattle.lowered_layouts.specs.declared.positions.Positions.{Positions}

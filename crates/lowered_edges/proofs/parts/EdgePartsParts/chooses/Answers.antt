@@ -1,5 +1,5 @@
 use Rattle.std.proofs.Common.{◌∙◌, ℕ, ap}
-use Rattle.lowered_words.specs.Rows.{chosen_flag}
+use Rattle.lowered_layouts.specs.lowered_words.Rows.{chosen_flag}
 use Rattle.lowered_edges.specs.Code.{parts_tree}
 use Rattle.lowered_edges.proofs.parts.EdgePartsParts.chooses.Goals as goal
 

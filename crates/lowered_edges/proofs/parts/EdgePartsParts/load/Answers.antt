@@ -1,7 +1,7 @@
 use Rattle.std.proofs.Common.{◌∙◌, ℕ, ap}
 use Rattle.step_pieces.specs.Pieces.{behind, top}
 use Rattle.step_pieces.specs.Drafts.{leaf_tree, piece_of}
-use Rattle.lowered_words.specs.Loading.{load}
+use Rattle.lowered_layouts.specs.lowered_words.Loading.{load}
 use Rattle.lowered_edges.specs.Code.{parts_tree}
 use Rattle.lowered_edges.proofs.parts.EdgePartsParts.load.Goals as goal
 

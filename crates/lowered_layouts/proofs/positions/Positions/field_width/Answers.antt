@@ -1,5 +1,5 @@
 use Rattle.std.proofs.Common.{sym}
-use Rattle.scene_paths.specs.Lookups.{tree_of}
+use Rattle.lowered_words.specs.scene_paths.Lookups.{tree_of}
 use Rattle.lowered_resources.proofs.Standing.{shape_sized}
 use Rattle.lowered_layouts.proofs.positions.Positions.field_width.Goals as goal
 

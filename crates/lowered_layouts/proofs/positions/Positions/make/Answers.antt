@@ -2,8 +2,8 @@ use Rattle.std.proofs.Common.{◌≡◌, ◌∙◌, length, sym, ap}
 use Rattle.lisa_tree.specs.Descriptions.{DescriptionTree}
 use Rattle.lisa_tree.specs.Resources.{stages, fields}
 use Rattle.item_layouts.specs.Layouts.{place_of}
-use Rattle.lisa_meaning.specs.States.{layout_of}
-use Rattle.scene_paths.specs.Lookups.{tree_of}
+use Rattle.state_items.specs.lisa_meaning.States.{layout_of}
+use Rattle.lowered_words.specs.scene_paths.Lookups.{tree_of}
 use Rattle.lowered_layouts.specs.Temps.{controls_at}
 use Rattle.lowered_layouts.specs.Spots.{place_at}
 use Rattle.lowered_layouts.proofs.Counted.{controls_counted, rows_counted}

@@ -3,8 +3,8 @@ use Rattle.lisa_tree.specs.Descriptions.{DescriptionTree, description_tree}
 use Rattle.instruction_forms.specs.declared.form.Form.{Form}
 use Rattle.instruction_forms.specs.Described.{AreForms}
 use Rattle.instruction_forms.specs.Widths.{HasWidth}
-use Rattle.form_patterns.specs.Instructions.{ArePatterns}
-use Rattle.lisa_forms.proofs.Overlapping.{patterns_are}
+use Rattle.scene_paths.specs.form_patterns.Instructions.{ArePatterns}
+use Rattle.scene_paths.proofs.lisa_forms_proofs.Overlapping.{patterns_are}
 use Rattle.lowered_words.proofs.Keeping.{has_ways, has_parts}
 use Rattle.lowered_words.proofs.words.Words.make.Goals as goal
 

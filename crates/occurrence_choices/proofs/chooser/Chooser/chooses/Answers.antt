@@ -1,7 +1,7 @@
 use Rattle.std.proofs.Common.{ap, ◌∙◌}
 use Rattle.lisa_tree.specs.Descriptions.{DescriptionTree}
 use Rattle.lisa_tree.specs.declared.descriptions.Description.{Description}
-use Rattle.lisa_meaning.specs.Cores.{chooses}
+use Rattle.scene_paths.specs.lisa_meaning.Cores.{chooses}
 use Rattle.scene_paths.specs.Lookups.{tree_of}
 use Rattle.occurrence_choices.proofs.chooser.Chooser.chooses.Goals as goal
 

@@ -4,11 +4,11 @@ use Rattle.lisa_tree.specs.declared.tokens.Shape.{Shape}
 use Rattle.lisa_tree.specs.declared.descriptions.Description.{Description}
 use Rattle.lisa_tree.specs.Descriptions.{DescriptionTree, description_tree}
 use Rattle.lisa_tree.specs.Same.{same_name}
-use Rattle.description_sizes.specs.Texts as texts
-use Rattle.coding_tables.specs.Instructions.{first_root}
-use Rattle.lisa_machine.specs.Verdicts.{IsAccepted}
-use Rattle.lisa_forms.specs.Parts.{AreFormsOf}
-use Rattle.lisa_forms.specs.Codings.{IsCodingOf}
+use Rattle.lisa_meaning.specs.description_sizes.Texts as texts
+use Rattle.lisa_meaning.specs.coding_tables.Instructions.{first_root}
+use Rattle.lisa_meaning.specs.lisa_machine.Verdicts.{IsAccepted}
+use Rattle.lisa_meaning.specs.lisa_forms.Parts.{AreFormsOf}
+use Rattle.lisa_meaning.specs.lisa_forms.Codings.{IsCodingOf}
 use Rattle.scene_paths.proofs.Moved.{kept_of}
 use Rattle.scene_paths.proofs.described.Described.make.Goals as goal
 

@@ -2,8 +2,8 @@ use Rattle.std.proofs.Common.{◌≡◌, ◌∙◌, Some, length, sym, ap, refl}
 use Rattle.std.specs.Prelude.{option_map}
 use Rattle.std.proofs.lemmas.Bool.{ltb-true, ltb-false}
 use Rattle.std.proofs.lemmas.Option.{slice_get_read, slice_get_past}
-use Rattle.instruction_forms.specs.Trees.{form_tree}
-use Rattle.lisa_forms.specs.Choosing.{child_at}
+use Rattle.lisa_meaning.specs.instruction_forms.Trees.{form_tree}
+use Rattle.lisa_meaning.specs.lisa_forms.Choosing.{child_at}
 use Rattle.scene_paths.proofs.Parted.{child_is}
 use Rattle.scene_paths.proofs.Wide.{child_fields}
 use Rattle.scene_paths.proofs.part.Part.child.Goals as goal

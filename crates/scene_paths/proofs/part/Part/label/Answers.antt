@@ -2,7 +2,7 @@ use Rattle.std.proofs.Common.{◌∙◌, None, Some, sym, ap}
 use Rattle.std.specs.Prelude.{option_map}
 use Rattle.std.specs.Borrow.{Bor}
 use Rattle.lisa_tree.specs.Same.{same_name}
-use Rattle.instruction_forms.specs.declared.form.Field.{Field}
+use Rattle.lisa_meaning.specs.instruction_forms.declared.form.Field.{Field}
 use Rattle.scene_paths.proofs.Parted.{form_own, found_fits, label_is}
 use Rattle.scene_paths.proofs.part.Part.label.Goals as goal
 

@@ -1,8 +1,8 @@
 use Rattle.std.proofs.Common.{◌∙◌, Some, sym, ap}
 use Rattle.std.specs.Prelude.{option_map}
 use Rattle.std.specs.Borrow.{Bor}
-use Rattle.instruction_forms.specs.declared.form.Form.{Form}
-use Rattle.instruction_forms.specs.Trees.{FormTree, form_tree}
+use Rattle.lisa_meaning.specs.instruction_forms.declared.form.Form.{Form}
+use Rattle.lisa_meaning.specs.instruction_forms.Trees.{FormTree, form_tree}
 use Rattle.scene_paths.specs.Sights.{sight_tree}
 use Rattle.scene_paths.proofs.Decoding.{seen_within, seen_fields, seen_part, kept_count}
 use Rattle.scene_paths.proofs.sight.Sight.part.Goals as goal

@@ -1,5 +1,5 @@
 use Rattle.std.proofs.Common.{◌∙◌, Some, ap}
-use Rattle.instruction_forms.specs.Trees.{FormTree}
+use Rattle.lisa_meaning.specs.instruction_forms.Trees.{FormTree}
 use Rattle.scene_paths.specs.Sights.{sight_tree}
 use Rattle.scene_paths.proofs.Decoding.{seen_within, whole_fields, whole_is}
 use Rattle.scene_paths.proofs.sight.Sight.whole.Goals as goal

@@ -1,0 +1,1 @@
+pub use Rattle.lisa_meaning.proofs.form_promises_proofs.Placed

@@ -1,0 +1,10 @@
+pub use Rattle.lisa_meaning.specs.Cores
+pub use Rattle.lisa_meaning.specs.Effects
+pub use Rattle.lisa_meaning.specs.Laws
+pub use Rattle.lisa_meaning.specs.Moments
+pub use Rattle.lisa_meaning.specs.Scenes
+pub use Rattle.lisa_meaning.specs.Showing
+pub use Rattle.lisa_meaning.specs.Standings
+pub use Rattle.lisa_meaning.specs.States
+pub use Rattle.lisa_meaning.specs.Trees
+pub use Rattle.lisa_meaning.specs.Values

@@ -1,0 +1,1 @@
+pub use Rattle.lisa_machine.specs.lisa_engine.declared

@@ -1,0 +1,3 @@
+pub use Rattle.lisa_machine.specs.Declaring
+pub use Rattle.lisa_machine.specs.Machines
+pub use Rattle.lisa_machine.specs.Ranks

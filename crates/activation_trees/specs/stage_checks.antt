@@ -1,0 +1,1 @@
+pub use Rattle.stage_checks.specs.Controls

@@ -1,0 +1,2 @@
+pub use Rattle.item_promises.specs.lisa_machine.Machines
+pub use Rattle.item_promises.specs.lisa_machine.Verdicts

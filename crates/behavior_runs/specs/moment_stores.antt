@@ -1,0 +1,3 @@
+pub use Rattle.moment_stores.specs.Changes
+pub use Rattle.moment_stores.specs.Stores
+pub use Rattle.moment_stores.specs.declared

@@ -1,0 +1,1 @@
+pub use Rattle.scene_paths.specs.Lookups

@@ -1,0 +1,3 @@
+pub use Rattle.lisa_syntax.specs.description_sizes.Laws
+pub use Rattle.lisa_syntax.specs.description_sizes.Limits
+pub use Rattle.lisa_syntax.specs.description_sizes.Sizes

@@ -1,0 +1,2 @@
+pub use Rattle.description_graph.proofs.Lists
+pub use Rattle.description_graph.proofs.Nodes

@@ -1,0 +1,1 @@
+pub use Rattle.coded_names.specs.Codings

@@ -1,0 +1,1 @@
+pub use Rattle.description_graph.specs.Circles

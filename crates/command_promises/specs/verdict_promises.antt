@@ -1,0 +1,1 @@
+pub use Rattle.verdict_promises.specs.Firsts

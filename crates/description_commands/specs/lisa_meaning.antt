@@ -1,0 +1,1 @@
+pub use Rattle.lisa_sim.specs.lisa_meaning.States

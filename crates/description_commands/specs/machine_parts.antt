@@ -1,0 +1,1 @@
+pub use Rattle.lisa_sim.specs.machine_parts.Parts

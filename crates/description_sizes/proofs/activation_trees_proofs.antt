@@ -1,0 +1,3 @@
+pub use Rattle.activation_trees.proofs.Levels
+pub use Rattle.activation_trees.proofs.Lying
+pub use Rattle.activation_trees.proofs.Ordered

@@ -1,0 +1,1 @@
+pub use Rattle.instruction_forms.specs.coding_tables.Instructions

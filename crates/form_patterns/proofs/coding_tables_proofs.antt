@@ -1,0 +1,1 @@
+pub use Rattle.instruction_forms.proofs.coding_tables_proofs.Heights

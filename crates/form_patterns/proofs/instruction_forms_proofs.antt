@@ -1,0 +1,2 @@
+pub use Rattle.instruction_forms.proofs.Whole
+pub use Rattle.instruction_forms.proofs.Wide

@@ -1,0 +1,2 @@
+pub use Rattle.spelled_promises.proofs.Found
+pub use Rattle.spelled_promises.proofs.Outer

@@ -1,0 +1,1 @@
+pub use Rattle.form_texts.specs.instruction_texts.Symbols

@@ -1,0 +1,2 @@
+pub use Rattle.lisa_machine.specs.kind_checks.Narrowings
+pub use Rattle.lisa_machine.specs.kind_checks.WrongKinds

@@ -1,0 +1,1 @@
+pub use Rattle.lisa_machine.specs.least_fixed_points.Settles

@@ -1,0 +1,1 @@
+pub use Rattle.instruction_texts.proofs.Tiles

@@ -1,0 +1,2 @@
+pub use Rattle.instruction_forms.specs.Described
+pub use Rattle.instruction_forms.specs.Widths

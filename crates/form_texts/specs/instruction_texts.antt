@@ -1,0 +1,3 @@
+pub use Rattle.instruction_texts.specs.Once
+pub use Rattle.instruction_texts.specs.Symbols
+pub use Rattle.instruction_texts.specs.Texts

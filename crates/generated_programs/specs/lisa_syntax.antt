@@ -1,0 +1,1 @@
+pub use Rattle.lisa_syntax.specs.Texts

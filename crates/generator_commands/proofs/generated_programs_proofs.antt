@@ -1,0 +1,1 @@
+pub use Rattle.generated_programs.proofs.Widths

@@ -1,0 +1,1 @@
+pub use Rattle.module_commands.proofs.Stopped

@@ -1,0 +1,3 @@
+pub use Rattle.description_commands.specs.Checks
+pub use Rattle.description_commands.specs.Formats
+pub use Rattle.description_commands.specs.Runs

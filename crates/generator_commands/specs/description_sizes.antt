@@ -1,0 +1,1 @@
+pub use Rattle.assembler_commands.specs.description_sizes.Sizes

@@ -1,0 +1,1 @@
+pub use Rattle.coding_tables.proofs.description_graph_proofs.Lists

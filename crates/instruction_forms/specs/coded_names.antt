@@ -1,0 +1,1 @@
+pub use Rattle.coding_tables.specs.coded_names.Codings

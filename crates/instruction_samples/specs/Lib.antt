@@ -1,0 +1,2 @@
+pub mod lisa_forms
+pub mod lisa_syntax

@@ -1,0 +1,1 @@
+pub use Rattle.use_promises.proofs.machine_parts_proofs.Lengths

@@ -1,0 +1,2 @@
+pub use Rattle.lisa_forms.specs.instruction_forms.Trees
+pub use Rattle.lisa_forms.specs.instruction_forms.Widths

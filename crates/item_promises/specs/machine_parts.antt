@@ -1,0 +1,1 @@
+pub use Rattle.use_promises.specs.machine_parts.Parts

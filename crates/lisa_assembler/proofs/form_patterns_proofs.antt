@@ -1,0 +1,2 @@
+pub use Rattle.form_patterns.proofs.Filling
+pub use Rattle.form_patterns.proofs.Placing

@@ -1,0 +1,2 @@
+pub use Rattle.form_patterns.specs.Filled
+pub use Rattle.form_patterns.specs.Instructions

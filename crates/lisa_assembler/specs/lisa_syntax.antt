@@ -1,0 +1,3 @@
+pub use Rattle.lisa_syntax.specs.Lines
+pub use Rattle.lisa_syntax.specs.Orders
+pub use Rattle.lisa_syntax.specs.declared

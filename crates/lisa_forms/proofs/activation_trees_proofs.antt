@@ -1,0 +1,3 @@
+pub use Rattle.description_sizes.proofs.activation_trees_proofs.Levels
+pub use Rattle.description_sizes.proofs.activation_trees_proofs.Lying
+pub use Rattle.description_sizes.proofs.activation_trees_proofs.Ordered

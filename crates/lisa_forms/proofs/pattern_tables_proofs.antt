@@ -1,0 +1,1 @@
+pub use Rattle.pattern_tables.proofs.Masks

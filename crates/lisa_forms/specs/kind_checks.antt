@@ -1,0 +1,2 @@
+pub use Rattle.form_promises.specs.kind_checks.Narrowings
+pub use Rattle.form_promises.specs.kind_checks.WrongKinds

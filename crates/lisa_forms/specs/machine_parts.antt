@@ -1,0 +1,1 @@
+pub use Rattle.description_sizes.specs.machine_parts.Parts

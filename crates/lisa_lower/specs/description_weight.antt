@@ -1,0 +1,1 @@
+pub use Rattle.module_sizes.specs.description_weight.Weights

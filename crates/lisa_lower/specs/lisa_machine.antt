@@ -1,0 +1,1 @@
+pub use Rattle.module_sizes.specs.lisa_machine.Machines

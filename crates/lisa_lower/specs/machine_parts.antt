@@ -1,0 +1,1 @@
+pub use Rattle.module_sizes.specs.machine_parts.Parts

@@ -1,0 +1,2 @@
+pub use Rattle.machine_parts.proofs.Fitting
+pub use Rattle.machine_parts.proofs.Lengths

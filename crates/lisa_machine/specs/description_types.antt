@@ -1,0 +1,10 @@
+pub use Rattle.description_types.specs.Codings
+pub use Rattle.description_types.specs.Facts
+pub use Rattle.description_types.specs.Kinds
+pub use Rattle.description_types.specs.Larger
+pub use Rattle.description_types.specs.Refused
+pub use Rattle.description_types.specs.Shapes
+pub use Rattle.description_types.specs.Steady
+pub use Rattle.description_types.specs.Tables
+pub use Rattle.description_types.specs.Uses
+pub use Rattle.description_types.specs.declared

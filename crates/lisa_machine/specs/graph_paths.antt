@@ -1,0 +1,1 @@
+pub use Rattle.graph_paths.specs.Paths

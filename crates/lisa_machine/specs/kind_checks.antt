@@ -1,0 +1,3 @@
+pub use Rattle.kind_checks.specs.Narrowings
+pub use Rattle.kind_checks.specs.Uses
+pub use Rattle.kind_checks.specs.WrongKinds

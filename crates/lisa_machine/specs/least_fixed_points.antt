@@ -1,0 +1,1 @@
+pub use Rattle.least_fixed_points.specs.Settles

@@ -1,0 +1,1 @@
+pub use Rattle.lisa_engine.specs.declared

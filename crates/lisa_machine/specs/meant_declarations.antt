@@ -1,0 +1,1 @@
+pub use Rattle.meant_declarations.specs.Meant

@@ -1,0 +1,2 @@
+pub use Rattle.stage_checks.specs.Controls
+pub use Rattle.stage_checks.specs.Resets

@@ -1,0 +1,1 @@
+pub use Rattle.lisa_forms.proofs.description_sizes_proofs.Limited

@@ -1,0 +1,1 @@
+pub use Rattle.lisa_forms.proofs.instruction_forms_proofs.Whole

@@ -1,0 +1,17 @@
+pub use Rattle.use_promises.proofs.lisa_machine_proofs.Among
+pub use Rattle.use_promises.proofs.lisa_machine_proofs.Assigned
+pub use Rattle.use_promises.proofs.lisa_machine_proofs.Choosing
+pub use Rattle.use_promises.proofs.lisa_machine_proofs.Chosen
+pub use Rattle.use_promises.proofs.lisa_machine_proofs.Decoding
+pub use Rattle.use_promises.proofs.lisa_machine_proofs.Distinct
+pub use Rattle.use_promises.proofs.lisa_machine_proofs.Entries
+pub use Rattle.use_promises.proofs.lisa_machine_proofs.Falling
+pub use Rattle.use_promises.proofs.lisa_machine_proofs.Fitting
+pub use Rattle.use_promises.proofs.lisa_machine_proofs.Forward
+pub use Rattle.use_promises.proofs.lisa_machine_proofs.Named
+pub use Rattle.use_promises.proofs.lisa_machine_proofs.Narrowed
+pub use Rattle.use_promises.proofs.lisa_machine_proofs.Resolved
+pub use Rattle.use_promises.proofs.lisa_machine_proofs.Settling
+pub use Rattle.use_promises.proofs.lisa_machine_proofs.Sound
+pub use Rattle.use_promises.proofs.lisa_machine_proofs.Standing
+pub use Rattle.use_promises.proofs.lisa_machine_proofs.Typing

@@ -1,0 +1,1 @@
+pub use Rattle.lisa_forms.specs.form_patterns.Instructions

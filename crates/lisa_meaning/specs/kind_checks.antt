@@ -1,0 +1,1 @@
+pub use Rattle.use_promises.specs.kind_checks.Narrowings

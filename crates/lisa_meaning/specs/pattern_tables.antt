@@ -1,0 +1,1 @@
+pub use Rattle.lisa_forms.specs.pattern_tables.Instructions

@@ -1,0 +1,1 @@
+pub use Rattle.lisa_forms.specs.stage_checks.Running

@@ -1,0 +1,1 @@
+pub use Rattle.lisa_forms.specs.typed_values.Words

@@ -1,0 +1,1 @@
+pub use Rattle.item_promises.specs.lisa_machine.Machines

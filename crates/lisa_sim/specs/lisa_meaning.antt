@@ -1,0 +1,1 @@
+pub use Rattle.activation_plans.specs.lisa_meaning.States

@@ -1,0 +1,2 @@
+pub use Rattle.lisa_forms.proofs.Decoded
+pub use Rattle.lisa_forms.proofs.Walking

@@ -1,0 +1,3 @@
+pub use Rattle.lisa_forms.specs.form_patterns.Filled
+pub use Rattle.lisa_forms.specs.form_patterns.Instructions
+pub use Rattle.lisa_forms.specs.form_patterns.Rows

@@ -1,0 +1,2 @@
+pub use Rattle.lisa_forms.specs.form_texts.Instructions
+pub use Rattle.lisa_forms.specs.form_texts.Syntaxes

@@ -1,0 +1,1 @@
+pub use Rattle.lisa_forms.specs.machine_parts.Parts

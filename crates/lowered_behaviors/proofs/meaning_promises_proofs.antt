@@ -1,0 +1,3 @@
+pub use Rattle.lowered_resources.proofs.meaning_promises_proofs.Kept
+pub use Rattle.lowered_resources.proofs.meaning_promises_proofs.Occurring
+pub use Rattle.lowered_resources.proofs.meaning_promises_proofs.RootWords

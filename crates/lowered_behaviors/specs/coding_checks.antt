@@ -1,0 +1,2 @@
+pub use Rattle.lowered_words.specs.coding_checks.Uneven
+pub use Rattle.lowered_words.specs.coding_checks.Widths

@@ -1,0 +1,1 @@
+pub use Rattle.lowered_words.specs.coding_tables.Instructions

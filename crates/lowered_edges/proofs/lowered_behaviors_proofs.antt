@@ -1,0 +1,3 @@
+pub use Rattle.lowered_behaviors.proofs.Choosing
+pub use Rattle.lowered_behaviors.proofs.Once
+pub use Rattle.lowered_behaviors.proofs.Sources

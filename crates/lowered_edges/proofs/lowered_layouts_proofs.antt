@@ -1,0 +1,2 @@
+pub use Rattle.lowered_layouts.proofs.Items
+pub use Rattle.lowered_layouts.proofs.Widths

@@ -1,0 +1,3 @@
+pub use Rattle.lowered_behaviors.specs.Behaviors
+pub use Rattle.lowered_behaviors.specs.Standpoints
+pub use Rattle.lowered_behaviors.specs.Values

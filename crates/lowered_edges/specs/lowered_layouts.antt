@@ -1,0 +1,3 @@
+pub use Rattle.lowered_layouts.specs.Ends
+pub use Rattle.lowered_layouts.specs.Items
+pub use Rattle.lowered_layouts.specs.Temps

@@ -1,0 +1,2 @@
+pub use Rattle.instruction_forms.specs.coding_checks.Uneven
+pub use Rattle.instruction_forms.specs.coding_checks.Widths

@@ -1,0 +1,3 @@
+pub use Rattle.lisa_meaning.proofs.lisa_machine_proofs.Decoding
+pub use Rattle.lisa_meaning.proofs.lisa_machine_proofs.Resolved
+pub use Rattle.lisa_meaning.proofs.lisa_machine_proofs.Sound

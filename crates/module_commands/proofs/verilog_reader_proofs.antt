@@ -1,0 +1,1 @@
+pub use Rattle.verilog_reader.proofs.TextLaws

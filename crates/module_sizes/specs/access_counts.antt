@@ -1,0 +1,1 @@
+pub use Rattle.access_counts.specs.Ledgers

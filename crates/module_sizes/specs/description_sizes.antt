@@ -1,0 +1,1 @@
+pub use Rattle.description_weight.specs.description_sizes.Sizes

@@ -1,0 +1,2 @@
+pub use Rattle.lisa_machine.specs.Machines
+pub use Rattle.lisa_machine.specs.Verdicts

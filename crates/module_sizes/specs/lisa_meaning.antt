@@ -1,0 +1,1 @@
+pub use Rattle.touch_promises.specs.lisa_meaning.States

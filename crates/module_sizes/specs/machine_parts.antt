@@ -1,0 +1,1 @@
+pub use Rattle.lisa_machine.specs.machine_parts.Parts

@@ -1,0 +1,1 @@
+pub use Rattle.netlist_rules.specs.Sizes

@@ -1,0 +1,1 @@
+pub use Rattle.lowered_edges.specs.program_declarations.Laws

@@ -1,0 +1,1 @@
+pub use Rattle.lisa_meaning.proofs.activation_trees_proofs.Lying

@@ -1,0 +1,3 @@
+pub use Rattle.lisa_meaning.proofs.form_patterns_proofs.Filling
+pub use Rattle.lisa_meaning.proofs.form_patterns_proofs.Standing
+pub use Rattle.lisa_meaning.proofs.form_patterns_proofs.Views

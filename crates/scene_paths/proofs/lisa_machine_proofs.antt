@@ -1,0 +1,13 @@
+pub use Rattle.lisa_meaning.proofs.lisa_machine_proofs.Among
+pub use Rattle.lisa_meaning.proofs.lisa_machine_proofs.Assigned
+pub use Rattle.lisa_meaning.proofs.lisa_machine_proofs.Chosen
+pub use Rattle.lisa_meaning.proofs.lisa_machine_proofs.Decoding
+pub use Rattle.lisa_meaning.proofs.lisa_machine_proofs.Distinct
+pub use Rattle.lisa_meaning.proofs.lisa_machine_proofs.Entries
+pub use Rattle.lisa_meaning.proofs.lisa_machine_proofs.Fitting
+pub use Rattle.lisa_meaning.proofs.lisa_machine_proofs.Forward
+pub use Rattle.lisa_meaning.proofs.lisa_machine_proofs.Named
+pub use Rattle.lisa_meaning.proofs.lisa_machine_proofs.Resolved
+pub use Rattle.lisa_meaning.proofs.lisa_machine_proofs.Settling
+pub use Rattle.lisa_meaning.proofs.lisa_machine_proofs.Sound
+pub use Rattle.lisa_meaning.proofs.lisa_machine_proofs.Standing

@@ -1,0 +1,1 @@
+pub use Rattle.lisa_meaning.specs.description_sizes.Texts

@@ -1,0 +1,1 @@
+pub use Rattle.lisa_meaning.specs.instruction_forms.Trees

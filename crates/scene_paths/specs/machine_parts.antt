@@ -1,0 +1,1 @@
+pub use Rattle.lisa_meaning.specs.machine_parts.Parts

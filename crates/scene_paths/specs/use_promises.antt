@@ -1,0 +1,3 @@
+pub use Rattle.lisa_meaning.specs.use_promises.Meant
+pub use Rattle.lisa_meaning.specs.use_promises.Using
+pub use Rattle.lisa_meaning.specs.use_promises.Valued

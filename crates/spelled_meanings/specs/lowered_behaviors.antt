@@ -1,0 +1,1 @@
+pub use Rattle.lowered_behaviors.specs.Agreement

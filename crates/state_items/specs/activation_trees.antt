@@ -1,0 +1,3 @@
+pub use Rattle.lisa_meaning.specs.activation_trees.Items
+pub use Rattle.lisa_meaning.specs.activation_trees.Unfolding
+pub use Rattle.lisa_meaning.specs.activation_trees.declared

@@ -1,0 +1,2 @@
+pub use Rattle.lisa_meaning.specs.lisa_forms.Parts
+pub use Rattle.lisa_meaning.specs.lisa_forms.Verdicts

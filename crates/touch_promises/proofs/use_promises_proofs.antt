@@ -1,0 +1,1 @@
+pub use Rattle.lisa_meaning.proofs.use_promises_proofs.Traits

@@ -1,0 +1,1 @@
+pub use Rattle.lisa_meaning.specs.use_promises.Meant

@@ -1,0 +1,1 @@
+pub use Rattle.lisa_machine.proofs.description_graph_proofs.Hits

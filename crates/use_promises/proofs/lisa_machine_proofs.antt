@@ -1,0 +1,17 @@
+pub use Rattle.lisa_machine.proofs.Among
+pub use Rattle.lisa_machine.proofs.Assigned
+pub use Rattle.lisa_machine.proofs.Choosing
+pub use Rattle.lisa_machine.proofs.Chosen
+pub use Rattle.lisa_machine.proofs.Decoding
+pub use Rattle.lisa_machine.proofs.Distinct
+pub use Rattle.lisa_machine.proofs.Entries
+pub use Rattle.lisa_machine.proofs.Falling
+pub use Rattle.lisa_machine.proofs.Fitting
+pub use Rattle.lisa_machine.proofs.Forward
+pub use Rattle.lisa_machine.proofs.Named
+pub use Rattle.lisa_machine.proofs.Narrowed
+pub use Rattle.lisa_machine.proofs.Resolved
+pub use Rattle.lisa_machine.proofs.Settling
+pub use Rattle.lisa_machine.proofs.Sound
+pub use Rattle.lisa_machine.proofs.Standing
+pub use Rattle.lisa_machine.proofs.Typing

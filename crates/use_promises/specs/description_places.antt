@@ -1,0 +1,3 @@
+pub use Rattle.description_places.specs.Places
+pub use Rattle.description_places.specs.Scopes
+pub use Rattle.description_places.specs.declared

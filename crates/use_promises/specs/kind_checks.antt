@@ -1,0 +1,1 @@
+pub use Rattle.lisa_machine.specs.kind_checks.Narrowings

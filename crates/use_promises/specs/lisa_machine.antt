@@ -1,0 +1,11 @@
+pub use Rattle.lisa_machine.specs.Assigning
+pub use Rattle.lisa_machine.specs.Codings
+pub use Rattle.lisa_machine.specs.Declaring
+pub use Rattle.lisa_machine.specs.Distinctness
+pub use Rattle.lisa_machine.specs.Freedom
+pub use Rattle.lisa_machine.specs.Machines
+pub use Rattle.lisa_machine.specs.Ranks
+pub use Rattle.lisa_machine.specs.Resolving
+pub use Rattle.lisa_machine.specs.Running
+pub use Rattle.lisa_machine.specs.Soundness
+pub use Rattle.lisa_machine.specs.Verdicts

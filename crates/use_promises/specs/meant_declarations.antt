@@ -1,0 +1,1 @@
+pub use Rattle.lisa_machine.specs.meant_declarations.Meant

@@ -1,0 +1,1 @@
+pub use Rattle.checked_descriptions.proofs.Listed

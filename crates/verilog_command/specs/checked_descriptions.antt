@@ -1,0 +1,3 @@
+pub use Rattle.checked_descriptions.specs.Checked
+pub use Rattle.checked_descriptions.specs.DescriptionImages
+pub use Rattle.checked_descriptions.specs.Descriptions
