@@ -1,7 +1,6 @@
 mod Followed
 mod Sized
 mod Chosen
-pub mod form_promises_proofs
-pub mod lisa_machine_proofs
-pub mod lisa_meaning_proofs
-pub mod use_promises_proofs
+pub use Rattle.lisa_meaning.proofs.form_promises_proofs
+pub use Rattle.lisa_meaning.proofs as lisa_meaning_proofs
+pub use Rattle.lisa_meaning.proofs.use_promises_proofs

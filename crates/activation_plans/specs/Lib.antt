@@ -1,6 +1,4 @@
 pub mod Growing
-pub mod activation_trees
-pub mod description_sizes
-pub mod lisa_forms
-pub mod lisa_machine
-pub mod lisa_meaning
+pub use Rattle.lisa_meaning.specs.description_sizes
+pub use Rattle.lisa_meaning.specs.lisa_forms
+pub use Rattle.lisa_meaning.specs as lisa_meaning

@@ -13,7 +13,8 @@ ghost use Rattle.lisa_meaning.specs.Trees.{level_of_stage, acts_within, followed
 ghost use Rattle.activation_plans.specs.Growing.{activator, alone, IsGrown, root_by};
 
 use coded_names::names_instructions;
-use lisa_meaning::{Occurrence, sections};
+use lisa_meaning::activation_trees::Occurrence;
+use lisa_meaning::description_types::sections;
 use lisa_tree::{Act, Names, What, activation, coding};
 use lisa_words::{Name, NoMemory};
 use pipeline_runs::Tree;

@@ -5,5 +5,6 @@ mod copies;
 mod growing;
 mod plans;
 
-pub use lisa_meaning::{Coding, Forms, Machine, Occurrence, laws};
+pub use lisa_meaning;
+pub use lisa_meaning::lisa_forms;
 pub use plans::make_plan;

@@ -15,7 +15,8 @@ ghost use Rattle.lisa_meaning.specs.Cores.{core_of, root_level};
 
 use crate::copies::list_nodes;
 use crate::growing::{first, grow_below, level_of_stage};
-use lisa_meaning::{Occurrence, is_root, operation_count};
+use lisa_meaning::activation_trees::Occurrence;
+use lisa_meaning::description_types::{is_root, operation_count};
 use lisa_tree::{Names, Resource};
 use lisa_words::{Name, NoMemory};
 use pipeline_runs::{Plan, Tree};

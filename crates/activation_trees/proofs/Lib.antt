@@ -8,6 +8,6 @@ pub mod Listed
 pub mod Lying
 pub mod Ordered
 pub mod Placing
-pub mod description_graph_proofs
-pub mod lisa_machine_proofs
-pub mod stage_checks_proofs
+pub use Rattle.lisa_machine.proofs as lisa_machine_proofs
+pub use Rattle.lisa_machine.proofs.machine_parts_proofs
+pub use Rattle.lisa_machine.proofs.stage_checks_proofs

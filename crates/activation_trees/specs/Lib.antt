@@ -5,9 +5,9 @@ pub mod Sums
 pub mod Items
 pub mod Activators
 pub mod Places
-pub mod description_graph
-pub mod least_fixed_points
-pub mod lisa_engine
-pub mod lisa_machine
-pub mod shape_checks
-pub mod stage_checks
+pub use Rattle.least_fixed_points.specs as least_fixed_points
+pub use Rattle.lisa_machine.specs.lisa_engine
+pub use Rattle.lisa_machine.specs as lisa_machine
+pub use Rattle.lisa_machine.specs.machine_parts
+pub use Rattle.lisa_machine.specs.stage_checks
+pub use Rattle.lisa_machine.specs.typed_values

@@ -5,7 +5,7 @@ use Rattle.std.specs.Option.{option_map_or}
 use Rattle.lisa_tree.specs.Descriptions.{DescriptionTree}
 use Rattle.lisa_tree.specs.Operations.{sections_at, coding_in}
 use Rattle.lisa_machine.specs.coded_names.Codings.{names_instructions}
-use Rattle.graph_paths.specs.Paths.{is_in}
+use Rattle.lisa_machine.specs.graph_paths.Paths.{is_in}
 use Rattle.activation_trees.specs.declared.parts.Occurrence.{Occurrence}
 use Rattle.activation_trees.specs.Starting.{Activated, activated, plain_named, activating_names}
 use Rattle.activation_trees.specs.Unfolding.{occurrences}

@@ -2,15 +2,15 @@
 #![tactic(auto, using(crate::proofs::Rows::regroup, crate::proofs::Placing::one_by))]
 
 ghost use Rattle.std.specs.Prelude.{◌≡◌, ◌<◌, ◌+◌, ◌++◌, ◌-◌, ◌^◌, ℕ, Some, IfOk, OnOk, length, map};
-ghost use Rattle.stage_checks.specs.Graphs.{names_in};
+ghost use Rattle.lisa_machine.specs.stage_checks.Graphs.{names_in};
 ghost use Rattle.activation_trees.specs.Starting.{plain_named, activating_names};
 ghost use Rattle.activation_trees.specs.Places.{AreParentsBefore, ArePlaces, count_at, count_more};
 
 use crate::parts::Occurrence;
 use crate::starts::{activation_names, started};
-use lisa_machine::sections;
+use lisa_machine::description_types::sections;
 use lisa_tree::Names;
-use lisa_words::Name;
+use lisa_tree::lisa_words::Name;
 use std::alloc::{AllocError, Global};
 
 // Adds a name once for each alternative of what an operation declares by it.

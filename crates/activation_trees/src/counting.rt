@@ -11,11 +11,12 @@ ghost use Rattle.activation_trees.specs.Sums.{weight, added, summed, start_nodes
 use crate::parts::Start;
 use crate::starts::{all_starts, row};
 use crate::unfolding::main_at;
-use graph_paths::order;
 use least_fixed_points::{Rule, settle_along};
-use lisa_machine::{edges, is_root, known_choice, known_operation, operation_count};
+use lisa_machine::description_graph::edges;
+use lisa_machine::description_types::{is_root, known_choice, known_operation, operation_count};
+use lisa_machine::graph_paths::order;
 use lisa_tree::Names;
-use lisa_words::NoMemory;
+use lisa_tree::lisa_words::NoMemory;
 use std::alloc::Global;
 
 // An operation counts once, or only where it is this one.

@@ -15,7 +15,8 @@ pub use laws::{
     activators_come_first, children_stand_in_order, further_levels_unfold_nothing,
     names_tell_what_is_activated, occurrences_run,
 };
-pub use lisa_machine::{Item, operation_count};
+pub use lisa_machine;
+pub use lisa_machine::{lisa_engine, machine_parts};
 pub use listing::{count_items, items};
 pub use parts::Occurrence;
 pub use unfolding::occurrences;

@@ -7,13 +7,14 @@ ghost use Rattle.activation_trees.specs.Unfolding.{capped};
 ghost use Rattle.activation_trees.specs.Items.{field_item, boundary, boundary_items, stage_or_first, root_stage, word_item, word_items, is_between, has_bit, bit_item, bits_from, bit_items, items_behind, items_of};
 
 use crate::parts::Occurrence;
-use lisa_machine::{Item, is_root, operation_name};
+use lisa_machine::description_types::{is_root, operation_name};
+use lisa_machine::lisa_engine::Item;
+use lisa_tree::lisa_words::{Name, NoMemory, decimal};
 use lisa_tree::{Names, Resource, Shape};
-use lisa_words::{Name, NoMemory, decimal};
 use std::alloc::Global;
 
 // The stages of the pipeline.
-#[tactic(auto, using(description_tables::proofs::Lists::one_resource))]
+#[tactic(auto, using(lisa_machine::proofs::description_tables_proofs::Lists::one_resource))]
 fn stages<N: Names>(names: &N) -> &[Name]
     ensures { result.now ≡ stages (N.tree names.now) }
 {
@@ -27,7 +28,7 @@ fn stages<N: Names>(names: &N) -> &[Name]
 }
 
 // The fields of the pipeline's boundaries.
-#[tactic(auto, using(description_tables::proofs::Lists::one_resource))]
+#[tactic(auto, using(lisa_machine::proofs::description_tables_proofs::Lists::one_resource))]
 fn fields<N: Names>(names: &N) -> &[(Shape, Name)]
     ensures { result.now ≡ fields (N.tree names.now) }
 {

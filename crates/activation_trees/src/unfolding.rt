@@ -5,14 +5,14 @@ ghost use Rattle.std.specs.Option.{option_or};
 ghost use Rattle.lisa_tree.specs.Descriptions.{DescriptionTree};
 ghost use Rattle.lisa_tree.specs.Operations.{number_of, own_stage};
 ghost use Rattle.lisa_machine.specs.description_graph.Circles.{IsFirstCircularOperation};
-ghost use Rattle.stage_checks.specs.Controls.{main_name};
+ghost use Rattle.lisa_machine.specs.stage_checks.Controls.{main_name};
 ghost use Rattle.activation_trees.specs.Starting.{activation, activated_by, AreStarts};
 ghost use Rattle.activation_trees.specs.Unfolding.{occurrence, child, firsts, occurrences, occurrence_count, IsUnfolding};
 
 use crate::parts::{Occurrence, Start};
 use crate::starts::{all_starts, row};
 use lisa_tree::Names;
-use lisa_words::{Name, NoMemory};
+use lisa_tree::lisa_words::{Name, NoMemory};
 use std::alloc::{AllocError, Global};
 
 /// The number of `main`.

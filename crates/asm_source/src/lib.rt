@@ -13,5 +13,6 @@ mod reader;
 
 pub use bytes::is_name;
 pub use flaw::SourceFault;
+pub use lisa_words;
 pub use parts::{CellValue, LineToken, Part, SourceLine, Sum, Term};
 pub use reader::{read_line, read_source};

@@ -7,4 +7,4 @@ mod ListingEnds
 mod LineCounts
 mod Sourced
 mod SourceImages
-pub mod checked_descriptions_proofs
+pub use Rattle.checked_descriptions.proofs as checked_descriptions_proofs

@@ -10,7 +10,7 @@ use Rattle.std.proofs.lemmas.List.Sums.{sum_by-cons}
 use Rattle.lisa_tree.specs.Descriptions as trees
 use Rattle.lisa_tree.specs.Descriptions.{ResourceTree, DescriptionTree}
 use Rattle.lisa_engine.specs.declared.parts.ArrayItem.{ArrayItem}
-use Rattle.item_promises.specs.machine_parts.Parts.{array, array_in, arrays_of, memories_of}
+use Rattle.machine_parts.specs.Parts.{array, array_in, arrays_of, memories_of}
 use Rattle.item_promises.specs.description_sizes.Cells.{depth_in, cell_count}
 use Rattle.item_promises.specs.use_promises.Showing.{FitsArray, FitsShown}
 use Rattle.lisa_linker.specs.Memories.{IsPlace, AreMemories}

@@ -5,7 +5,7 @@ use Rattle.std.specs.Int.{is_power_of_two}
 use Rattle.std.proofs.lemmas.Bool.{eqb-true}
 use Rattle.std.proofs.lemmas.Nat.{ones-le, ones_cat, zero_from_ones, pow-add}
 use Rattle.lisa_engine.specs.Images.{IsDepth}
-use Rattle.item_promises.specs.lisa_machine.Resolving as resolving
+use Rattle.source_promises.specs.lisa_machine.Resolving as resolving
 
 digit : (n : ℕ) → n < 2 → count_ones n ≡ n
 unfolding lib.Count.ones

@@ -7,7 +7,7 @@ use Rattle.lisa_tree.specs.Descriptions.{DescriptionTree}
 use Rattle.lisa_tree.specs.Texts.{SpellsText}
 use Rattle.checked_descriptions.proofs.lisa_reader_proofs.ByteLaws.{one_description}
 use Rattle.lisa_engine.specs.Memory.{Memory}
-use Rattle.item_promises.specs.lisa_machine.Verdicts.{IsAccepted}
+use Rattle.source_promises.specs.lisa_machine.Verdicts.{IsAccepted}
 use Rattle.item_promises.specs.lisa_forms.Verdicts.{HasForms}
 use Rattle.lisa_object.specs.Objects.{PlainObject}
 use Rattle.lisa_object.specs.Rules.{IsDigest}

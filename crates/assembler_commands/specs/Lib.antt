@@ -5,11 +5,9 @@ pub mod Links
 pub mod Listed
 pub mod Unlinked
 pub mod Programs
-pub mod checked_descriptions
-pub mod description_sizes
-pub mod lisa_assembler
-pub mod lisa_disasm
-pub mod lisa_forms
-pub mod lisa_machine
-pub mod object_links
-pub mod source_promises
+pub use Rattle.checked_descriptions.specs as checked_descriptions
+pub use Rattle.source_promises.specs.lisa_assembler
+pub use Rattle.item_promises.specs.lisa_forms
+pub use Rattle.source_promises.specs.lisa_machine
+pub use Rattle.object_links.specs as object_links
+pub use Rattle.source_promises.specs as source_promises

@@ -4,7 +4,7 @@ ghost use Rattle.asm_source.specs.declared.flaw.SourceFault.TheVariants as fault
 ghost use Rattle.asm_source.specs.Plain.{line_tree};
 ghost use Rattle.lisa_tree.specs.Descriptions.{description_tree};
 ghost use Rattle.description_digest.specs.Digests.{digest_of};
-ghost use Rattle.item_promises.specs.lisa_machine.Machines.{IsSpelled};
+ghost use Rattle.source_promises.specs.lisa_machine.Machines.{IsSpelled};
 ghost use Rattle.lisa_object.specs.Objects.{object_tree};
 ghost use Rattle.lisa_object.specs.ObjectText.{object_text};
 ghost use Rattle.source_promises.specs.lisa_assembler.Objects.{IsObjectOf};
@@ -30,7 +30,8 @@ use lisa_io::Sink;
 use lisa_object::{Object, print_object};
 use lisa_outcomes::{End, Refusal};
 use lisa_tree::Description;
-use source_promises::{Tools as Assembler, assemble, assemble_bytes, sources_have_one_answer};
+use source_promises::lisa_assembler::{Tools as Assembler, assemble, assemble_bytes};
+use source_promises::sources_have_one_answer;
 use std::alloc::Global;
 
 // The end of a command whose source wasn't read or assembled.

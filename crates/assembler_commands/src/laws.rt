@@ -4,7 +4,8 @@ ghost use Rattle.lisa_outcomes.specs.Outcomes.{Finished};
 ghost use Rattle.assembler_commands.specs.Links.{GivesLink};
 ghost use Rattle.assembler_commands.specs.Programs.{GivesObjects, IsImageText};
 
-use item_promises::{machines_show, sizes_are_limited};
+use item_promises::sizes_are_limited;
+use item_promises::use_promises::machines_show;
 use lisa_object::objects_are_unique;
 use source_promises::{objects_of_sources_keep_rules, sources_link_to_their_image};
 

@@ -12,12 +12,11 @@ mod objects;
 mod writing;
 
 pub use assembling::{assemble_source, lines_of, object_of};
-pub use checked_descriptions::{Tools, description_of, tools_of};
-pub use item_promises::{machines_show, sizes_are_limited};
+pub use checked_descriptions;
+pub use item_promises;
+pub use item_promises::use_promises;
 pub use laws::linked_sources_are_their_image;
 pub use linking::{image_of, link_objects};
 pub use listing::list_image;
-pub use source_promises::{
-    objects_of_sources_keep_rules, sources_have_one_answer, sources_link_to_their_image,
-};
+pub use source_promises;
 pub use writing::write_text;

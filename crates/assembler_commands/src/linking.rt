@@ -4,7 +4,7 @@ ghost use Rattle.lisa_tree.specs.Descriptions.{description_tree};
 ghost use Rattle.description_digest.specs.Digests.{digest_of};
 ghost use Rattle.lisa_engine.specs.Images.{IsImage};
 ghost use Rattle.item_promises.specs.lisa_forms.Verdicts.{HasForms};
-ghost use Rattle.item_promises.specs.lisa_machine.Machines.{IsSpelled};
+ghost use Rattle.source_promises.specs.lisa_machine.Machines.{IsSpelled};
 ghost use Rattle.lisa_object.specs.Objects.{object_tree};
 ghost use Rattle.lisa_object.specs.ObjectRules.{IsObject};
 ghost use Rattle.lisa_object.specs.Texts.{image_text};
@@ -22,13 +22,13 @@ use crate::objects::objects_for;
 use crate::writing::write_text;
 use checked_descriptions::{Tools, description_of, tools_of};
 use description_digest::digest;
-use item_promises::Machine;
 use lisa_engine::Image;
 use lisa_io::Sink;
 use lisa_linker::link;
 use lisa_object::{LinkFault, Object, Stamped, print_image};
 use lisa_outcomes::{End, Refusal};
 use lisa_tree::Description;
+use source_promises::lisa_machine::Machine;
 use std::alloc::Global;
 
 // The end of a command whose objects weren't linked.

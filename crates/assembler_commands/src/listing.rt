@@ -5,7 +5,7 @@ ghost use Rattle.std.specs.Option.{option_copied};
 ghost use Rattle.lisa_tree.specs.Descriptions.{description_tree};
 ghost use Rattle.lisa_engine.specs.Images.{is_array};
 ghost use Rattle.item_promises.specs.lisa_forms.Verdicts.{HasForms};
-ghost use Rattle.item_promises.specs.lisa_machine.Machines.{IsSpelled};
+ghost use Rattle.source_promises.specs.lisa_machine.Machines.{IsSpelled};
 ghost use Rattle.source_promises.specs.lisa_assembler.Memories.{memory_items};
 ghost use Rattle.lisa_outcomes.specs.Replies.{Replies};
 ghost use Rattle.lisa_outcomes.specs.Stages.{Finds};
@@ -20,7 +20,6 @@ ghost use Rattle.assembler_commands.specs.Listed.{AreThere, IsListed, Lists, Lis
 
 use crate::memories::memories_of;
 use checked_descriptions::{Tools, description_of, image_for, tools_of};
-use item_promises::Machine;
 use lisa_disasm::write_listing;
 use lisa_engine::{ArrayItem, Image, ImageMemory, TraceEnd};
 use lisa_io::Sink;
@@ -28,6 +27,7 @@ use lisa_object::ImageFault;
 use lisa_outcomes::{End, Refusal, RunBytes};
 use lisa_tree::Description;
 use lisa_words::Name;
+use source_promises::lisa_machine::Machine;
 use std::alloc::Global;
 
 // A memory of an image is one of these.

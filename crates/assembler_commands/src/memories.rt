@@ -5,9 +5,11 @@ ghost use Rattle.source_promises.specs.lisa_assembler.Memories.{marked, memory_i
 ghost use Rattle.item_promises.specs.lisa_forms.Verdicts.{HasForms};
 ghost use Rattle.lisa_linker.specs.Memories.{AreMemories};
 
-use item_promises::{Machine, machines_show, sizes_are_limited};
+use item_promises::sizes_are_limited;
+use item_promises::use_promises::machines_show;
 use lisa_engine::ArrayItem;
 use lisa_words::NoMemory;
+use source_promises::lisa_machine::Machine;
 use std::alloc::Global;
 
 // The same array.

@@ -2,5 +2,5 @@ pub mod Views
 pub mod Registers
 pub mod Rooms
 pub mod Running
-pub mod moment_stores
-pub mod scene_paths
+pub use Rattle.moment_stores.specs as moment_stores
+pub use Rattle.scene_paths.specs as scene_paths

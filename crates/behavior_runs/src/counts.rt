@@ -6,7 +6,7 @@ ghost use Rattle.behavior_runs.specs.Rooms.{all_locals, locals_in, most_locals, 
 
 use lisa_tree::{Operation, Section, Stmt};
 use lisa_words::NoMemory;
-use moment_stores::Machine;
+use moment_stores::lisa_machine::Machine;
 
 // How many locals a statement declares. As many as no memory holds are answered as want of it, here and below.
 #[cycle(counts)]

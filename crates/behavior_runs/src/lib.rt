@@ -18,5 +18,5 @@ mod views;
 pub use behaviors::behave;
 pub use counts::count_locals;
 pub use evaluation::evaluate;
-pub use moment_stores::Store;
+pub use moment_stores;
 pub use roots::{fetch, holds};

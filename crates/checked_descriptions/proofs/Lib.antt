@@ -5,5 +5,4 @@ mod InstructionVerdicts
 pub mod Listed
 mod Tooled
 mod Imaging
-pub mod form_promises_proofs
-pub mod lisa_reader_proofs
+pub use Rattle.lisa_reader.proofs as lisa_reader_proofs

@@ -6,9 +6,7 @@ pub mod DescriptionImages
 pub mod ImageViews
 pub mod ToolViews
 pub mod Unread
-pub mod activation_trees
-pub mod coding_tables
-pub mod description_sizes
-pub mod engine_commands
-pub mod lisa_forms
-pub mod lisa_syntax
+pub use Rattle.lisa_syntax.specs.description_sizes
+pub use Rattle.engine_commands.specs as engine_commands
+pub use Rattle.lisa_syntax.specs.lisa_forms
+pub use Rattle.lisa_syntax.specs as lisa_syntax

@@ -10,7 +10,9 @@ ghost use Rattle.checked_descriptions.specs.ToolViews.{checked_of, AreTools};
 
 use crate::reading::unread;
 use lisa_outcomes::End;
-use lisa_syntax::{Coding, Forms, Machine, Syntax, check};
+use lisa_syntax::Syntax;
+use lisa_syntax::lisa_forms::{Coding, Forms};
+use lisa_syntax::lisa_machine::{Machine, check};
 use lisa_tree::{DescFault, Description};
 use std::alloc::Global;
 

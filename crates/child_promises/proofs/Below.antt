@@ -20,11 +20,11 @@ use Rattle.activation_trees.specs.Places.{IsBelow, IsBelowBy, HasName, place, na
 use Rattle.activation_trees.proofs.Lying.{has_activator}
 use Rattle.activation_trees.proofs.Ordered.{at_place, has_name}
 use Rattle.instruction_forms.specs.Trees.{FormTree}
-use Rattle.lisa_meaning.specs.lisa_forms.declared.way.Way.{Way}
-use Rattle.lisa_meaning.specs.lisa_forms.declared.way.Way.TheVariants as ways
-use Rattle.lisa_meaning.specs.lisa_forms.Choosing.{child_place, child_at, operation_of}
-use Rattle.lisa_meaning.specs.lisa_forms.Ways.{by_place, by_name, by_activator, way_below, way}
-use Rattle.lisa_meaning.specs.lisa_forms.Standings.{part_in, matched, matched_in, matched_child, beside, stood}
+use Rattle.lisa_forms.specs.declared.way.Way.{Way}
+use Rattle.lisa_forms.specs.declared.way.Way.TheVariants as ways
+use Rattle.lisa_forms.specs.Choosing.{child_place, child_at, operation_of}
+use Rattle.lisa_forms.specs.Ways.{by_place, by_name, by_activator, way_below, way}
+use Rattle.lisa_forms.specs.Standings.{part_in, matched, matched_in, matched_child, beside, stood}
 use Rattle.lisa_meaning.specs.Standings.{Stood, standing}
 use Rattle.lisa_meaning.specs.Scenes.{Link, link, instruction_with, home, part_at, child_part, chosen, onto, child_at_home, child, occurrence_part, scene_by, has_word, scene_with, scene_of}
 use Rattle.lisa_meaning.specs.Cores.{is_root_at, chooses}

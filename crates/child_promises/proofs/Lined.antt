@@ -8,7 +8,7 @@ use Rattle.activation_trees.specs.Unfolding.{occurrences}
 use Rattle.activation_trees.specs.Activators.{IsChild, HasActivator}
 use Rattle.activation_trees.proofs.Lying.{has_activator}
 use Rattle.instruction_forms.specs.Trees.{FormTree}
-use Rattle.lisa_meaning.specs.lisa_forms.Standings.{part_in}
+use Rattle.lisa_forms.specs.Standings.{part_in}
 use Rattle.lisa_meaning.specs.Standings.{Stood, standing}
 use Rattle.lisa_meaning.specs.Scenes.{Link, link, line_within, occurrence_part, occurrence_link}
 use Rattle.meaning_promises.proofs.Standing.{chosen_is_past, standing_is}

@@ -21,7 +21,7 @@ use Rattle.lisa_machine.proofs.Starting.{Started, acts_started}
 use Rattle.use_promises.specs.Using.{IsStartable}
 use Rattle.use_promises.proofs.Used.{starts_child}
 use Rattle.activation_trees.specs.Starting.{plain_of, plain_named, names_by, activating_names}
-use Rattle.lisa_meaning.specs.lisa_forms.Choosing.{child_place}
+use Rattle.lisa_forms.specs.Choosing.{child_place}
 use Rattle.lisa_meaning.specs.Scenes.{declared}
 use Rattle.lisa_meaning.proofs.Above.{owner_is, name_is}
 use Rattle.meaning_promises.proofs.Formed.{coded_placed}

@@ -5,7 +5,7 @@ ghost use Rattle.lisa_tree.specs.Descriptions.{DescriptionTree};
 ghost use Rattle.lisa_machine.specs.Verdicts.{IsAccepted};
 ghost use Rattle.activation_trees.specs.declared.parts.Occurrence.{Occurrence};
 ghost use Rattle.activation_trees.specs.Places.{IsBelow, IsBelowBy};
-ghost use Rattle.lisa_meaning.specs.lisa_forms.Verdicts.{HasForms};
+ghost use Rattle.lisa_forms.specs.Verdicts.{HasForms};
 ghost use Rattle.lisa_meaning.specs.Scenes.{child, has_word, scene_of};
 ghost use Rattle.lisa_meaning.specs.Cores.{chooses};
 

@@ -7,7 +7,8 @@ ghost use Rattle.lisa_syntax.specs.Parts.{IsSyntaxOf};
 
 use lisa_machine::{Machine, check};
 use lisa_reader::read_description;
-use lisa_syntax::{Coding, Forms, Syntax};
+use lisa_syntax::Syntax;
+use lisa_syntax::lisa_forms::{Coding, Forms};
 use lisa_tree::DescFault;
 use std::alloc::Global;
 

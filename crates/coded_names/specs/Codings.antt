@@ -1,8 +1,8 @@
 -- What the coding and the syntax of an operation say of a name.
 use Rattle.std.specs.Prelude.{ℕ, ◌-◌, ◌^◌, Bool, true, false, List, [], ◌∷◌, Option, None, Some, cond, length, min}
 use Rattle.std.specs.Option.{option_or, is_some}
-use Rattle.lisa_words.specs.declared.words.Kind.{Kind}
-use Rattle.lisa_words.specs.declared.words.Kind.TheVariants as kinds
+use Rattle.lisa_tree.specs.lisa_words.declared.words.Kind.{Kind}
+use Rattle.lisa_tree.specs.lisa_words.declared.words.Kind.TheVariants as kinds
 use Rattle.lisa_tree.specs.declared.descriptions.Pattern.{Pattern}
 use Rattle.lisa_tree.specs.declared.descriptions.Format.{Format}
 use Rattle.lisa_tree.specs.declared.descriptions.Format.TheVariants as formats

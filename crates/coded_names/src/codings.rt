@@ -4,8 +4,8 @@ ghost use Rattle.std.specs.Prelude.{◌≡◌, option_map};
 ghost use Rattle.lisa_tree.specs.Descriptions.{coding_tree};
 ghost use Rattle.coded_names.specs.Codings.{pattern_width, format_kind, names_instructions, is_coding};
 
+use lisa_tree::lisa_words::{Kind, Name};
 use lisa_tree::{CodingPart, Format, Pattern};
-use lisa_words::{Kind, Name};
 
 /// How many bits a pattern has, as far as a type's width tells it.
 pub fn pattern_width(pattern: &Pattern) -> u32

@@ -5,4 +5,5 @@ mod codings;
 mod tables;
 
 pub use codings::{is_coding, names_instructions, pattern_width};
+pub use lisa_tree::lisa_words;
 pub use tables::CodedNames;

@@ -12,8 +12,8 @@ ghost use Rattle.coded_names.specs.Codings.{if_same, item_width, items_width, fi
 
 use crate::codings::{format_kind, pattern_width};
 use indexmap::IndexMap;
+use lisa_tree::lisa_words::{Kind, Name, NoMemory};
 use lisa_tree::{CodingItem, CodingPart, Section, SyntaxItem, SyntaxPart, coding, syntax};
-use lisa_words::{Kind, Name, NoMemory};
 use std::alloc::{AllocError, Global};
 
 // Notes the value of a name that has none.

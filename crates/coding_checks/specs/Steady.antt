@@ -8,7 +8,7 @@ use Rattle.lisa_tree.specs.Descriptions.{CodingTree, DescriptionTree}
 use Rattle.lisa_tree.specs.Operations.{coding_in, sections_at}
 use Rattle.lisa_tree.specs.Declarations.{choices, alternatives_at}
 use Rattle.lisa_tree.specs.Paths.{Node, Operation, Choosing, Declaring, node_at, choice_node}
-use Rattle.least_fixed_points.specs.Settles.{IsWithin, IsMonotone}
+use Rattle.description_types.specs.least_fixed_points.Settles.{IsWithin, IsMonotone}
 use Rattle.description_types.specs.Larger.{Less, none_less, same_less, within_less}
 use Rattle.coding_checks.specs.Widths.{has_width, shared_width, alternatives_width, choice_width, choice_named, item_width, added, items_width, coding_width, node_width, width_step}
 

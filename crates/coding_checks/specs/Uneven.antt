@@ -9,12 +9,12 @@ use Rattle.lisa_tree.specs.Expressions as exprs
 use Rattle.lisa_tree.specs.Expressions.{ExprTree}
 use Rattle.lisa_tree.specs.Descriptions as trees
 use Rattle.lisa_tree.specs.Descriptions.{ResourceTree, DescriptionTree}
-use Rattle.description_places.specs.Places as places
-use Rattle.description_places.specs.Places.{Condition, first, description_places}
+use Rattle.description_types.specs.description_places.Places as places
+use Rattle.description_types.specs.description_places.Places.{Condition, first, description_places}
 use Rattle.lisa_tree.specs.Resources.{resource_at, field_shape}
 use Rattle.lisa_tree.specs.Operations.{name_at, coding_in, sections_at}
 use Rattle.lisa_tree.specs.Declarations.{alternatives_at}
-use Rattle.coded_names.specs.Codings.{is_coding}
+use Rattle.description_types.specs.coded_names.Codings.{is_coding}
 use Rattle.coding_checks.specs.Widths.{choice_named, child_width, AreWidths}
 
 -- ---- choices

@@ -10,8 +10,8 @@ use Rattle.lisa_tree.specs.declared.declared.What.TheVariants as whats
 use Rattle.lisa_tree.specs.Operations.{coding_in, sections_at}
 use Rattle.lisa_tree.specs.Declarations.{declared_at, what_at, alternatives_at}
 use Rattle.lisa_tree.specs.Paths.{Node, Operation, Choosing, Declaring, node_at, choice_node}
-use Rattle.coded_names.specs.Codings.{pattern_width}
-use Rattle.least_fixed_points.specs.Settles.{Settles}
+use Rattle.description_types.specs.coded_names.Codings.{pattern_width}
+use Rattle.description_types.specs.least_fixed_points.Settles.{Settles}
 
 -- a width, as far as it can be told
 abbrev pub capped : ℕ → ℕ

@@ -9,14 +9,14 @@ use Rattle.lisa_tree.specs.declared.descriptions.SyntaxPart.{SyntaxPart}
 use Rattle.lisa_tree.specs.declared.descriptions.SyntaxPart.TheVariants as parts
 use Rattle.lisa_tree.specs.Descriptions as trees
 use Rattle.lisa_tree.specs.Descriptions.{CodingTree, SectionTree, DescriptionTree}
-use Rattle.description_places.specs.Places as places
-use Rattle.description_places.specs.Places.{Condition}
+use Rattle.description_types.specs.description_places.Places as places
+use Rattle.description_types.specs.description_places.Places.{Condition}
 use Rattle.lisa_tree.specs.declared.declared.What.{What}
 use Rattle.lisa_tree.specs.declared.declared.What.TheVariants as whats
 use Rattle.lisa_tree.specs.Same.{same_name}
 use Rattle.lisa_tree.specs.Operations.{name_at, coding_in, syntax_in, sections_at}
 use Rattle.lisa_tree.specs.Declarations.{declared_at, what_at, owner_at, entry_name_at}
-use Rattle.coded_names.specs.Codings.{in_coding, is_coding}
+use Rattle.description_types.specs.coded_names.Codings.{in_coding, is_coding}
 use Rattle.coding_checks.specs.declared.values.Writing.{Writing}
 use Rattle.coding_checks.specs.declared.values.Times.{Times}
 use Rattle.coding_checks.specs.declared.values.Times.TheVariants as times

@@ -4,11 +4,11 @@ ghost use Rattle.std.specs.Prelude.{◌≡◌, ℕ, IfOk, get_or, false};
 ghost use Rattle.std.specs.Option.{option_or};
 ghost use Rattle.std.specs.List.{list_any};
 ghost use Rattle.lisa_tree.specs.Declarations.{alternatives_at};
-ghost use Rattle.least_fixed_points.specs.Settles.{entry};
+ghost use Rattle.description_types.specs.least_fixed_points.Settles.{entry};
 ghost use Rattle.coding_checks.specs.Uneven.{lacks_coding, is_too_wide, known_widths, differ, is_uneven, are_apart};
 
 use crate::widths::Widths;
-use coded_names::is_coding;
+use description_types::coded_names::is_coding;
 use description_types::sections;
 use lisa_tree::{Names, coding};
 use std::alloc::{AllocError, Global};

@@ -1,8 +1,8 @@
 //! The first fault of each of the two conditions.
 
 ghost use Rattle.std.specs.Prelude.{◌≡◌, IfOk};
-ghost use Rattle.description_places.specs.Places.{first, description_places};
-ghost use Rattle.least_fixed_points.specs.Settles.{entry};
+ghost use Rattle.description_types.specs.description_places.Places.{first, description_places};
+ghost use Rattle.description_types.specs.least_fixed_points.Settles.{entry};
 ghost use Rattle.coding_checks.specs.Widths.{AreWidths};
 ghost use Rattle.coding_checks.specs.Uneven.{group_width, IsFirstGroupWidth};
 ghost use Rattle.coding_checks.specs.Written.{not_written};
@@ -12,9 +12,9 @@ use crate::group_widths::GroupWidths;
 use crate::not_written::NotWritten;
 use crate::widths::Widths;
 use crate::writings::writings;
-use description_places::first_fault;
+use description_types::description_places::first_fault;
+use lisa_tree::lisa_words::NoMemory;
 use lisa_tree::{DescFault, Names};
-use lisa_words::NoMemory;
 use std::alloc::Global;
 
 // The first uneven child or root by what is known of widths.

@@ -4,15 +4,15 @@ ghost use Rattle.std.specs.Prelude.{◌≡◌, ℕ, Option, IfOk, get_or, false,
 ghost use Rattle.lisa_tree.specs.Expressions.{expr_tree};
 ghost use Rattle.lisa_tree.specs.Descriptions.{resource_tree};
 ghost use Rattle.lisa_tree.specs.Declarations.{alternatives_at};
-ghost use Rattle.least_fixed_points.specs.Settles.{entry};
+ghost use Rattle.description_types.specs.least_fixed_points.Settles.{entry};
 ghost use Rattle.coding_checks.specs.Uneven.{is_uneven, child_uneven, shape_width, register_width, place_width, root_uneven, uneven_fault, group_width};
 
 use crate::choices::{are_apart, flag};
 use crate::widths::{Widths, choice_named};
-use description_places::{Condition, Region, Scope, Site};
+use description_types::description_places::{Condition, Region, Scope, Site};
 use description_types::{operation_name, resource};
+use lisa_tree::lisa_words::{Name, NoMemory};
 use lisa_tree::{DescFault, Expr, Names, Resource, Shape};
-use lisa_words::{Name, NoMemory};
 use std::alloc::Global;
 
 fn shape_width(shape: Option<Shape>) -> Option<u64>

@@ -10,5 +10,9 @@ mod values;
 mod widths;
 mod writings;
 
+pub use description_graph;
+pub use description_graph::graph_paths;
+pub use description_types;
+pub use description_types::{coded_names, least_fixed_points};
 pub use firsts::{first_group_width, first_not_written};
 pub use widths::Widths;

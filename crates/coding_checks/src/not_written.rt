@@ -5,10 +5,10 @@ ghost use Rattle.coding_checks.specs.Written.{AreWritings, unwritten_fault, not_
 
 use crate::values::Writing;
 use crate::writings::writing_named;
-use description_places::{Condition, Region, Scope, Site};
+use description_types::description_places::{Condition, Region, Scope, Site};
 use description_types::operation_name;
+use lisa_tree::lisa_words::{Name, NoMemory};
 use lisa_tree::{DescFault, Names};
-use lisa_words::{Name, NoMemory};
 use std::alloc::Global;
 
 fn unwritten_fault<N: Names>(

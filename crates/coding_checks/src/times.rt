@@ -8,10 +8,10 @@ ghost use Rattle.lisa_tree.specs.Operations.{coding_in, syntax_in};
 ghost use Rattle.coding_checks.specs.Written.{is_coded, is_shown, item_count, part_count, coded_count, shown_count, times_for, again, more_times, is_once, is_written};
 
 use crate::values::Times;
-use coded_names::CodedNames;
+use description_types::coded_names::CodedNames;
 use indexmap::IndexMap;
+use lisa_tree::lisa_words::{Name, NoMemory};
 use lisa_tree::{CodingItem, CodingPart, Section, SyntaxItem, SyntaxPart, coding, syntax};
-use lisa_words::{Name, NoMemory};
 use std::alloc::{AllocError, Global};
 
 fn again(times: Option<Times>) -> Times

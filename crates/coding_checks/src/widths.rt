@@ -4,17 +4,17 @@ ghost use Rattle.std.specs.Prelude.{◌≡◌, ℕ, List, Option, Some, IfOk};
 ghost use Rattle.std.specs.List.{list_all};
 ghost use Rattle.lisa_tree.specs.Operations.{coding_in, sections_at};
 ghost use Rattle.lisa_tree.specs.Paths.{choice_node};
-ghost use Rattle.least_fixed_points.specs.Settles.{entry};
+ghost use Rattle.description_types.specs.least_fixed_points.Settles.{entry};
 ghost use Rattle.coding_checks.specs.Widths.{has_width, shared_width, alternatives_width, choice_of, choice_named, child_width, item_width, added, items_width, coding_width, width_step, AreWidths};
 ghost use Rattle.coding_checks.specs.Steady.{width_count, widths_monotone, widths_end};
 
-use coded_names::pattern_width;
 use description_graph::edges;
+use description_graph::graph_paths::order;
+use description_types::coded_names::pattern_width;
+use description_types::least_fixed_points::{Rule, settle_along};
 use description_types::{known_choice, known_operation, operation_count, sections};
-use graph_paths::order;
-use least_fixed_points::{Rule, settle_along};
+use lisa_tree::lisa_words::{Name, NoMemory};
 use lisa_tree::{CodingItem, CodingPart, Names, What, coding};
-use lisa_words::{Name, NoMemory};
 use std::alloc::Global;
 use std::marker::Model;
 

@@ -7,10 +7,10 @@ ghost use Rattle.coding_checks.specs.Written.{is_to_write, no_writing, writing_i
 
 use crate::times::WrittenNames;
 use crate::values::Writing;
-use coded_names::is_coding;
+use description_types::coded_names::is_coding;
 use description_types::sections;
+use lisa_tree::lisa_words::{Name, NoMemory};
 use lisa_tree::{Names, What, coding};
-use lisa_words::{Name, NoMemory};
 use std::alloc::Global;
 
 // Nothing is amiss.

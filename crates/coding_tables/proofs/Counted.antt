@@ -13,9 +13,9 @@ use Rattle.lisa_tree.specs.Descriptions.{CodingTree, DescriptionTree}
 use Rattle.lisa_tree.specs.Operations.{coding_in, sections_at}
 use Rattle.lisa_tree.specs.Declarations.{choices, alternatives_at}
 use Rattle.lisa_tree.specs.Paths.{node_count, choice_node}
-use Rattle.description_graph.specs.Circles.{IsFirstCircularOperation}
-use Rattle.description_graph.proofs.Nodes.{at_operation, at_choice, alternatives_below}
-use Rattle.least_fixed_points.specs.Settles.{Settles, settled}
+use Rattle.coding_checks.specs.description_graph.Circles.{IsFirstCircularOperation}
+use Rattle.coding_checks.proofs.description_graph_proofs.Nodes.{at_operation, at_choice, alternatives_below}
+use Rattle.coding_checks.specs.least_fixed_points.Settles.{Settles, settled}
 use Rattle.coding_checks.specs.Widths.{choice_named, added, capped}
 use Rattle.instruction_trees.specs.Trees.{Item, Fixed, Free, Field, Child, Table, coding, Pass, Value, Choose, Form, In, here, there, instructions}
 use Rattle.instruction_trees.specs.Forms.{listed, forms}

@@ -3,8 +3,8 @@ use Rattle.std.proofs.Common.{◌≤◌, ◌+◌, ℕ, suc, List, [], ◌∷◌,
 use Rattle.lisa_tree.specs.Descriptions.{DescriptionTree}
 use Rattle.lisa_tree.specs.Declarations.{alternatives_at}
 use Rattle.lisa_tree.specs.Paths.{node_count}
-use Rattle.description_graph.specs.Circles.{IsFirstCircularOperation}
-use Rattle.description_graph.proofs.Nodes.{alternatives_below}
+use Rattle.coding_checks.specs.description_graph.Circles.{IsFirstCircularOperation}
+use Rattle.coding_checks.proofs.description_graph_proofs.Nodes.{alternatives_below}
 use Rattle.coding_checks.specs.Widths.{choice_named}
 use Rattle.instruction_trees.specs.Trees.{Item, Fixed, Free, Field, Child, Tree, Done, Pass, Value, Choose, Form, Fits, AnyValue, In, coding}
 use Rattle.instruction_trees.specs.Forms.{height, Distinct, none, IsOnce}

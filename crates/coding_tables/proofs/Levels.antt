@@ -5,7 +5,7 @@ use Rattle.std.specs.Prelude.{slice_get}
 use Rattle.std.proofs.lemmas.Option.{slice_get_within}
 use Rattle.lisa_tree.specs.Descriptions.{OperationTree, DescriptionTree}
 use Rattle.lisa_tree.specs.Paths.{node_count}
-use Rattle.description_graph.specs.Circles.{IsFirstCircularOperation}
+use Rattle.coding_checks.specs.description_graph.Circles.{IsFirstCircularOperation}
 use Rattle.instruction_trees.specs.Trees.{Item, Fixed, Free, Field, Child, Table, coding, Pass, Value, Choose, Form, In, here, there}
 use Rattle.instruction_trees.specs.Forms.{listed, forms}
 use Rattle.coding_tables.specs.Codings.{child_alternatives, operation_items, table_from, coding_table}

@@ -11,9 +11,9 @@ use Rattle.lisa_tree.specs.Descriptions.{CodingTree, DescriptionTree}
 use Rattle.lisa_tree.specs.Operations.{coding_in, sections_at}
 use Rattle.lisa_tree.specs.Declarations.{Choice, choices, alternatives_at}
 use Rattle.lisa_tree.specs.Paths.{Operation, Choosing, leads}
-use Rattle.graph_paths.specs.Paths.{is_in}
-use Rattle.description_graph.specs.Circles.{Reaches, edge, more, IsFirstCircularOperation}
-use Rattle.description_graph.proofs.Nodes.{alternatives_below}
+use Rattle.coding_checks.specs.graph_paths.Paths.{is_in}
+use Rattle.coding_checks.specs.description_graph.Circles.{Reaches, edge, more, IsFirstCircularOperation}
+use Rattle.coding_checks.proofs.description_graph_proofs.Nodes.{alternatives_below}
 use Rattle.instruction_trees.specs.Trees.{Item, Fixed, Free, Field, Child, In, here, there}
 use Rattle.coding_checks.specs.Widths.{choice_named}
 use Rattle.coding_tables.specs.Codings.{digit_item, pattern_digits, choice_alternatives, child_alternatives, items_of, coding_items, operation_items}

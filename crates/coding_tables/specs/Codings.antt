@@ -7,7 +7,7 @@ use Rattle.lisa_tree.specs.Descriptions as trees
 use Rattle.lisa_tree.specs.Descriptions.{CodingTree, DescriptionTree}
 use Rattle.lisa_tree.specs.Operations.{coding_in, sections_at}
 use Rattle.lisa_tree.specs.Declarations.{alternatives_at}
-use Rattle.coded_names.specs.Codings.{pattern_width}
+use Rattle.coding_checks.specs.coded_names.Codings.{pattern_width}
 use Rattle.coding_checks.specs.Widths.{choice_named}
 use Rattle.instruction_trees.specs.Trees.{Item, Fixed, Free, Field, Child, Table}
 

@@ -2,7 +2,6 @@ pub mod Codings
 pub mod Instructions
 pub mod Products
 pub mod Ways
-pub mod coded_names
-pub mod coding_checks
-pub mod description_graph
-pub mod lisa_words
+pub use Rattle.coding_checks.specs.coded_names
+pub use Rattle.coding_checks.specs as coding_checks
+pub use Rattle.coding_checks.specs.description_graph

@@ -7,8 +7,8 @@ use Rattle.lisa_tree.specs.Descriptions.{CodingTree, DescriptionTree}
 use Rattle.lisa_tree.specs.Operations.{coding_in, sections_at}
 use Rattle.lisa_tree.specs.Declarations.{choices, alternatives_at}
 use Rattle.lisa_tree.specs.Paths.{Node, Operation, Choosing, Declaring, node_at, choice_node}
-use Rattle.least_fixed_points.specs.Settles.{IsWithin, IsMonotone}
-use Rattle.description_types.specs.Larger.{Less, none_less, same_less, within_less}
+use Rattle.coding_checks.specs.least_fixed_points.Settles.{IsWithin, IsMonotone}
+use Rattle.coding_checks.specs.description_types.Larger.{Less, none_less, same_less, within_less}
 use Rattle.coding_checks.specs.Widths.{choice_named, added, capped}
 
 -- the forms of two parts together

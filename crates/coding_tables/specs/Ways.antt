@@ -3,8 +3,8 @@ use Rattle.std.specs.Prelude.{ℕ, ◌≡◌, ◌<◌, ◌≤◌, ◌+◌, true,
 use Rattle.std.specs.List.{IsDistinct}
 use Rattle.lisa_tree.specs.Descriptions.{DescriptionTree}
 use Rattle.lisa_tree.specs.Paths.{Operation}
-use Rattle.graph_paths.specs.Paths.{is_in}
-use Rattle.description_graph.specs.Circles.{Reaches}
+use Rattle.coding_checks.specs.graph_paths.Paths.{is_in}
+use Rattle.coding_checks.specs.description_graph.Circles.{Reaches}
 
 -- operations on the way to one so far, all different, each leading to it
 pub record Way (d : DescriptionTree) (o : ℕ) (passed : List ℕ) : Type 0 where

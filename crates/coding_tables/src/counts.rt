@@ -3,19 +3,19 @@
 ghost use Rattle.std.specs.Prelude.{◌≡◌, ℕ, List, Option, Some, None, IfOk, unwrap_or};
 ghost use Rattle.lisa_tree.specs.Operations.{coding_in, sections_at};
 ghost use Rattle.lisa_tree.specs.Paths.{choice_node};
-ghost use Rattle.description_graph.specs.Circles.{IsFirstCircularOperation};
-ghost use Rattle.least_fixed_points.specs.Settles.{entry};
+ghost use Rattle.coding_checks.specs.description_graph.Circles.{IsFirstCircularOperation};
+ghost use Rattle.coding_checks.specs.least_fixed_points.Settles.{entry};
 ghost use Rattle.coding_checks.specs.Widths.{added, capped};
 ghost use Rattle.coding_tables.specs.Instructions.{AreFormCounts, form_count};
 ghost use Rattle.coding_tables.specs.Products.{times, summed, item_forms, items_forms, coding_forms, form_step, step_count, forms_monotone, forms_end};
 
 use crate::roots::{choice_named, instruction_choice};
-use description_graph::edges;
-use description_types::{known_choice, known_operation, operation_count, sections};
-use graph_paths::order;
-use least_fixed_points::{Rule, settle_along};
+use coding_checks::description_graph::edges;
+use coding_checks::description_types::{known_choice, known_operation, operation_count, sections};
+use coding_checks::graph_paths::order;
+use coding_checks::least_fixed_points::{Rule, settle_along};
+use lisa_tree::lisa_words::NoMemory;
 use lisa_tree::{CodingItem, CodingPart, Names, coding};
-use lisa_words::NoMemory;
 use std::alloc::Global;
 use std::marker::Model;
 

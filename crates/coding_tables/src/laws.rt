@@ -3,7 +3,7 @@
 ghost use Rattle.std.specs.Prelude.{ℕ, None};
 ghost use Rattle.lisa_tree.specs.Descriptions.{DescriptionTree};
 ghost use Rattle.lisa_tree.specs.Declarations.{alternatives_at};
-ghost use Rattle.description_graph.specs.Circles.{IsFirstCircularOperation};
+ghost use Rattle.coding_checks.specs.description_graph.Circles.{IsFirstCircularOperation};
 ghost use Rattle.instruction_trees.specs.Trees.{Tree, Form, Fits, IsBelow, AnyValue, In, form};
 ghost use Rattle.instruction_trees.specs.Forms.{Distinct};
 ghost use Rattle.coding_tables.specs.Codings.{coding_table};

@@ -5,10 +5,8 @@ mod counts;
 mod laws;
 mod roots;
 
-pub use coded_names::{CodedNames, pattern_width};
-pub use coding_checks::{Widths, first_group_width, first_not_written};
+pub use coding_checks;
+pub use coding_checks::{coded_names, description_types};
 pub use counts::{FormCounts, count_forms};
-pub use description_types::{operation_count, operation_name, sections};
 pub use laws::instructions_have_forms;
-pub use lisa_words::{Kind, Name, NoMemory};
 pub use roots::{choice_named, instruction_choice};

@@ -5,9 +5,9 @@ ghost use Rattle.lisa_tree.specs.Operations.{coding_in, sections_at};
 ghost use Rattle.coding_checks.specs.Widths.{choice_of, choice_named};
 ghost use Rattle.coding_tables.specs.Instructions.{root_group, instruction_choice};
 
-use description_types::{operation_count, sections};
+use coding_checks::description_types::{operation_count, sections};
+use lisa_tree::lisa_words::Name;
 use lisa_tree::{CodingPart, Names, What, coding};
-use lisa_words::Name;
 
 fn choice_of(what: Option<What>) -> Option<usize>
     ensures { result ≡ choice_of what }

@@ -21,7 +21,7 @@ use Rattle.lisa_object.proofs.ObjectWhole.{found as object_found, only as object
 use Rattle.lisa_outcomes.specs.declared.status.Refusal.{Refusal}
 use Rattle.lisa_outcomes.specs.declared.status.Refusal.TheVariants as refusals
 use Rattle.engine_commands.specs.Images.{IsImageOf, IsNoImage, memories_of}
-use Rattle.verilog_command.specs.checked_descriptions.DescriptionImages.{HasDigest, IsImageFor, IsForAnother, IsNoImageFor}
+use Rattle.checked_descriptions.specs.DescriptionImages.{HasDigest, IsImageFor, IsForAnother, IsNoImageFor}
 use Rattle.generator_commands.specs.assembler_commands.DescriptionObjects.{SpellsObject, AreObjects, IsUnspelled, HaveDigest, IsElsewhere, AreObjectsFor, AreNoObjectsFor}
 use Rattle.command_promises.specs.Decided.{IsSameRefusal, IsDecided}
 use Rattle.command_promises.proofs.Decided.{alike, alike_by}

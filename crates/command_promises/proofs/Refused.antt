@@ -28,9 +28,9 @@ use Rattle.engine_commands.specs.Schedules.{schedule_bytes, IsSchedule, IsNoSche
 use Rattle.engine_commands.specs.Sessions.{given_up}
 use Rattle.engine_commands.specs.Tasks.{GivesTask, GivesUnder}
 use Rattle.engine_commands.specs.Making.{IsMade, GivesMade}
-use Rattle.verilog_command.specs.checked_descriptions.Checked.{Checked, AfterChecks}
-use Rattle.verilog_command.specs.checked_descriptions.Descriptions.{IsUnread, AfterSpelling}
-use Rattle.verilog_command.specs.checked_descriptions.DescriptionImages.{IsImageFor, IsNoImageFor, IsForAnother}
+use Rattle.checked_descriptions.specs.Checked.{Checked, AfterChecks}
+use Rattle.checked_descriptions.specs.Descriptions.{IsUnread, AfterSpelling}
+use Rattle.checked_descriptions.specs.DescriptionImages.{IsImageFor, IsNoImageFor, IsForAnother}
 use Rattle.generator_commands.specs.description_commands.Formats.{Formats}
 use Rattle.generator_commands.specs.description_commands.Checks.{Checks, counts_text, counts_of}
 use Rattle.generator_commands.specs.description_commands.Runs.{described_machine, GivesChecked, GivesRun}

@@ -19,9 +19,9 @@ use Rattle.lisa_outcomes.specs.declared.status.Refusal.TheVariants as refusals
 use Rattle.lisa_outcomes.specs.Outcomes.{Outcome, Finished, Refusing}
 use Rattle.engine_commands.specs.Images.{IsMissing}
 use Rattle.engine_commands.specs.Making.{IsMade}
-use Rattle.verilog_command.specs.checked_descriptions.Checked.{Checked}
-use Rattle.verilog_command.specs.checked_descriptions.Descriptions.{AfterSpelling}
-use Rattle.verilog_command.specs.checked_descriptions.DescriptionImages.{IsImageFor, IsNoImageFor}
+use Rattle.checked_descriptions.specs.Checked.{Checked}
+use Rattle.checked_descriptions.specs.Descriptions.{AfterSpelling}
+use Rattle.checked_descriptions.specs.DescriptionImages.{IsImageFor, IsNoImageFor}
 use Rattle.generator_commands.specs.description_commands.Runs.{described_machine}
 use Rattle.module_commands.specs.Designs.{IsUnreadModule, clock_machine}
 use Rattle.generator_commands.specs.assembler_commands.Assembled.{IsSource, IsNoSource, IsUnassembled, Assembles, AssemblesChecked, GivesObject}

@@ -9,14 +9,13 @@ use Rattle.engine_commands.specs.declared.tasks.Task.{Task}
 use Rattle.lisa_engine.specs.Machines.{Machine}
 use Rattle.engine_commands.specs.Schedules.{schedule_bytes}
 use Rattle.engine_commands.specs.Making.{GivesMade}
-use Rattle.verilog_command.specs.checked_descriptions.Checked.{Checked, IsChecked, IsFaulty, AfterChecks}
-use Rattle.verilog_command.specs.checked_descriptions.Descriptions.{IsUnread}
-use Rattle.verilog_command.specs.checked_descriptions.DescriptionImages.{IsImageFor, IsNoImageFor}
+use Rattle.checked_descriptions.specs.Checked.{Checked, IsChecked, IsFaulty, AfterChecks}
+use Rattle.checked_descriptions.specs.Descriptions.{IsUnread}
+use Rattle.checked_descriptions.specs.DescriptionImages.{IsImageFor, IsNoImageFor}
 use Rattle.generator_commands.specs.description_commands.Runs.{described_machine, GivesChecked, GivesRun}
 use Rattle.module_commands.specs.Designs.{IsDesign, IsNoDesign, clock_machine}
 use Rattle.module_commands.specs.Clocks.{GivesClock}
-use Rattle.command_promises.specs.Runs.{IsSimulated, IsClocked}
-use Rattle.engine_commands.specs.Tasks.{task_outcome}
+use Rattle.command_promises.specs.Runs.{IsSimulated, IsClocked, task_outcome}
 use Rattle.command_promises.proofs.Afters.{found_by}
 use Rattle.command_promises.proofs.Tasks.{made_given, made_finished}
 

@@ -4,13 +4,13 @@ use Rattle.asm_source.specs.Plain.{PlainLine}
 use Rattle.asm_source.specs.declared.flaw.SourceFault.{SourceFault}
 use Rattle.lisa_tree.specs.Descriptions.{DescriptionTree}
 use Rattle.lisa_object.specs.Objects.{PlainObject}
-use Rattle.verdict_promises.specs.lisa_machine.Verdicts.{IsAccepted}
-use Rattle.generator_commands.specs.lisa_forms.Verdicts.{HasForms}
+use Rattle.lisa_machine.specs.Verdicts.{IsAccepted}
+use Rattle.verdict_promises.specs.lisa_forms.Verdicts.{HasForms}
 use Rattle.generator_commands.specs.lisa_assembler.Objects.{IsObjectOf}
 use Rattle.generator_commands.specs.lisa_assembler.Faults.{IsSourceFault}
 use Rattle.lisa_outcomes.specs.declared.status.Refusal.TheVariants as refusals
-use Rattle.verilog_command.specs.checked_descriptions.Checked.{Checked, IsChecked}
-use Rattle.verilog_command.proofs.checked_descriptions_proofs.Listed.{sound_parts}
+use Rattle.checked_descriptions.specs.Checked.{Checked, IsChecked}
+use Rattle.checked_descriptions.proofs.Listed.{sound_parts}
 use Rattle.generator_commands.specs.assembler_commands.Assembled.{IsUnassembled}
 use Rattle.verdict_promises.specs.Firsts.{IsAcceptedAs, IsRefusedFirst}
 use Rattle.verdict_promises.proofs.Firsts.{one_first, one_accepted, not_both}

@@ -13,8 +13,8 @@ ghost use Rattle.engine_commands.specs.Images.{IsImageOf, IsMissing, IsNoImage};
 ghost use Rattle.lisa_engine.specs.Machines.{Machine};
 ghost use Rattle.engine_commands.specs.Schedules.{IsSchedule, IsNoSchedule};
 ghost use Rattle.engine_commands.specs.Making.{IsMade};
-ghost use Rattle.verilog_command.specs.checked_descriptions.Checked.{Checked, IsChecked};
-ghost use Rattle.verilog_command.specs.checked_descriptions.DescriptionImages.{IsImageFor, IsNoImageFor};
+ghost use Rattle.checked_descriptions.specs.Checked.{Checked, IsChecked};
+ghost use Rattle.checked_descriptions.specs.DescriptionImages.{IsImageFor, IsNoImageFor};
 ghost use Rattle.module_commands.specs.Designs.{IsUnreadModule};
 ghost use Rattle.generator_commands.specs.assembler_commands.Assembled.{IsSource, IsNoSource, IsUnassembled};
 ghost use Rattle.generator_commands.specs.assembler_commands.DescriptionObjects.{AreObjectsFor, AreNoObjectsFor};
@@ -22,7 +22,7 @@ ghost use Rattle.generator_commands.specs.assembler_commands.Links.{IsLinked, Is
 ghost use Rattle.verdict_promises.specs.Firsts.{IsAcceptedAs, IsRefusedFirst};
 ghost use Rattle.command_promises.specs.Decided.{IsSingle, IsDecided};
 
-use generator_commands::sources_have_one_answer;
+use generator_commands::source_promises::sources_have_one_answer;
 
 /// What a command looks for is one thing at most, refused for one reason at most, and never both. Of modules, images, objects, sources and
 /// schedules, of links, and of the memories that a machine has, there always is one or the other.

@@ -1,8 +1,8 @@
 -- What `check` gives over a description.
 use Rattle.std.specs.Prelude.{ℕ, ◌≡◌, ◌++◌, List, length, codes, decimal}
 use Rattle.lisa_tree.specs.Descriptions.{DescriptionTree}
-use Rattle.checked_descriptions.specs.coding_tables.Instructions.{form_count}
-use Rattle.checked_descriptions.specs.activation_trees.Unfolding.{occurrences}
+use Rattle.lisa_sim.specs.coding_tables.Instructions.{form_count}
+use Rattle.lisa_sim.specs.activation_trees.Unfolding.{occurrences}
 use Rattle.checked_descriptions.specs.description_sizes.Sizes.{items}
 use Rattle.lisa_outcomes.specs.Outcomes.{Outcome, Finished}
 use Rattle.description_commands.specs.declared.counts.Counts.{Counts}

@@ -9,6 +9,7 @@ mod printing;
 mod running;
 
 pub use checks::check_description;
-pub use lisa_sim::{Simulator, sizes_are_limited};
+pub use lisa_sim;
+pub use lisa_sim::item_promises;
 pub use printing::format_description;
 pub use running::do_with_description;

@@ -11,4 +11,5 @@ mod rows;
 
 pub use circles::{first_circular_among, first_circular_operation};
 pub use graph::edges;
+pub use graph_paths;
 pub use laws::nodes_are_acyclic;

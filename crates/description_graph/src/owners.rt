@@ -6,8 +6,8 @@ ghost use Rattle.lisa_tree.specs.Operations.{declares_in};
 ghost use Rattle.lisa_tree.specs.Declarations.{choice, choices, choices_of, choices_in, choices_from};
 ghost use Rattle.description_graph.specs.Graph.{owners};
 
+use lisa_tree::lisa_words::Name;
 use lisa_tree::{Declare, Names, Operation, declares};
-use lisa_words::Name;
 use std::alloc::{AllocError, Global};
 
 /// How many operations there are.

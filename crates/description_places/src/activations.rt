@@ -11,8 +11,8 @@ ghost use Rattle.description_places.specs.Places.{first, uses, act_places, acts_
 use crate::expressions::walk_expression;
 use crate::scopes::Scope;
 use crate::sites::{Condition, Region, Site};
+use lisa_tree::lisa_words::{Name, NoMemory};
 use lisa_tree::{Act, DescFault, Expr};
-use lisa_words::{Name, NoMemory};
 use std::alloc::Global;
 
 // The fault of the name of an item.

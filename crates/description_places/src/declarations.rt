@@ -8,8 +8,8 @@ ghost use Rattle.description_places.specs.Places.{Declared, Stands, at, first, n
 
 use crate::scopes::Scope;
 use crate::sites::{Condition, Region, Site};
+use lisa_tree::lisa_words::{Name, NoMemory};
 use lisa_tree::{Declare, DescFault};
-use lisa_words::{Name, NoMemory};
 
 // The first fault of declared names, the first of which has the given number.
 #[tactic(auto, using(crate::proofs::Lists::names_past, crate::proofs::Lists::names_stop, crate::proofs::Lists::from_first))]

@@ -7,8 +7,8 @@ ghost use Rattle.description_places.specs.Places.{first, uses, targets};
 
 use crate::scopes::Scope;
 use crate::sites::{Condition, Region, Site};
+use lisa_tree::lisa_words::NoMemory;
 use lisa_tree::{DescFault, Expr};
-use lisa_words::NoMemory;
 
 /// The first fault of what an expression reads.
 pub(crate) fn walk_expression<C: Condition>(

@@ -13,6 +13,8 @@ mod statements;
 mod walks;
 
 pub use laws::no_place_is_at_fault;
+pub use lisa_tree;
+pub use lisa_tree::lisa_words;
 pub use scopes::{Local, Scope};
 pub use sites::{Condition, Region, Site};
 pub use walks::first_fault;

@@ -9,8 +9,8 @@ ghost use Rattle.description_places.specs.Places.{at, first, region_of, section_
 use crate::scopes::Scope;
 use crate::sections::{region_of, walk_section};
 use crate::sites::{Condition, Region, Site};
+use lisa_tree::lisa_words::NoMemory;
 use lisa_tree::{DescFault, Operation, Section};
-use lisa_words::NoMemory;
 use std::alloc::Global;
 
 // The first fault of a section of an operation, by its number among all sections.

@@ -6,7 +6,7 @@ ghost use Rattle.description_places.specs.Scopes.{local_named, entered};
 
 use indexmap::IndexMap;
 use lisa_tree::Shape;
-use lisa_words::Name;
+use lisa_tree::lisa_words::Name;
 use std::alloc::{AllocError, Global};
 use std::marker::Model;
 

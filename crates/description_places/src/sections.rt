@@ -11,8 +11,8 @@ use crate::expressions::walk_expression;
 use crate::scopes::Scope;
 use crate::sites::{Condition, Region, Site};
 use crate::statements::walk_statements;
+use lisa_tree::lisa_words::NoMemory;
 use lisa_tree::{CodingItem, CodingPart, DescFault, Section, SyntaxItem, SyntaxPart};
-use lisa_words::NoMemory;
 use std::alloc::Global;
 
 // The fault of an element of a coding.

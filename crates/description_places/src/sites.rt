@@ -7,10 +7,10 @@ ghost use Rattle.description_places.specs.Scopes.{Scope as Locals};
 ghost use Rattle.description_places.specs.Places.{Place, place_of};
 
 use crate::scopes::Scope;
+use lisa_tree::lisa_words::{Name, NoMemory};
 use lisa_tree::{
     BoundaryField, DescFault, Expr, ForHead, Format, Operation, Pattern, Resource, Section, Shape,
 };
-use lisa_words::{Name, NoMemory};
 
 /// The part of a description in which a place stands. Each section of an operation is of one of the last six.
 #[derive(Clone, Copy, Debug, PartialEq, Eq)]

@@ -11,8 +11,8 @@ ghost use Rattle.description_places.specs.Places.{at, place_of, first, uses, wit
 use crate::expressions::{walk_expression, walk_target};
 use crate::scopes::{Local, Scope};
 use crate::sites::{Condition, Region, Site};
+use lisa_tree::lisa_words::{Name, NoMemory};
 use lisa_tree::{DescFault, Expr, ForHead, Shape, Stmt};
-use lisa_words::{Name, NoMemory};
 use std::alloc::AllocError;
 
 // The fault of what stands at a place of a behaviour.

@@ -8,8 +8,8 @@ ghost use Rattle.description_places.specs.Places.{first, resources_places, descr
 use crate::operations::walk_operations;
 use crate::scopes::Scope;
 use crate::sites::{Condition, Region, Site};
+use lisa_tree::lisa_words::NoMemory;
 use lisa_tree::{DescFault, Description, Resource};
-use lisa_words::NoMemory;
 use std::alloc::Global;
 
 // The first fault of the resources.

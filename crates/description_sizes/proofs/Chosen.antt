@@ -8,8 +8,8 @@ use Rattle.lisa_tree.specs.declared.declared.What.TheVariants as whats
 use Rattle.lisa_tree.specs.Operations.{is_alias}
 use Rattle.lisa_tree.specs.Declarations.{choices, entries, what_at, alternatives_at, plain_at}
 use Rattle.lisa_tree.specs.Paths.{Operation, Choosing, Declaring, leads}
-use Rattle.activation_trees.proofs.description_graph_proofs.Numbered.{chosen_within}
-use Rattle.activation_trees.proofs.description_graph_proofs.Meant.{meant_below}
+use Rattle.text_counts.proofs.description_graph_proofs.Numbered.{chosen_within}
+use Rattle.text_counts.proofs.description_graph_proofs.Meant.{meant_below}
 use Rattle.activation_trees.proofs.stage_checks_proofs.Nodes.{plain_within}
 use Rattle.activation_trees.specs.lisa_machine.Ranks.{Ranks}
 use Rattle.text_counts.specs.References.{MayMean, chosen, referenced, AreMeanings}

@@ -15,7 +15,7 @@ use Rattle.lisa_tree.specs.Same.{same_name}
 use Rattle.lisa_tree.specs.Operations.{sections_at, behavior_in, expression_in, activation_in}
 use Rattle.lisa_tree.specs.Declarations.{Entry, Choice, choice, entries, choices, declared_at, what_at, plain_at}
 use Rattle.lisa_tree.specs.Paths.{Node, Operation, Choosing, Declaring, node_at, node_count, leads, choice_node, entry_node}
-use Rattle.activation_trees.proofs.description_graph_proofs.Nodes.{at_operation, at_choice, at_entry}
+use Rattle.text_counts.proofs.description_graph_proofs.Nodes.{at_operation, at_choice, at_entry}
 use Rattle.activation_trees.proofs.stage_checks_proofs.Nodes.{plain_within}
 use Rattle.activation_trees.specs.lisa_machine.Ranks.{Ranks}
 use Rattle.activation_trees.specs.lisa_machine.Declaring.{Chooses}

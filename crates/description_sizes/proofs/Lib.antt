@@ -8,5 +8,4 @@ pub mod Sums
 pub mod Resets
 pub mod Finding
 pub mod Limited
-pub mod activation_trees_proofs
-pub mod typed_values_proofs
+pub use Rattle.activation_trees.proofs as activation_trees_proofs

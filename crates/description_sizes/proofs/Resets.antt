@@ -14,15 +14,15 @@ use Rattle.lisa_tree.specs.declared.declared.What.TheVariants as whats
 use Rattle.lisa_tree.specs.Operations.{number_of, behavior_in, sections_at}
 use Rattle.lisa_tree.specs.Declarations.{plain_at, what_at}
 use Rattle.lisa_tree.specs.Paths.{Node, Operation, Choosing, Declaring, node_at, node_count}
-use Rattle.activation_trees.specs.description_graph.Circles.{IsFirstCircularOperation}
-use Rattle.activation_trees.proofs.description_graph_proofs.Nodes.{at_operation}
-use Rattle.activation_trees.specs.shape_checks.declared.bounds.Bounds.{Bounds}
-use Rattle.activation_trees.specs.shape_checks.Bounds.{bounds_of}
+use Rattle.text_counts.specs.description_graph.Circles.{IsFirstCircularOperation}
+use Rattle.text_counts.proofs.description_graph_proofs.Nodes.{at_operation}
+use Rattle.text_counts.specs.shape_checks.declared.bounds.Bounds.{Bounds}
+use Rattle.text_counts.specs.shape_checks.Bounds.{bounds_of}
 use Rattle.activation_trees.proofs.stage_checks_proofs.Nodes.{number_within}
 use Rattle.activation_trees.specs.lisa_machine.Ranks.{Ranks}
 use Rattle.activation_trees.proofs.lisa_machine_proofs.Falling.{node_ranks}
-use Rattle.typed_values.specs.Counts as typed
-use Rattle.machine_parts.specs.Parts.{behavior_of, nodes_in, reset_node_count}
+use Rattle.activation_trees.specs.typed_values.Counts as typed
+use Rattle.activation_trees.specs.machine_parts.Parts.{behavior_of, nodes_in, reset_node_count}
 use Rattle.text_counts.specs.Sums.{Counts, capped, plus, one_more, times, sum_of}
 use Rattle.text_counts.specs.Expressions.{counted_of, known_or, read_nodes, expression_nodes}
 use Rattle.text_counts.specs.Behaviors.{weight, called, turns_in, turns_of, initial, statement_count, statements_count, behavior_count}

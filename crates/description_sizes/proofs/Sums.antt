@@ -6,11 +6,11 @@ use Rattle.std.specs.List.{AllByRecursion}
 use Rattle.std.proofs.lemmas.List.Sums.{sum_by-cons}
 use Rattle.lisa_tree.specs.Descriptions.{DescriptionTree}
 use Rattle.lisa_tree.specs.Operations.{number_of}
-use Rattle.activation_trees.specs.description_graph.Circles.{IsFirstCircularOperation}
+use Rattle.text_counts.specs.description_graph.Circles.{IsFirstCircularOperation}
 use Rattle.activation_trees.proofs.stage_checks_proofs.Nodes.{number_within}
 use Rattle.activation_trees.proofs.lisa_machine_proofs.Falling.{node_ranks}
 use Rattle.activation_trees.specs.declared.parts.Occurrence.{Occurrence}
-use Rattle.machine_parts.specs.Parts.{reset_count}
+use Rattle.activation_trees.specs.machine_parts.Parts.{reset_count}
 use Rattle.activation_trees.specs.Unfolding.{occurrences}
 use Rattle.text_counts.specs.Sums.{plus}
 use Rattle.text_counts.specs.Tables.{TextTable, AreTextCounts, nodes_of}

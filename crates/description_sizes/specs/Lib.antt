@@ -5,6 +5,8 @@ pub mod Cells
 pub mod Sizes
 pub mod Outcomes
 pub mod Laws
-pub mod activation_trees
-pub mod machine_parts
-pub mod typed_values
+pub use Rattle.activation_trees.specs as activation_trees
+pub use Rattle.text_counts.specs.coded_names
+pub use Rattle.activation_trees.specs.least_fixed_points
+pub use Rattle.text_counts.specs.meant_declarations
+pub use Rattle.text_counts.specs.shape_checks

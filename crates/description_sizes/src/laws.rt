@@ -2,7 +2,7 @@
 
 ghost use Rattle.std.specs.Prelude.{◌≡◌, ◌<◌, ◌↔◌, ◌-◌, ◌^◌, ℕ, None, Option, length, min};
 ghost use Rattle.lisa_tree.specs.Descriptions.{DescriptionTree};
-ghost use Rattle.activation_trees.specs.description_graph.Circles.{IsFirstCircularOperation};
+ghost use Rattle.text_counts.specs.description_graph.Circles.{IsFirstCircularOperation};
 ghost use Rattle.activation_trees.specs.lisa_machine.Machines.{IsResetShort};
 ghost use Rattle.description_sizes.specs.Sizes.{first_too_many, size_fault};
 ghost use Rattle.description_sizes.specs.Laws.{AreWithinLimits, AreCounted};

@@ -4,7 +4,7 @@ ghost use Rattle.std.specs.Prelude.{◌≡◌, find, IfOk};
 ghost use Rattle.description_sizes.specs.Limits.{word_of, limit_of, size, exceeds, fault};
 
 use lisa_tree::DescFault;
-use lisa_words::{Name, NoMemory};
+use lisa_tree::lisa_words::{Name, NoMemory};
 use std::alloc::Global;
 
 /// What is counted of a description.

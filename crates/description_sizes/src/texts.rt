@@ -1,16 +1,16 @@
 //! How many statements and nodes the unfolded text has, by sums over the occurrences.
 
 ghost use Rattle.std.specs.Prelude.{◌≡◌, ◌-◌, ◌^◌, None, min, sum_by, IfOk};
-ghost use Rattle.activation_trees.specs.description_graph.Circles.{IsFirstCircularOperation};
+ghost use Rattle.text_counts.specs.description_graph.Circles.{IsFirstCircularOperation};
 ghost use Rattle.activation_trees.specs.Unfolding.{occurrences};
 ghost use Rattle.text_counts.specs.Tables.{told_by, AreTextCounts};
 ghost use Rattle.description_sizes.specs.Sums.{statements_by, nodes_by};
 ghost use Rattle.description_sizes.specs.Sizes.{text_statements, reset_nodes, text_nodes};
 
 use activation_trees::Occurrence;
+use activation_trees::machine_parts::count_reset;
 use lisa_tree::Names;
-use lisa_words::{Name, NoMemory};
-use machine_parts::count_reset;
+use lisa_tree::lisa_words::{Name, NoMemory};
 use std::alloc::Global;
 use text_counts::TextCounts;
 

@@ -1,8 +1,8 @@
 //! The first size of a description that exceeds its limit, or what the description unfolds to.
 
 ghost use Rattle.std.specs.Prelude.{◌≡◌, ◌∷◌, ◌++◌, [], None, Some, find, length, map, option_map, IfOk, MatchResult};
-ghost use Rattle.activation_trees.specs.description_graph.Circles.{IsFirstCircularOperation};
-ghost use Rattle.machine_parts.specs.Parts.{registers_of};
+ghost use Rattle.text_counts.specs.description_graph.Circles.{IsFirstCircularOperation};
+ghost use Rattle.activation_trees.specs.machine_parts.Parts.{registers_of};
 ghost use Rattle.activation_trees.specs.Unfolding.{occurrences};
 ghost use Rattle.description_sizes.specs.Limits.{exceeds, told};
 ghost use Rattle.description_sizes.specs.Sizes.{counted_sizes, written_sizes, unfolded_sizes, size_fault};
@@ -11,13 +11,13 @@ ghost use Rattle.description_sizes.specs.Outcomes.{IsUnfolded};
 use crate::resources::{count_arrays, count_cells, count_pins, count_stages, registers};
 use crate::sizes::{Measure, Size, amount, fault, first_exceeding};
 use crate::texts::{count_nodes, count_statements};
-use activation_trees::{
-    Item, Occurrence, count_items, count_occurrences, items, occurrences, operation_count,
-};
+use activation_trees::lisa_engine::Item;
+use activation_trees::{Occurrence, count_items, count_occurrences, items, occurrences};
+use lisa_tree::lisa_words::NoMemory;
 use lisa_tree::{DescFault, Names};
-use lisa_words::NoMemory;
 use std::alloc::Global;
 use text_counts::TextCounts;
+use text_counts::description_types::operation_count;
 
 /// What a description unfolds to whose sizes are within their limits.
 #[derive(Drop)]

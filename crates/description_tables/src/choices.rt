@@ -7,7 +7,7 @@ ghost use Rattle.lisa_tree.specs.Declarations.{choice};
 ghost use Rattle.description_tables.specs.Laws.{Chosen, chosen, no_aliases};
 
 use crate::globals::Globals;
-use lisa_words::Name;
+use lisa_tree::lisa_words::Name;
 use std::alloc::{AllocError, Global};
 use std::marker::Model;
 

@@ -9,7 +9,7 @@ ghost use Rattle.description_tables.specs.Laws.{declares, find_in, is_owned_belo
 use crate::listing::Declared;
 use crate::places::{enter, place_of};
 use indexmap::IndexMap;
-use lisa_words::Name;
+use lisa_tree::lisa_words::Name;
 use std::alloc::{AllocError, Global};
 
 // So many empty tables.

@@ -12,8 +12,8 @@ ghost use Rattle.lisa_tree.specs.Operations.{number_of, operation_at, is_alias, 
 
 use crate::places::{enter, place_of};
 use indexmap::IndexMap;
+use lisa_tree::lisa_words::Name;
 use lisa_tree::{Description, Operation, Resource, Shape};
-use lisa_words::Name;
 use std::alloc::{AllocError, Global};
 
 // The stages of the pipeline.

@@ -9,8 +9,8 @@ ghost use Rattle.description_tables.specs.Laws.{chosen};
 
 use crate::choices::{Choice, choose_among, choose_one};
 use crate::globals::Globals;
+use lisa_tree::lisa_words::Name;
 use lisa_tree::{Declare, Operation, What, declares};
-use lisa_words::Name;
 use std::alloc::{AllocError, Global};
 use std::marker::Model;
 

@@ -6,7 +6,7 @@ ghost use Rattle.lisa_tree.specs.Same.{same_name};
 ghost use Rattle.description_tables.specs.Laws.{noted};
 
 use indexmap::IndexMap;
-use lisa_words::Name;
+use lisa_tree::lisa_words::Name;
 use std::alloc::AllocError;
 
 // Notes the place of a name that has none.

@@ -15,8 +15,8 @@ use crate::globals::Globals;
 use crate::listing::{Declared, Listing, list};
 use crate::listings::list_above;
 use indexmap::IndexMap;
+use lisa_tree::lisa_words::Name;
 use lisa_tree::{Description, Meaning, Names, Shape, What};
-use lisa_words::Name;
 use std::alloc::{AllocError, Global};
 
 /// The names of a description in tables.

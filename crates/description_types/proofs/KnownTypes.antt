@@ -1,13 +1,13 @@
 -- Types that are equal in code are the same.
 use Rattle.std.proofs.Common.{◌≡◌, ◌≢◌, ◌⊎◌, ◌<◌, ◌&&◌, ℕ, Bool, true, false, List, Option, None, Some, length, nat_eq, refl, sym, ap, ◌∙◌, inl, inr}
 use Rattle.std.proofs.lemmas.Bool.{and_from, eq-eqb}
-use Rattle.lisa_words.specs.declared.words.Kind.{Kind}
-use Rattle.lisa_words.specs.declared.words.Kind.TheVariants as kinds
-use Rattle.lisa_tree.specs.declared.tokens.Shape.{Shape}
-use Rattle.lisa_tree.specs.Descriptions.{DescriptionTree}
-use Rattle.lisa_tree.specs.Declarations.{entries}
-use Rattle.lisa_tree.specs.Paths.{entry_node}
-use Rattle.least_fixed_points.specs.Settles.{entry}
+use Rattle.coded_names.specs.lisa_words.declared.words.Kind.{Kind}
+use Rattle.coded_names.specs.lisa_words.declared.words.Kind.TheVariants as kinds
+use Rattle.description_places.specs.lisa_tree.declared.tokens.Shape.{Shape}
+use Rattle.description_places.specs.lisa_tree.Descriptions.{DescriptionTree}
+use Rattle.description_places.specs.lisa_tree.Declarations.{entries}
+use Rattle.description_places.specs.lisa_tree.Paths.{entry_node}
+use Rattle.meant_declarations.specs.least_fixed_points.Settles.{entry}
 use Rattle.meant_declarations.specs.Meant.{Differ}
 use Rattle.description_types.specs.declared.values.TypeOf.{TypeOf}
 use Rattle.description_types.specs.declared.values.TypeOf.TheVariants as types

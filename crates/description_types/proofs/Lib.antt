@@ -6,3 +6,4 @@ pub mod MeantMarks
 pub mod KnownMarks
 pub mod KnownTypes
 pub mod OneKnown
+pub use Rattle.description_places.proofs as description_places_proofs

@@ -10,3 +10,7 @@ pub mod Larger
 pub mod Ends
 pub mod Steady
 pub mod Tables
+pub use Rattle.coded_names.specs as coded_names
+pub use Rattle.description_places.specs as description_places
+pub use Rattle.meant_declarations.specs.least_fixed_points
+pub use Rattle.meant_declarations.specs as meant_declarations

@@ -16,12 +16,15 @@ mod unfit;
 mod uses;
 mod values;
 
+pub use coded_names;
+pub use description_places;
 pub use facts::{Facts, Following};
 pub use kinds::Kinds;
 pub use lookups::{
     known_choice, known_entry, known_operation, operation_count, operation_name, resource, sections,
 };
 pub use meant::Property;
+pub use meant_declarations::least_fixed_points;
 pub use refused::{are_apart, is_apart, is_pipeline, may_input};
 pub use shapes::{beside, number_shape};
 pub use types::{element_type, literal, name_type, type_of, typed};

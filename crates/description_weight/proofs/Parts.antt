@@ -8,14 +8,14 @@ use Rattle.lisa_tree.specs.Descriptions.{DescriptionTree}
 use Rattle.lisa_tree.specs.Operations.{is_alias}
 use Rattle.lisa_tree.specs.Resources.{stages}
 use Rattle.description_graph.specs.Circles.{IsFirstCircularOperation}
-use Rattle.lisa_forms.proofs.lisa_machine_proofs.Falling.{node_ranks}
-use Rattle.description_sizes.specs.activation_trees.declared.parts.Occurrence.{Occurrence}
-use Rattle.description_sizes.specs.activation_trees.Unfolding.{occurrences}
+use Rattle.activation_trees.proofs.lisa_machine_proofs.Falling.{node_ranks}
+use Rattle.activation_trees.specs.declared.parts.Occurrence.{Occurrence}
+use Rattle.activation_trees.specs.Unfolding.{occurrences}
 use Rattle.text_counts.specs.Tables.{TextTable, AreTextCounts}
-use Rattle.description_sizes.specs.Texts.{texts}
-use Rattle.description_sizes.specs.Sums.{nodes_by}
-use Rattle.description_sizes.proofs.Defined.{nodes_same}
-use Rattle.description_sizes.proofs.Within.{IsThere, all_there}
+use Rattle.lisa_forms.specs.description_sizes.Texts.{texts}
+use Rattle.lisa_forms.specs.description_sizes.Sums.{nodes_by}
+use Rattle.lisa_forms.proofs.description_sizes_proofs.Defined.{nodes_same}
+use Rattle.lisa_forms.proofs.description_sizes_proofs.Within.{IsThere, all_there}
 use Rattle.instruction_trees.specs.Trees.{Form, is_plain}
 use Rattle.instruction_forms.specs.coding_tables.Instructions.{forms_of}
 use Rattle.instruction_forms.specs.Trees.{FormTree, form_tree}

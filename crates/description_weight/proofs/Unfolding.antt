@@ -6,10 +6,10 @@ use Rattle.std.specs.List.{AllByRecursion, range_with_len}
 use Rattle.lisa_tree.specs.Descriptions.{DescriptionTree}
 use Rattle.lisa_tree.specs.Paths.{node_count}
 use Rattle.description_graph.specs.Circles.{IsFirstCircularOperation}
-use Rattle.description_sizes.specs.activation_trees.declared.parts.Occurrence.{Occurrence}
-use Rattle.description_sizes.specs.activation_trees.Unfolding.{occurrences}
+use Rattle.activation_trees.specs.declared.parts.Occurrence.{Occurrence}
+use Rattle.activation_trees.specs.Unfolding.{occurrences}
 use Rattle.text_counts.specs.References.{AreMeanings}
-use Rattle.description_sizes.specs.Texts.{levels}
+use Rattle.lisa_forms.specs.description_sizes.Texts.{levels}
 use Rattle.access_counts.specs.declared.ledger.Ledger.{Ledger}
 use Rattle.access_counts.specs.Accesses.{Access}
 use Rattle.access_counts.specs.Unfolded.{of_resources, text_accesses}

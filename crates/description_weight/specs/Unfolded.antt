@@ -2,10 +2,10 @@
 use Rattle.std.specs.Prelude.{ℕ, List, sum_by}
 use Rattle.lisa_tree.specs.Descriptions.{DescriptionTree}
 use Rattle.lisa_tree.specs.Declarations.{what_at}
-use Rattle.description_sizes.specs.activation_trees.Unfolding.{occurrences}
+use Rattle.activation_trees.specs.Unfolding.{occurrences}
 use Rattle.text_counts.specs.References as references
-use Rattle.description_sizes.specs.Texts as texts
-use Rattle.description_sizes.specs.Texts.{levels}
+use Rattle.lisa_forms.specs.description_sizes.Texts as texts
+use Rattle.lisa_forms.specs.description_sizes.Texts.{levels}
 use Rattle.access_counts.specs.Accesses.{Access}
 use Rattle.access_counts.specs.Unfolded.{text_accesses}
 

@@ -7,4 +7,5 @@ mod pairs;
 mod texts;
 mod weights;
 
+pub use lisa_forms;
 pub use weights::weigh;

@@ -2,7 +2,7 @@
 
 ghost use Rattle.std.specs.Prelude.{◌≡◌, ◌*◌, ◌<◌, ℕ, None, IfOk, get_or, length, sum_by};
 ghost use Rattle.std.specs.List.{AllByRecursion, range_with_len};
-ghost use Rattle.description_sizes.specs.activation_trees.Unfolding.{occurrences};
+ghost use Rattle.activation_trees.specs.Unfolding.{occurrences};
 ghost use Rattle.description_graph.specs.Circles.{IsFirstCircularOperation};
 ghost use Rattle.text_counts.specs.References.{AreMeanings};
 ghost use Rattle.graph_paths.specs.Paths.{targets};
@@ -11,8 +11,8 @@ ghost use Rattle.description_weight.specs.Weights.{reads_of, writes_of, pairs};
 
 use crate::chosen::Chosen;
 use access_counts::{Ledger, count_accesses, zeros};
+use activation_trees::Occurrence;
 use description_graph::edges;
-use description_sizes::Occurrence;
 use description_types::operation_count;
 use lisa_tree::Names;
 use lisa_words::NoMemory;

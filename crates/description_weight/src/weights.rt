@@ -4,7 +4,7 @@ ghost use Rattle.std.specs.Prelude.{◌≡◌, ◌+◌, ◌-◌, ◌*◌, ◌^�
 ghost use Rattle.lisa_tree.specs.Descriptions.{description_tree};
 ghost use Rattle.lisa_tree.specs.Resources.{stages};
 ghost use Rattle.access_counts.specs.Ledgers.{capped};
-ghost use Rattle.description_sizes.specs.activation_trees.Unfolding.{occurrences};
+ghost use Rattle.activation_trees.specs.Unfolding.{occurrences};
 ghost use Rattle.description_graph.specs.Circles.{IsFirstCircularOperation};
 ghost use Rattle.lisa_forms.specs.Parts.{AreFormsOf};
 ghost use Rattle.description_weight.specs.Weights.{unfolded_nodes, pairs, weight};
@@ -12,9 +12,10 @@ ghost use Rattle.description_weight.specs.Weights.{unfolded_nodes, pairs, weight
 use crate::forms::form_nodes;
 use crate::pairs::pairs;
 use crate::texts::{count_stages, sum_of_nodes};
-use description_sizes::Occurrence;
+use activation_trees::Occurrence;
+use activation_trees::lisa_machine::Machine;
 use description_tables::Tables;
-use lisa_forms::{Forms, Machine};
+use lisa_forms::Forms;
 use lisa_tree::Names;
 use lisa_words::NoMemory;
 use std::alloc::Global;

@@ -8,5 +8,5 @@ pub mod Listing
 pub mod Narrow
 pub mod Filling
 pub mod Rowed
-pub mod coding_tables_proofs
-pub mod instruction_forms_proofs
+pub use Rattle.instruction_forms.proofs.coding_tables_proofs
+pub use Rattle.instruction_forms.proofs as instruction_forms_proofs

@@ -2,6 +2,6 @@ pub mod Instructions
 pub mod Frames
 pub mod Rows
 pub mod Filled
-pub mod coding_checks
-pub mod coding_tables
-pub mod instruction_forms
+pub use Rattle.instruction_forms.specs.coding_checks
+pub use Rattle.instruction_forms.specs.coding_tables
+pub use Rattle.instruction_forms.specs as instruction_forms

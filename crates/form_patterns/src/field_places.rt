@@ -8,7 +8,8 @@ ghost use Rattle.pattern_tables.specs.Places.{pair_of};
 ghost use Rattle.form_patterns.specs.Instructions.{tree_fields};
 ghost use Rattle.form_patterns.specs.Rows.{ArePlaces};
 
-use instruction_forms::{Field, Form, NoMemory};
+use instruction_forms::{Field, Form};
+use lisa_tree::lisa_words::NoMemory;
 use pattern_tables::Place;
 use std::alloc::Global;
 

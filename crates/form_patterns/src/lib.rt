@@ -8,12 +8,9 @@ mod literal_bits;
 mod plain;
 mod values;
 
-pub use description_types::{operation_name, sections};
 pub use field_places::{all_places, places};
-pub use instruction_forms::{
-    Field, Form, Widths, count_forms, first_group_width, first_not_written, form_name, forms,
-    instruction_choice,
-};
+pub use instruction_forms;
+pub use instruction_forms::{coding_checks, coding_tables};
 pub use laws::{fields_stand_in_preorder, values_make_instructions};
 pub use literal_bits::patterns;
 pub use plain::plain_forms;

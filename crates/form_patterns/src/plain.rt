@@ -6,12 +6,13 @@ ghost use Rattle.instruction_forms.specs.Trees.{form_tree, is_plain_tree};
 ghost use Rattle.instruction_forms.specs.Described.{AreForms};
 ghost use Rattle.form_patterns.specs.Instructions.{instruction_plain};
 
-use instruction_forms::{Form, NoMemory};
+use instruction_forms::Form;
 use lisa_tree::Names;
+use lisa_tree::lisa_words::NoMemory;
 use std::alloc::Global;
 
 // Whether an operation is an alias.
-#[tactic(auto, using(description_types::proofs::ByNumber::operation_read, description_types::proofs::ByNumber::operation_past))]
+#[tactic(auto, using(instruction_forms::proofs::description_types_proofs::ByNumber::operation_read, instruction_forms::proofs::description_types_proofs::ByNumber::operation_past))]
 fn is_alias<N: Names>(names: &N, operation: usize) -> bool
     ensures { result ≡ is_alias (N.tree names.now) operation }
 {

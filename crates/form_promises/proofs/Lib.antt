@@ -7,5 +7,6 @@ pub mod Spelled
 pub mod Agreeing
 pub mod Readable
 pub mod Placed
-pub mod lisa_machine_proofs
-pub mod spelled_promises_proofs
+pub use Rattle.lisa_machine.proofs as lisa_machine_proofs
+pub use Rattle.spelled_promises.proofs as spelled_promises_proofs
+pub use Rattle.lisa_machine.proofs.stage_checks_proofs

@@ -16,7 +16,7 @@ use Rattle.lisa_tree.specs.Declarations.{choices, alternatives_at}
 use Rattle.lisa_tree.specs.Paths.{choice_node}
 use Rattle.lisa_machine.proofs.description_graph_proofs.Nodes.{at_operation, at_choice}
 use Rattle.lisa_machine.specs.graph_paths.Paths.{is_in}
-use Rattle.lisa_machine.specs.least_fixed_points.Settles.{settled}
+use Rattle.form_texts.specs.least_fixed_points.Settles.{settled}
 use Rattle.lisa_machine.specs.coded_names.Codings.{is_coding, pattern_width}
 use Rattle.form_texts.specs.coding_checks.Widths.{AreWidths, has_width, shared_width, alternatives_width, choice_width, choice_named, child_width, item_width, items_width, coding_width, node_width, width_step, added, capped}
 use Rattle.form_texts.specs.coding_checks.Uneven.{lacks_coding, is_too_wide, known_widths, differ, is_uneven, choice_uneven, child_uneven, root_uneven, place_width, are_apart, uneven_fault, group_width}

@@ -1,7 +1,8 @@
-pub mod description_graph
-pub mod form_texts
-pub mod instruction_texts
-pub mod kind_checks
-pub mod least_fixed_points
-pub mod lisa_machine
-pub mod spelled_promises
+pub use Rattle.lisa_machine.specs.description_graph
+pub use Rattle.form_texts.specs as form_texts
+pub use Rattle.form_texts.specs.instruction_texts
+pub use Rattle.lisa_machine.specs.kind_checks
+pub use Rattle.lisa_machine.specs as lisa_machine
+pub use Rattle.lisa_machine.specs.machine_parts
+pub use Rattle.spelled_promises.specs as spelled_promises
+pub use Rattle.lisa_machine.specs.stage_checks

@@ -6,7 +6,8 @@
 mod instructions;
 mod writing;
 
-pub use form_texts::{FormTexts, first_bad_text, texts};
+pub use form_texts;
 pub use instructions::{a_root_has_a_group, forms_are_distinct, instructions_have_a_width};
-pub use lisa_machine::{Item, Machine, Tables, check};
+pub use lisa_machine;
+pub use lisa_machine::{description_tables, lisa_engine, stage_checks};
 pub use writing::{instructions_are_readable, operations_write_once};

@@ -3,9 +3,8 @@ ghost use Rattle.std.specs.Prelude.{◌≡◌, ◌<◌, length};
 ghost use Rattle.lisa_tree.specs.Descriptions.{description_tree};
 ghost use Rattle.instruction_samples.specs.lisa_forms.Parts.{AreFormsOf};
 
-use instruction_samples::{
-    BRANCHES, COUNTER, FAR, FREE, Form, Forms, MOVES, NESTED, PINS, PROCESSOR, form_name, machine,
-};
+use instruction_samples::lisa_forms::{Form, Forms, form_name};
+use instruction_samples::{BRANCHES, COUNTER, FAR, FREE, MOVES, NESTED, PINS, PROCESSOR, machine};
 use lisa_machine::Machine;
 use lisa_words::NoMemory;
 use std::alloc::{AllocError, Global};

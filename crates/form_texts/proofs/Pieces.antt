@@ -3,7 +3,7 @@ use Rattle.std.proofs.Common.{◌≡◌, ◌<◌, ◌+◌, ◌++◌, ℕ, List, 
 use Rattle.std.specs.List.{flat_map}
 use Rattle.std.proofs.Math.ListN.{drop_of_length-le}
 use Rattle.lisa_tree.specs.declared.descriptions.Format.TheVariants as formats
-use Rattle.asm_source.specs.Bytes.{is_word}
+use Rattle.instruction_texts.specs.asm_source.Bytes.{is_word}
 use Rattle.instruction_texts.specs.declared.shapes.Shape.{Shape}
 use Rattle.instruction_texts.specs.declared.shapes.Shape.TheVariants.{Other}
 use Rattle.instruction_texts.specs.Symbols.{Sym, text_sym, flush_shape, gather}

@@ -2,7 +2,7 @@
 use Rattle.std.specs.Prelude.{ℕ, Bool, true, false, if◌then◌else◌, List, [], ◌∷◌, ◌++◌, Option, None, Some}
 use Rattle.lisa_tree.specs.declared.descriptions.Format.{Format}
 use Rattle.lisa_tree.specs.declared.descriptions.Format.TheVariants as formats
-use Rattle.asm_source.specs.Bytes.{is_word}
+use Rattle.instruction_texts.specs.asm_source.Bytes.{is_word}
 use Rattle.instruction_texts.specs.declared.shapes.Shape.{Shape}
 use Rattle.instruction_texts.specs.declared.shapes.Shape.TheVariants.{Other, Literal, Unsigned, Signed}
 use Rattle.instruction_texts.specs.Symbols.{starts_dot}

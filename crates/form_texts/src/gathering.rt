@@ -4,7 +4,7 @@ ghost use Rattle.std.specs.Prelude.{◌≡◌, ◌<◌, ◌++◌, ◌∷◌, ℕ
 ghost use Rattle.std.specs.Global.{Vec};
 ghost use Rattle.std.specs.List.{flat_map};
 ghost use Rattle.std.specs.Option.{option_to_list};
-ghost use Rattle.asm_source.specs.Bytes.{is_word};
+ghost use Rattle.instruction_texts.specs.asm_source.Bytes.{is_word};
 ghost use Rattle.instruction_texts.specs.declared.shapes.Shape.TheVariants.{Other};
 ghost use Rattle.instruction_texts.specs.declared.shapes.Shape.{Shape as AnyShape};
 ghost use Rattle.instruction_texts.specs.Symbols.{Sym, gather, shown_values};

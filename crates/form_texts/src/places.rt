@@ -6,7 +6,7 @@ ghost use Rattle.instruction_forms.specs.Described.{items_at, labels};
 ghost use Rattle.form_texts.specs.Syntaxes.{child_names, place_in};
 ghost use Rattle.form_texts.specs.Written.{shown_items};
 
-use instruction_forms::sections;
+use instruction_forms::description_types::sections;
 use lisa_tree::{CodingItem, CodingPart, Names, SyntaxItem, coding, syntax};
 use lisa_words::Name;
 

@@ -2,7 +2,7 @@
 
 ghost use Rattle.std.specs.Prelude.{◌≡◌, ◌≤◌, ◌<◌, ◌++◌, ◌∷◌, ℕ, List, [], Option, option_map, IfOk, IfSome, IsTrue, OnOk, false, length, map, slice_index_or, take, true};
 ghost use Rattle.std.specs.List.{list_all};
-ghost use Rattle.asm_source.specs.Bytes.{is_word};
+ghost use Rattle.instruction_texts.specs.asm_source.Bytes.{is_word};
 ghost use Rattle.lisa_tree.specs.declared.descriptions.CodingItem.{CodingItem};
 ghost use Rattle.instruction_texts.specs.Symbols.{Sym, text_sym, gap, written_by, assemble, others, gather};
 ghost use Rattle.form_texts.specs.Syntaxes.{content, element};

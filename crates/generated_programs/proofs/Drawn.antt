@@ -15,11 +15,11 @@ use Rattle.pattern_tables.specs.declared.fields.Place.{Place}
 use Rattle.pattern_tables.specs.Patterns.{IsPlain}
 use Rattle.pattern_tables.specs.Places.{pair_of}
 use Rattle.pattern_tables.specs.Instructions.{form_at}
-use Rattle.lisa_syntax.specs.form_patterns.Instructions.{instruction_plain, field_places}
-use Rattle.lisa_syntax.specs.form_patterns.Filled.{AreValuesOf, IsInstruction}
-use Rattle.lisa_syntax.specs.form_patterns.Rows.{ArePlaces}
-use Rattle.lisa_syntax.proofs.form_patterns_proofs.Filling.{fit_at, whole_fits, whole_form, whole_values, its_values}
-use Rattle.lisa_syntax.proofs.form_patterns_proofs.Rowed.{row_at, rows_counted, row_is}
+use Rattle.form_patterns.specs.Instructions.{instruction_plain, field_places}
+use Rattle.form_patterns.specs.Filled.{AreValuesOf, IsInstruction}
+use Rattle.form_patterns.specs.Rows.{ArePlaces}
+use Rattle.form_patterns.proofs.Filling.{fit_at, whole_fits, whole_form, whole_values, its_values}
+use Rattle.form_patterns.proofs.Rowed.{row_at, rows_counted, row_is}
 use Rattle.generated_programs.specs.Draws.{drawn_values, plain_forms, chosen_form, next_form, next_values, next_tree}
 use Rattle.generated_programs.proofs.Marked.{marked_within, marked_is, marks_level}
 

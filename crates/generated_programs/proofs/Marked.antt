@@ -11,7 +11,7 @@ use Rattle.instruction_trees.specs.Bits.{Frame}
 use Rattle.coding_tables.specs.Instructions.{instruction_items, forms_of, form_count}
 use Rattle.pattern_tables.specs.Patterns.{IsPlain, IsAlias}
 use Rattle.pattern_tables.specs.Overlaps.{AnswersUncovered, IsCovered}
-use Rattle.lisa_syntax.specs.form_patterns.Instructions.{instruction_frames, instruction_plain}
+use Rattle.form_patterns.specs.Instructions.{instruction_frames, instruction_plain}
 use Rattle.lisa_syntax.specs.lisa_machine.Verdicts.{IsAccepted}
 use Rattle.instruction_forms.specs.Widths.{HasWidth}
 use Rattle.lisa_syntax.proofs.lisa_machine_proofs.Sound.{sound}

@@ -6,7 +6,7 @@ use Rattle.instruction_trees.specs.Values.{filled}
 use Rattle.instruction_texts.specs.Written.{text_bytes}
 use Rattle.coding_tables.specs.Instructions.{forms_of}
 use Rattle.pattern_tables.specs.Instructions.{form_at}
-use Rattle.lisa_syntax.specs.form_patterns.Instructions.{instruction_plain, field_places}
+use Rattle.form_patterns.specs.Instructions.{instruction_plain, field_places}
 use Rattle.lisa_syntax.specs.Trees.{instruction_text}
 
 -- a value for each field of these places, and the state behind them: of each word as many low bits as the field has

@@ -1,5 +1,5 @@
 pub mod Memories
 pub mod Draws
 pub mod Programs
-pub mod lisa_forms
-pub mod lisa_syntax
+pub use Rattle.lisa_syntax.specs.lisa_forms
+pub use Rattle.lisa_syntax.specs as lisa_syntax

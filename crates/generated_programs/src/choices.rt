@@ -4,13 +4,16 @@ ghost use Rattle.std.specs.Prelude.{◌≡◌, ◌<◌, ◌^◌, ◌++◌, ◌�
 ghost use Rattle.lisa_tree.specs.Descriptions.{description_tree};
 ghost use Rattle.lisa_object.specs.Texts.{text_of};
 ghost use Rattle.coding_tables.specs.Instructions.{form_count};
-ghost use Rattle.lisa_syntax.specs.form_patterns.Rows.{ArePlaces};
+ghost use Rattle.form_patterns.specs.Rows.{ArePlaces};
 ghost use Rattle.lisa_syntax.specs.lisa_forms.Parts.{AreFormsOf};
 ghost use Rattle.lisa_syntax.specs.Parts.{IsSyntaxOf};
 ghost use Rattle.generated_programs.specs.Draws.{marked_from, plain_forms, chosen_form, next_line, next_values, drawn_lines};
 
 use crate::drawing::draw_values;
-use lisa_syntax::{Forms, Machine, Syntax, all_places};
+use form_patterns::all_places;
+use lisa_syntax::Syntax;
+use lisa_syntax::lisa_forms::Forms;
+use lisa_syntax::lisa_machine::Machine;
 use lisa_words::NoMemory;
 use pattern_tables::Place;
 use rand_core::utils::NextWord;

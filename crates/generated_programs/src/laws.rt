@@ -5,7 +5,7 @@ ghost use Rattle.lisa_tree.specs.Descriptions.{DescriptionTree};
 ghost use Rattle.lisa_tree.specs.Operations.{is_alias};
 ghost use Rattle.lisa_syntax.specs.lisa_machine.Verdicts.{IsAccepted};
 ghost use Rattle.instruction_trees.specs.Trees.{is_plain};
-ghost use Rattle.lisa_syntax.specs.form_patterns.Filled.{IsInstruction};
+ghost use Rattle.form_patterns.specs.Filled.{IsInstruction};
 ghost use Rattle.lisa_syntax.specs.lisa_forms.Coverage.{IsUncoveredVerdict};
 ghost use Rattle.rand_pcg.specs.Lcg.{Lcg};
 ghost use Rattle.rand_pcg.specs.Pcg.{pcg64};

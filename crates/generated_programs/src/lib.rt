@@ -10,4 +10,4 @@ mod memories;
 pub use generating::generate;
 pub use laws::{programs_are_one, what_is_drawn_is_plain};
 pub use lisa_object::GenFault;
-pub use lisa_syntax::{Coding, Steps};
+pub use lisa_syntax::lisa_forms;

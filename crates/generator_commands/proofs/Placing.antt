@@ -11,7 +11,7 @@ use Rattle.lisa_engine.specs.Memory.{Memory}
 use Rattle.lisa_engine.specs.Images.{is_array, missing_memory}
 use Rattle.lisa_engine.specs.declared.parts.ArrayItem.{ArrayItem}
 use Rattle.lisa_object.specs.Objects.{PlainObject}
-use Rattle.description_commands.specs.machine_parts.Parts.{arrays_of, memories_of}
+use Rattle.machine_parts.specs.Parts.{arrays_of, memories_of}
 use Rattle.placed_programs.specs.Entries.{Entry}
 use Rattle.placed_programs.specs.Addresses.{Counts, no_cells}
 use Rattle.placed_programs.specs.Symbols.{with_counts}

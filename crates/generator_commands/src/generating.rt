@@ -10,7 +10,8 @@ ghost use Rattle.generated_programs.specs.Programs.{IsProgram};
 ghost use Rattle.generator_commands.specs.Generates.{IsNoProgram, GeneratesChecked, GivesProgram};
 ghost use Rattle.generator_commands.specs.Undrawn.{undrawn_end};
 
-use assembler_commands::{Tools, description_of, tools_of, write_text};
+use assembler_commands::checked_descriptions::{Tools, description_of, tools_of};
+use assembler_commands::write_text;
 use generated_programs::{GenFault, generate, programs_are_one};
 use lisa_io::Sink;
 use lisa_outcomes::{End, Refusal};

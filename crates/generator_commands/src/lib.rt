@@ -9,11 +9,9 @@ mod plans;
 mod reports;
 mod soaking;
 
-pub use assembler_commands::{
-    assemble_source, link_objects, list_image, objects_of_sources_keep_rules, sizes_are_limited,
-    sources_have_one_answer,
-};
-pub use description_commands::{check_description, do_with_description, format_description};
+pub use assembler_commands;
+pub use assembler_commands::{item_promises, source_promises};
+pub use description_commands;
 pub use generating::write_program;
-pub use module_commands::do_with_module;
+pub use module_commands;
 pub use soaking::soak;

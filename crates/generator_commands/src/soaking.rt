@@ -4,7 +4,7 @@ ghost use Rattle.asm_source.specs.Plain.{line_tree};
 ghost use Rattle.lisa_tree.specs.Descriptions.{description_tree};
 ghost use Rattle.lisa_engine.specs.Images.{IsImage, missing_memory};
 ghost use Rattle.assembler_commands.specs.lisa_machine.Machines.{IsSpelled};
-ghost use Rattle.description_commands.specs.machine_parts.Parts.{arrays_of};
+ghost use Rattle.machine_parts.specs.Parts.{arrays_of};
 ghost use Rattle.description_digest.specs.Digests.{digest_of};
 ghost use Rattle.lisa_object.specs.Objects.{object_tree};
 ghost use Rattle.lisa_object.specs.ObjectRules.{IsObject};
@@ -26,11 +26,12 @@ use crate::generating::program_of;
 use crate::plans::Plan;
 use crate::reports::{Report, report_text};
 use asm_source::SourceLine;
-use assembler_commands::{
-    Tools, description_of, image_of, lines_of, machines_show, object_of,
-    objects_of_sources_keep_rules, sizes_are_limited, tools_of, write_text,
-};
-use description_commands::Simulator;
+use assembler_commands::checked_descriptions::{Tools, description_of, tools_of};
+use assembler_commands::item_promises::sizes_are_limited;
+use assembler_commands::source_promises::objects_of_sources_keep_rules;
+use assembler_commands::use_promises::machines_show;
+use assembler_commands::{image_of, lines_of, object_of, write_text};
+use description_commands::lisa_sim::Simulator;
 use description_digest::digest;
 use engine_commands::unmade;
 use lisa_engine::{Engine, Image};

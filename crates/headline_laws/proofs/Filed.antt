@@ -5,7 +5,7 @@ use Rattle.lisa_outcomes.specs.NamedFiles.{file_at}
 use Rattle.lisa_outcomes.specs.RunFiles.{RunNames, RunBytes, run_bytes}
 use Rattle.engine_commands.specs.declared.tasks.Task.{Task}
 use Rattle.engine_commands.specs.Tasks.{takes_input}
-use Rattle.verilog_command.specs.checked_descriptions.Descriptions.{AfterSpelling}
+use Rattle.checked_descriptions.specs.Descriptions.{AfterSpelling}
 use Rattle.description_commands.specs.Runs.{GivesRun}
 use Rattle.module_commands.specs.Clocks.{module_limit, GivesClock}
 use Rattle.verilog_command.specs.Modules.{WritesVerilog}

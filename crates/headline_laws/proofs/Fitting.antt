@@ -4,12 +4,12 @@ use Rattle.lisa_tree.specs.Descriptions.{DescriptionTree}
 use Rattle.machine_parts.specs.Parts.{arrays_of, pins_of}
 use Rattle.instruction_forms.specs.Widths.{HasWidth}
 use Rattle.coding_tables.specs.Instructions.{form_count}
-use Rattle.description_commands.specs.description_sizes.Sizes.{items}
-use Rattle.description_commands.specs.description_sizes.Laws.{AreWithinLimits}
-use Rattle.description_commands.specs.lisa_forms.Verdicts.{HasForms}
+use Rattle.description_sizes.specs.Sizes.{items}
+use Rattle.description_sizes.specs.Laws.{AreWithinLimits}
+use Rattle.checked_descriptions.specs.lisa_forms.Verdicts.{HasForms}
 use Rattle.lisa_outcomes.specs.RunFiles.{RunBytes}
-use Rattle.verilog_command.specs.checked_descriptions.Checked.{Checked}
-use Rattle.verilog_command.proofs.checked_descriptions_proofs.Listed.{sound_parts}
+use Rattle.checked_descriptions.specs.Checked.{Checked}
+use Rattle.checked_descriptions.proofs.Listed.{sound_parts}
 use Rattle.module_commands.specs.Clocks.{module_limit}
 use Rattle.headline_laws.proofs.Written.{AreUnique, IsWritten}
 

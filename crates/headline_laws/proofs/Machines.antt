@@ -11,7 +11,7 @@ use Rattle.lisa_engine.proofs.Played.{entries_fit}
 use Rattle.std.specs.Str.Lines.{lines as lines_in}
 use Rattle.lisa_object.specs.declared.parts.Stamped.{Stamped}
 use Rattle.machine_parts.specs.Parts.{arrays_of, pins_of}
-use Rattle.description_commands.specs.description_sizes.Sizes.{items}
+use Rattle.description_sizes.specs.Sizes.{items}
 use Rattle.description_commands.specs.lisa_meaning.States.{state_of}
 use Rattle.verilog_text.specs.Trees.{ModuleTree}
 use Rattle.verilog_text.specs.Clocked.{regs, arrays, v_state}
@@ -22,7 +22,7 @@ use Rattle.engine_commands.specs.Tasks.{takes_input}
 use Rattle.lisa_engine.specs.Machines.{Machine, machine_of}
 use Rattle.engine_commands.specs.Schedules.{IsSchedule}
 use Rattle.engine_commands.specs.Making.{GivesMade}
-use Rattle.verilog_command.specs.checked_descriptions.Checked.{Checked}
+use Rattle.checked_descriptions.specs.Checked.{Checked}
 use Rattle.description_commands.specs.Runs.{described_machine}
 use Rattle.module_commands.specs.Designs.{Design, clock_machine}
 use Rattle.verilog_command.specs.Modules.{IsModuleOf}

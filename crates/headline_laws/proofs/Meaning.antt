@@ -3,7 +3,7 @@ use Rattle.std.proofs.Common.{◌≡◌, ◌∙◌, ℕ, List, Option, sym, ap, 
 use Rattle.lisa_tree.specs.Descriptions.{DescriptionTree}
 use Rattle.lisa_tree.specs.Texts.{SpellsText}
 use Rattle.machine_parts.specs.Parts.{arrays_of, pins_of}
-use Rattle.description_commands.specs.description_sizes.Sizes.{items}
+use Rattle.description_sizes.specs.Sizes.{items}
 use Rattle.description_commands.specs.lisa_meaning.States.{state_of}
 use Rattle.lisa_engine.specs.Memory.{Memory}
 use Rattle.lisa_engine.specs.ScheduleLine.{Line}
@@ -13,8 +13,8 @@ use Rattle.engine_commands.specs.declared.tasks.Task.{Task}
 use Rattle.lisa_engine.specs.Machines.{Machine, machine_of}
 use Rattle.engine_commands.specs.Schedules.{IsSchedule, schedule_bytes}
 use Rattle.engine_commands.specs.Tasks.{GivesTask}
-use Rattle.verilog_command.specs.checked_descriptions.Checked.{Checked, IsChecked}
-use Rattle.verilog_command.specs.checked_descriptions.DescriptionImages.{IsImageFor}
+use Rattle.checked_descriptions.specs.Checked.{Checked, IsChecked}
+use Rattle.checked_descriptions.specs.DescriptionImages.{IsImageFor}
 use Rattle.description_commands.specs.Runs.{described_machine, GivesRun}
 use Rattle.headline_laws.specs.Headline.{Meant}
 

@@ -19,9 +19,9 @@ use Rattle.lisa_engine.specs.Machines.{Machine}
 use Rattle.engine_commands.specs.Schedules.{schedule_bytes}
 use Rattle.engine_commands.specs.Tasks.{takes_input, GivesTask, GivesUnder}
 use Rattle.engine_commands.specs.Making.{GivesMade}
-use Rattle.verilog_command.specs.checked_descriptions.Checked.{Checked, AfterChecks}
-use Rattle.verilog_command.specs.checked_descriptions.Descriptions.{description_limit}
-use Rattle.verilog_command.specs.checked_descriptions.DescriptionImages.{IsImageFor}
+use Rattle.checked_descriptions.specs.Checked.{Checked, AfterChecks}
+use Rattle.checked_descriptions.specs.Descriptions.{description_limit}
+use Rattle.checked_descriptions.specs.DescriptionImages.{IsImageFor}
 use Rattle.description_commands.specs.Runs.{described_machine, GivesChecked, GivesRun}
 use Rattle.module_commands.specs.Designs.{Design, IsDesign, clock_machine}
 use Rattle.module_commands.specs.Clocks.{module_limit, GivesClock}

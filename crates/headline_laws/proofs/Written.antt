@@ -18,8 +18,8 @@ use Rattle.engine_commands.specs.Images.{IsImageOf, memories_of}
 use Rattle.engine_commands.specs.Schedules.{schedule_bytes}
 use Rattle.engine_commands.specs.Tasks.{takes_input}
 use Rattle.engine_commands.specs.Making.{GivesMade}
-use Rattle.verilog_command.specs.checked_descriptions.Checked.{Checked, IsChecked, IsFaulty, AfterChecks}
-use Rattle.verilog_command.specs.checked_descriptions.DescriptionImages.{HasDigest, IsImageFor, IsForAnother}
+use Rattle.checked_descriptions.specs.Checked.{Checked, IsChecked, IsFaulty, AfterChecks}
+use Rattle.checked_descriptions.specs.DescriptionImages.{HasDigest, IsImageFor, IsForAnother}
 use Rattle.description_commands.specs.Runs.{described_machine, GivesChecked, GivesRun}
 use Rattle.module_commands.specs.Designs.{Design, IsDesign, no_module, no_image, clock_machine}
 use Rattle.module_commands.specs.Clocks.{GivesClock}

@@ -4,7 +4,7 @@ use Rattle.lisa_tree.specs.Descriptions.{DescriptionTree}
 use Rattle.lisa_tree.specs.Texts.{SpellsText}
 use Rattle.description_digest.specs.Digests.{digest_of}
 use Rattle.machine_parts.specs.Parts.{arrays_of, pins_of}
-use Rattle.description_commands.specs.description_sizes.Sizes.{items}
+use Rattle.description_sizes.specs.Sizes.{items}
 use Rattle.description_commands.specs.lisa_meaning.States.{state_of}
 use Rattle.lisa_engine.specs.Memory.{Memory}
 use Rattle.lisa_engine.specs.Images.{missing_memory}
@@ -20,9 +20,9 @@ use Rattle.engine_commands.specs.declared.tasks.Task.TheVariants as tasks
 use Rattle.engine_commands.specs.Images.{IsImageOf}
 use Rattle.engine_commands.specs.Tasks.{takes_input}
 use Rattle.engine_commands.specs.Schedules.{IsSchedule, schedule_bytes}
-use Rattle.verilog_command.specs.checked_descriptions.Descriptions.{AfterSpelling}
-use Rattle.verilog_command.specs.checked_descriptions.Checked.{IsChecked}
-use Rattle.verilog_command.specs.checked_descriptions.DescriptionImages.{IsImageFor}
+use Rattle.checked_descriptions.specs.Descriptions.{AfterSpelling}
+use Rattle.checked_descriptions.specs.Checked.{IsChecked}
+use Rattle.checked_descriptions.specs.DescriptionImages.{IsImageFor}
 use Rattle.description_commands.specs.Runs.{GivesRun}
 use Rattle.module_commands.specs.Clocks.{GivesClock}
 use Rattle.verilog_command.specs.Modules.{WritesVerilog}

@@ -2,9 +2,9 @@
 ghost use Rattle.headline_laws.specs.Headline.{ModulesPrintAlike, TracesAreMeant, StatesAreMeant, ModulesDoAlike};
 ghost use Rattle.headline_laws.specs.Files.{FilesPrintAlike, RunsPrintOne, ClocksPrintOne};
 
-use description_commands::sizes_are_limited;
+use checked_descriptions::checks_are_unique;
+use description_commands::item_promises::sizes_are_limited;
 use lisa_object::images_are_unique;
-use verilog_command::checks_are_unique;
 
 /// The headline. What `trace` prints over a description, an image and a schedule is the trace of the states that the description means; and the module
 /// that `verilog` wrote, clocked with the same image and schedule, prints the same: by `clocktrace` what `trace` prints, and by `clock` what `run`

@@ -9,5 +9,6 @@ pub mod Whole
 pub mod Wide
 pub mod Numbered
 pub mod Commas
-pub mod coding_tables_proofs
-pub mod description_graph_proofs
+pub use Rattle.coding_tables.proofs as coding_tables_proofs
+pub use Rattle.coding_tables.proofs.description_graph_proofs
+pub use Rattle.coding_tables.proofs.description_types_proofs

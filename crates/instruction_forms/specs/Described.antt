@@ -1,7 +1,7 @@
 -- The forms of a description, with the labels of their fields.
 use Rattle.std.specs.Prelude.{◌≡◌, ℕ, Bool, false, true, List, [], ◌∷◌, Option, Some, map}
-use Rattle.coding_tables.specs.lisa_words.declared.words.Kind.{Kind}
-use Rattle.coding_tables.specs.lisa_words.declared.words.Kind.TheVariants as kinds
+use Rattle.lisa_tree.specs.lisa_words.declared.words.Kind.{Kind}
+use Rattle.lisa_tree.specs.lisa_words.declared.words.Kind.TheVariants as kinds
 use Rattle.lisa_tree.specs.declared.descriptions.CodingItem.{CodingItem}
 use Rattle.lisa_tree.specs.declared.descriptions.CodingItem.TheVariants as items
 use Rattle.lisa_tree.specs.Descriptions as trees

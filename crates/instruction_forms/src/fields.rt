@@ -12,7 +12,9 @@ ghost use Rattle.instruction_forms.specs.Picks.{item_fields, own_fields, IsPick}
 use crate::form::Field;
 use crate::picking::{Pick, end, item_span, own_items};
 use crate::sources::Sources;
-use coding_tables::{CodedNames, Kind, Name, NoMemory, pattern_width, sections};
+use coding_tables::coded_names::{CodedNames, pattern_width};
+use coding_tables::description_types::sections;
+use lisa_tree::lisa_words::{Kind, Name, NoMemory};
 use lisa_tree::{CodingItem, Names};
 use std::alloc::Global;
 

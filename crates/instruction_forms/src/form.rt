@@ -1,6 +1,6 @@
 //! Forms of instructions as values.
 
-use coding_tables::Name;
+use lisa_tree::lisa_words::Name;
 
 /// A field of a form.
 #[derive(Debug, Drop)]

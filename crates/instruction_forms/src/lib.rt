@@ -9,10 +9,8 @@ mod naming;
 mod picking;
 mod sources;
 
-pub use coding_tables::{
-    NoMemory, Widths, count_forms, first_group_width, first_not_written, instruction_choice,
-    pattern_width, sections,
-};
+pub use coding_tables;
+pub use coding_tables::{coded_names, coding_checks, description_types};
 pub use form::{Field, Form};
 pub use laws::{forms_are_plain, forms_have_the_width};
 pub use listing::forms;

@@ -17,8 +17,11 @@ use crate::fields::fields;
 use crate::form::Form;
 use crate::picking::{Pick, pick_among, picks};
 use crate::sources::Sources;
-use coding_tables::{FormCounts, NoMemory, Widths, instruction_choice, operation_count};
+use coding_tables::coding_checks::Widths;
+use coding_tables::description_types::operation_count;
+use coding_tables::{FormCounts, instruction_choice};
 use lisa_tree::Names;
+use lisa_tree::lisa_words::NoMemory;
 use std::alloc::Global;
 
 // A number of 32 bits. More operations than those count would want more memory than there is.

@@ -6,8 +6,9 @@ ghost use Rattle.instruction_forms.specs.Trees.{form_tree};
 ghost use Rattle.instruction_forms.specs.Naming.{form_text};
 
 use crate::form::Form;
-use coding_tables::{Name, NoMemory, operation_name};
+use coding_tables::description_types::operation_name;
 use lisa_tree::Names;
+use lisa_tree::lisa_words::{Name, NoMemory};
 use std::alloc::Global;
 
 // Writes the name of an operation behind a text.

@@ -10,7 +10,10 @@ ghost use Rattle.instruction_forms.specs.Described.{items_at};
 ghost use Rattle.instruction_forms.specs.Picks.{pick, told, item_span, span, child_picks, IsWalk, IsPick};
 
 use crate::sources::Sources;
-use coding_tables::{FormCounts, Name, NoMemory, choice_named, pattern_width, sections};
+use coding_tables::coded_names::pattern_width;
+use coding_tables::description_types::sections;
+use coding_tables::{FormCounts, choice_named};
+use lisa_tree::lisa_words::{Name, NoMemory};
 use lisa_tree::{CodingItem, CodingPart, Names, coding};
 use std::alloc::Global;
 

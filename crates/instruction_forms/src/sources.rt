@@ -5,7 +5,8 @@ ghost use Rattle.coding_tables.specs.description_graph.Circles.{IsFirstCircularO
 ghost use Rattle.least_fixed_points.specs.Settles.{entry};
 ghost use Rattle.coding_tables.specs.Instructions.{AreFormCounts};
 
-use coding_tables::{FormCounts, Widths};
+use coding_tables::FormCounts;
+use coding_tables::coding_checks::Widths;
 use lisa_tree::Names;
 
 /// The names of a description in which no operation reaches itself, with the widths of its codings, and how many forms each has.

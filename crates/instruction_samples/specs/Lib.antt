@@ -1,2 +1,2 @@
-pub mod lisa_forms
-pub mod lisa_syntax
+pub use Rattle.lisa_syntax.specs.lisa_forms
+pub use Rattle.lisa_syntax.specs as lisa_syntax

@@ -6,7 +6,9 @@ ghost use Rattle.lisa_syntax.specs.lisa_forms.Codings.{IsCodingOf, HasField};
 ghost use Rattle.lisa_syntax.specs.Parts.{IsSyntaxOf};
 
 use lisa_reader::read_description;
-use lisa_syntax::{Coding, Forms, Machine, Syntax, check};
+use lisa_syntax::Syntax;
+use lisa_syntax::lisa_forms::{Coding, Forms};
+use lisa_syntax::lisa_machine::{Machine, check};
 use lisa_tree::DescFault;
 use lisa_words::NoMemory;
 use std::alloc::Global;

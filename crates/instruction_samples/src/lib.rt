@@ -7,7 +7,8 @@ mod samples;
 
 pub use instructions::{Instruction, Instructions, machine};
 pub use lines::{read, tokens};
-pub use lisa_syntax::{Form, Forms, LineFault, Operand, form_name};
+pub use lisa_syntax;
+pub use lisa_syntax::lisa_forms;
 pub use samples::{
     BRANCHES, COUNTER, FAR, FREE, MOVES, NESTED, PAIR, PINS, PROCESSOR, SIGNED, WHOLE, WIDE,
 };

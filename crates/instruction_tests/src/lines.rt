@@ -1,8 +1,8 @@
 // Lines of sources, and the forms of which they are.
 use asm_source::SourceFault;
+use instruction_samples::lisa_syntax::{LineFault, Operand};
 use instruction_samples::{
-    COUNTER, FREE, Instructions, LineFault, MOVES, NESTED, Operand, PAIR, PROCESSOR, SIGNED, WHOLE,
-    WIDE, tokens,
+    COUNTER, FREE, Instructions, MOVES, NESTED, PAIR, PROCESSOR, SIGNED, WHOLE, WIDE, tokens,
 };
 use std::alloc::Global;
 use std::test::Fail;

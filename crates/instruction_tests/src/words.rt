@@ -1,7 +1,7 @@
 // Words and their forms, and values that are none of a form's.
 ghost use Rattle.std.specs.Prelude.{◌≡◌, ◌<◌};
 
-use generated_programs::{Coding, Steps};
+use generated_programs::lisa_forms::{Coding, Steps};
 use instruction_samples::{COUNTER, FREE, Instructions, MOVES, NESTED, PROCESSOR, SIGNED, WIDE};
 use std::alloc::Global;
 use std::marker::Brand;

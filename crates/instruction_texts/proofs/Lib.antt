@@ -17,3 +17,4 @@ pub mod Tiles
 pub mod TextLaws
 pub mod LineStarts
 pub mod Taking
+pub use Rattle.instruction_trees.proofs as instruction_trees_proofs

@@ -11,3 +11,5 @@ pub mod Texts
 pub mod Once
 pub mod Starts
 pub mod Misfits
+pub use Rattle.asm_source.specs as asm_source
+pub use Rattle.instruction_trees.specs as instruction_trees

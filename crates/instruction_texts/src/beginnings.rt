@@ -10,7 +10,7 @@ ghost use Rattle.instruction_texts.specs.Starts.{start_of, first_start, minus_st
 use crate::shapes::Shape;
 use crate::starts::Start;
 use asm_source::LineToken;
-use lisa_words::NoMemory;
+use asm_source::lisa_words::NoMemory;
 use std::alloc::Global;
 
 /// How the texts of a form begin, but for those that begin with a negative number.

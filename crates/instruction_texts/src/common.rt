@@ -14,8 +14,8 @@ use crate::places::{Meeting, Pending, Place};
 use crate::shapes::{Shape, Token};
 use crate::text::Text;
 use crate::writing::put_token;
+use asm_source::lisa_words::NoMemory;
 use indexmap::IndexMap;
-use lisa_words::NoMemory;
 use std::alloc::Global;
 
 #[tactic(auto, using(std::proofs::lemmas::Option::slice_get_read))]

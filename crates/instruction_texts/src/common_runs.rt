@@ -8,7 +8,7 @@ ghost use Rattle.instruction_texts.specs.Moves.{piece_of, IsCommon};
 use crate::numbers::accepts_text;
 use crate::places::{Run, Said};
 use crate::shapes::{Ending, Token};
-use lisa_words::{Name, NoMemory};
+use asm_source::lisa_words::{Name, NoMemory};
 use std::alloc::Global;
 
 fn both_accept(first: Run<'_>, second: Run<'_>, text: &[u8]) -> bool

@@ -17,6 +17,8 @@ mod starts;
 mod text;
 mod writing;
 
+pub use asm_source;
+pub use asm_source::lisa_words;
 pub use beginnings::{first_start, negative_start, starts_of};
 pub use common::common_text;
 pub use matching::matches;

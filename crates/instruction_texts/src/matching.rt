@@ -11,7 +11,7 @@ use crate::numbers::number_behind;
 use crate::operands::Operand;
 use crate::shapes::Shape;
 use asm_source::LineToken;
-use lisa_words::{Name, NoMemory};
+use asm_source::lisa_words::{Name, NoMemory};
 use std::alloc::Global;
 
 // The greatest number of so many bits.

@@ -7,8 +7,8 @@ ghost use Rattle.instruction_texts.specs.Meetings.{Comes, Joins};
 
 use crate::common_runs::common_token;
 use crate::places::{Meeting, Move, Place, Reached};
+use asm_source::lisa_words::NoMemory;
 use indexmap::IndexMap;
-use lisa_words::NoMemory;
 use std::alloc::Global;
 
 /// The number of the meeting of two places, where there is one.

@@ -1,5 +1,5 @@
 // What the text of a form is made of.
-use lisa_words::Name;
+use asm_source::lisa_words::Name;
 
 /// A piece of a form's text: what stands there whatever the values of the fields are, or a run with a number.
 #[derive(Debug, PartialEq, Eq, Drop)]

@@ -9,7 +9,7 @@ ghost use Rattle.instruction_texts.specs.Written.{laid_out, text_bytes, ends_in_
 use crate::matching::{half, ones};
 use crate::shapes::{Shape, Token};
 use crate::text::Text;
-use lisa_words::{NoMemory, decimal, hex};
+use asm_source::lisa_words::{NoMemory, decimal, hex};
 use std::alloc::Global;
 
 // Appends bytes to the text, which are no whole piece.

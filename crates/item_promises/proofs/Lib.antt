@@ -3,7 +3,6 @@ mod Titles
 mod Listed
 mod Named
 mod Wide
-pub mod description_sizes_proofs
-pub mod lisa_machine_proofs
-pub mod machine_parts_proofs
-pub mod use_promises_proofs
+pub use Rattle.lisa_forms.proofs.description_sizes_proofs
+pub use Rattle.use_promises.proofs.lisa_machine_proofs
+pub use Rattle.use_promises.proofs as use_promises_proofs

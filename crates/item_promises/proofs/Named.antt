@@ -13,8 +13,8 @@ use Rattle.lisa_engine.specs.Shape.{HaveDistinctNames}
 use Rattle.lisa_tree.specs.Resources.{stages, stages_in, fields}
 use Rattle.lisa_tree.specs.Operations.{name_at, operation_at}
 use Rattle.use_promises.specs.machine_parts.Parts.{arrays_of, pins_of, registers_of, register_in}
-use Rattle.lisa_forms.specs.spelled_promises.Words.{IsName}
-use Rattle.lisa_forms.specs.spelled_promises.Trees.{IsWellFormed, IsWellFormedResource, IsWellFormedOperation}
+use Rattle.spelled_promises.specs.Words.{IsName}
+use Rattle.spelled_promises.specs.Trees.{IsWellFormed, IsWellFormedResource, IsWellFormedOperation}
 use Rattle.use_promises.specs.lisa_machine.Distinctness.{AreDistinct, field_names}
 use Rattle.use_promises.specs.Showing.{FitsShown, shown_names}
 use Rattle.lisa_forms.specs.activation_trees.declared.parts.Occurrence.{Occurrence}

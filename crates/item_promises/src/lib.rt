@@ -4,6 +4,7 @@
 
 mod promises;
 
-pub use lisa_forms::{Coding, Forms};
+pub use lisa_forms;
 pub use promises::{shown_names_differ, shown_widths_fit, sizes_are_limited};
-pub use use_promises::{Machine, machines_show};
+pub use use_promises;
+pub use use_promises::lisa_machine;

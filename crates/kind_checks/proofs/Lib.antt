@@ -1,1 +1,2 @@
 pub mod OneMore
+pub use Rattle.description_types.proofs as description_types_proofs

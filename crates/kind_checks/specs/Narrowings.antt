@@ -5,12 +5,12 @@ use Rattle.lisa_tree.specs.declared.faults.DescFault.TheVariants as faults
 use Rattle.lisa_tree.specs.declared.tokens.Shape.{Shape}
 use Rattle.lisa_tree.specs.Expressions.{ExprTree}
 use Rattle.lisa_tree.specs.Descriptions.{DescriptionTree}
-use Rattle.description_places.specs.Scopes.{Scope}
-use Rattle.description_places.specs.Places as places
-use Rattle.description_places.specs.Places.{Condition, first, description_places}
+use Rattle.description_types.specs.description_places.Scopes.{Scope}
+use Rattle.description_types.specs.description_places.Places as places
+use Rattle.description_types.specs.description_places.Places.{Condition, first, description_places}
 use Rattle.lisa_tree.specs.Operations.{name_at}
 use Rattle.description_types.specs.Shapes.{beside}
-use Rattle.description_places.specs.Literals.{literal}
+use Rattle.description_types.specs.description_places.Literals.{literal}
 use Rattle.description_types.specs.Types.{type_of}
 use Rattle.description_types.specs.Tables.{Known, AreKinds}
 

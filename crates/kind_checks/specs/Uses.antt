@@ -4,9 +4,9 @@ use Rattle.std.specs.List.{list_all}
 use Rattle.lisa_tree.specs.declared.descriptions.Pattern.{Pattern}
 use Rattle.lisa_tree.specs.Descriptions as trees
 use Rattle.lisa_tree.specs.Descriptions.{ResourceTree, DescriptionTree}
-use Rattle.description_places.specs.declared.scopes.Local.{Local}
-use Rattle.description_places.specs.declared.sites.Region.{Region}
-use Rattle.description_places.specs.declared.sites.Region.TheVariants as regions
+use Rattle.description_types.specs.description_places.declared.scopes.Local.{Local}
+use Rattle.description_types.specs.description_places.declared.sites.Region.{Region}
+use Rattle.description_types.specs.description_places.declared.sites.Region.TheVariants as regions
 use Rattle.lisa_tree.specs.declared.declared.What.{What}
 use Rattle.lisa_tree.specs.declared.declared.What.TheVariants as whats
 use Rattle.lisa_tree.specs.declared.declared.Meaning.{Meaning}

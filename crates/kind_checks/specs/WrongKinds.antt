@@ -10,11 +10,11 @@ use Rattle.lisa_tree.specs.Descriptions as trees
 use Rattle.lisa_tree.specs.Descriptions.{ResourceTree, DeclareTree, CodingTree, SectionTree, OperationTree, DescriptionTree}
 use Rattle.lisa_tree.specs.Spellings.{keyword_text}
 use Rattle.lisa_tree.specs.declared.tokens.Keyword.TheVariants as keywords
-use Rattle.description_places.specs.declared.sites.Region.{Region}
-use Rattle.description_places.specs.declared.sites.Region.TheVariants as regions
-use Rattle.description_places.specs.Scopes.{Scope, local_named}
-use Rattle.description_places.specs.Places as places
-use Rattle.description_places.specs.Places.{Place, Condition, first, description_places}
+use Rattle.description_types.specs.description_places.declared.sites.Region.{Region}
+use Rattle.description_types.specs.description_places.declared.sites.Region.TheVariants as regions
+use Rattle.description_types.specs.description_places.Scopes.{Scope, local_named}
+use Rattle.description_types.specs.description_places.Places as places
+use Rattle.description_types.specs.description_places.Places.{Place, Condition, first, description_places}
 use Rattle.lisa_tree.specs.Same.{same_name}
 use Rattle.lisa_tree.specs.Resources.{stages, stage_at, is_pipeline}
 use Rattle.lisa_tree.specs.Operations.{name_at, own_stage, is_root, declares_in, coding_in, behavior_in, expression_in, activation_in}

@@ -5,10 +5,10 @@ ghost use Rattle.lisa_tree.specs.Same.{same_name};
 ghost use Rattle.lisa_tree.specs.Descriptions.{coding_tree, declare_tree, operation_tree};
 ghost use Rattle.kind_checks.specs.WrongKinds.{has_references, lacks_coding, is_wrong_alias};
 
+use lisa_tree::lisa_words::Name;
 use lisa_tree::{
     CodingPart, Declare, Operation, activation, behavior, coding, declares, expression,
 };
-use lisa_words::Name;
 
 // Whether a declaration is of references.
 #[tactic(auto, using(crate::proofs::OneMore::one_declaration))]

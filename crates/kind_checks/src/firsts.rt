@@ -1,17 +1,17 @@
 //! The first fault of each of the two conditions.
 
 ghost use Rattle.std.specs.Prelude.{◌≡◌, IfOk};
-ghost use Rattle.description_places.specs.Places.{first, description_places};
+ghost use Rattle.description_types.specs.description_places.Places.{first, description_places};
 ghost use Rattle.description_types.specs.Tables.{known_by, AreKinds};
 ghost use Rattle.kind_checks.specs.Narrowings.{narrowing, IsFirstNarrowing};
 ghost use Rattle.kind_checks.specs.WrongKinds.{wrong_kind, IsFirstWrongKind};
 
 use crate::narrowings::Narrowing;
 use crate::wrong_kinds::WrongKind;
-use description_places::first_fault;
 use description_types::Kinds;
+use description_types::description_places::first_fault;
+use lisa_tree::lisa_words::NoMemory;
 use lisa_tree::{DescFault, Names};
-use lisa_words::NoMemory;
 use std::alloc::Global;
 
 // The same, by what is known of the description's nodes.

@@ -9,4 +9,6 @@ mod resources;
 mod uses;
 mod wrong_kinds;
 
+pub use description_types;
+pub use description_types::coded_names;
 pub use firsts::{first_narrowing, first_wrong_kind};

@@ -6,10 +6,10 @@ ghost use Rattle.lisa_tree.specs.Operations.{name_at};
 ghost use Rattle.description_types.specs.Tables.{known_by};
 ghost use Rattle.kind_checks.specs.Narrowings.{narrows, assigned_type, narrowing};
 
-use description_places::{Condition, Region, Scope, Site};
+use description_types::description_places::{Condition, Region, Scope, Site};
 use description_types::{Kinds, beside, literal, operation_name};
+use lisa_tree::lisa_words::NoMemory;
 use lisa_tree::{DescFault, Expr, Names, Shape};
-use lisa_words::NoMemory;
 use std::alloc::Global;
 
 /// A value that is wider than its place is assigned, or is a local's first one.

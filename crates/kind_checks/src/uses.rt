@@ -8,10 +8,10 @@ ghost use Rattle.kind_checks.specs.Uses.{meant_misread, is_misread, meant_misind
 
 use crate::entries::{by_sort, is_no_operand, is_uncallable, sorts_differ};
 use crate::resources::{is_no_array, is_no_register, is_no_word};
-use description_places::Local;
+use description_types::description_places::Local;
 use description_types::{Kinds, is_apart, resource};
+use lisa_tree::lisa_words::Name;
 use lisa_tree::{Meaning, Names, What};
-use lisa_words::Name;
 
 /// What is known of the names of a description and of its nodes.
 #[derive(Drop)]

@@ -6,7 +6,7 @@ ghost use Rattle.lisa_tree.specs.Statements.{head_tree};
 ghost use Rattle.lisa_tree.specs.Descriptions.{operation_tree, resource_tree};
 ghost use Rattle.lisa_tree.specs.Spellings.{keyword_text};
 ghost use Rattle.lisa_tree.specs.declared.tokens.Keyword.TheVariants as keywords;
-ghost use Rattle.description_places.specs.Places.{place_of};
+ghost use Rattle.description_types.specs.description_places.Places.{place_of};
 ghost use Rattle.lisa_tree.specs.Resources.{stages};
 ghost use Rattle.lisa_tree.specs.Operations.{name_at};
 ghost use Rattle.description_types.specs.Tables.{known_by};
@@ -16,10 +16,10 @@ ghost use Rattle.kind_checks.specs.WrongKinds.{faulty, pipe_name, input_name, ou
 use crate::aliases::is_wrong_alias;
 use crate::resources::stage_count;
 use crate::uses::Uses;
-use description_places::{Condition, Region, Scope, Site};
+use description_types::description_places::{Condition, Region, Scope, Site};
 use description_types::{Kinds, are_apart, is_pipeline, is_root, may_input, operation_name};
+use lisa_tree::lisa_words::{Name, NoMemory};
 use lisa_tree::{BoundaryField, DescFault, Expr, ForHead, Names, Operation, Pattern, Resource};
-use lisa_words::{Name, NoMemory};
 use std::alloc::Global;
 
 /// A name is used against its declaration.

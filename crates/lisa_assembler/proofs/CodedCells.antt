@@ -8,8 +8,8 @@ use Rattle.asm_source.specs.declared.flaw.SourceFault.TheVariants as faults
 use Rattle.instruction_trees.specs.Trees.{Tree, Form}
 use Rattle.instruction_trees.specs.Values.{filled}
 use Rattle.instruction_trees.specs.Words.{word_of}
-use Rattle.instruction_forms.specs.coding_tables.Codings.{coding_table}
-use Rattle.instruction_forms.specs.coding_tables.Instructions.{instruction_items, forms_of, form_count}
+use Rattle.coding_tables.specs.Codings.{coding_table}
+use Rattle.coding_tables.specs.Instructions.{instruction_items, forms_of, form_count}
 use Rattle.pattern_tables.specs.Instructions.{form_at}
 use Rattle.instruction_forms.specs.declared.form.Field.{Field}
 use Rattle.instruction_forms.specs.Trees.{form_tree}

@@ -5,7 +5,7 @@ use Rattle.std.specs.Global.{Vec}
 use Rattle.std.proofs.lemmas.List.{length-map, get_or-map, map-append, append-nil}
 use Rattle.lisa_tree.specs.Descriptions.{DescriptionTree}
 use Rattle.instruction_trees.specs.Trees.{Done}
-use Rattle.instruction_forms.specs.coding_tables.Instructions.{forms_of, form_count}
+use Rattle.coding_tables.specs.Instructions.{forms_of, form_count}
 use Rattle.instruction_forms.specs.declared.form.Field.{Field}
 use Rattle.instruction_forms.specs.declared.form.Form.{Form, out-Form}
 use Rattle.instruction_forms.specs.Trees.{FormTree, in_turn, form_tree}

@@ -9,8 +9,8 @@ use Rattle.lisa_syntax.specs.lisa_machine.Verdicts.{IsAccepted}
 use Rattle.asm_source.specs.Plain.{PlainToken}
 use Rattle.instruction_trees.specs.Trees.{Tree, Done, Choose, Form, In}
 use Rattle.instruction_trees.specs.Values.{AreWithin, none, more, owns, inners}
-use Rattle.instruction_forms.specs.coding_tables.Codings.{coding_table}
-use Rattle.instruction_forms.specs.coding_tables.Instructions.{forms_of}
+use Rattle.coding_tables.specs.Codings.{coding_table}
+use Rattle.coding_tables.specs.Instructions.{forms_of}
 use Rattle.pattern_tables.specs.Instructions.{form_at}
 use Rattle.pattern_tables.proofs.Decoding.{place_in}
 use Rattle.form_patterns.specs.Filled.{AreValuesOf, IsInstruction}

@@ -12,8 +12,4 @@ pub mod Widths
 pub mod LineSteps
 pub mod CodedCells
 pub mod Known
-pub mod coding_tables_proofs
-pub mod form_patterns_proofs
-pub mod instruction_forms_proofs
-pub mod lisa_machine_proofs
-pub mod lisa_syntax_proofs
+pub use Rattle.lisa_syntax.proofs as lisa_syntax_proofs

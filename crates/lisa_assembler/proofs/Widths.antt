@@ -5,8 +5,8 @@ use Rattle.std.proofs.lemmas.Option.{same_Some}
 use Rattle.lisa_tree.specs.Descriptions.{DescriptionTree}
 use Rattle.lisa_tree.specs.Paths.{choice_node}
 use Rattle.least_fixed_points.specs.Settles.{Settles, settled, IsMonotone, IsWithin}
-use Rattle.instruction_forms.specs.coding_checks.Widths.{width_step}
-use Rattle.instruction_forms.specs.coding_checks.Steady.{widths_monotone}
+use Rattle.coding_tables.specs.coding_checks.Widths.{width_step}
+use Rattle.coding_tables.specs.coding_checks.Steady.{widths_monotone}
 use Rattle.instruction_forms.specs.Widths.{HasWidth, IsInstructionWidth}
 
 -- ---- widths

@@ -1,7 +1,7 @@
 -- The bits of the fields of forms.
 use Rattle.std.specs.Prelude.{◌≡◌, List, map}
 use Rattle.lisa_tree.specs.Descriptions.{DescriptionTree}
-use Rattle.instruction_forms.specs.coding_tables.Instructions.{forms_of}
+use Rattle.coding_tables.specs.Instructions.{forms_of}
 use Rattle.instruction_trees.specs.Trees.{Form}
 use Rattle.instruction_forms.specs.declared.form.Field.{Field}
 use Rattle.instruction_forms.specs.Described.{instruction_form}

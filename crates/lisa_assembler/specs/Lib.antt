@@ -10,9 +10,5 @@ pub mod Seen
 pub mod Cells
 pub mod Steps
 pub mod Tooling
-pub mod coding_tables
-pub mod form_patterns
-pub mod instruction_forms
-pub mod lisa_forms
-pub mod lisa_machine
-pub mod lisa_syntax
+pub use Rattle.lisa_syntax.specs.lisa_forms
+pub use Rattle.lisa_syntax.specs as lisa_syntax

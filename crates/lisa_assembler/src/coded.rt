@@ -9,7 +9,7 @@ ghost use Rattle.lisa_syntax.specs.Lines.{all_shapes, all_orders, IsReading};
 ghost use Rattle.placed_programs.specs.Entries.{Put, entry_lines, fix_line};
 ghost use Rattle.lisa_assembler.specs.Faults.{IsTextFault};
 ghost use Rattle.form_patterns.specs.Filled.{AreValuesOf};
-ghost use Rattle.instruction_forms.specs.coding_tables.Instructions.{form_count};
+ghost use Rattle.coding_tables.specs.Instructions.{form_count};
 ghost use Rattle.lisa_syntax.specs.lisa_forms.Verdicts.{form_name_at};
 ghost use Rattle.lisa_assembler.specs.Fixes.{fix_tree};
 ghost use Rattle.lisa_assembler.specs.Tooling.{AreTools};
@@ -20,7 +20,8 @@ use crate::fixes::{Fix, fixes_of, known_values};
 use crate::tools::Tools;
 use asm_source::{LineToken, SourceFault, Sum};
 use lisa_object::ObjectLine;
-use lisa_syntax::{LineFault, Matched, form_name};
+use lisa_syntax::lisa_forms::form_name;
+use lisa_syntax::{LineFault, Matched};
 use lisa_words::NoMemory;
 use std::alloc::{AllocError, Global};
 

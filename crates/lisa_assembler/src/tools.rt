@@ -11,7 +11,9 @@ ghost use Rattle.lisa_assembler.specs.Tooling.{AreToolsOf};
 use crate::fields::{FieldBits, all_fields};
 use crate::memories::Memories;
 use lisa_engine::ArrayItem;
-use lisa_syntax::{Coding, Forms, Machine, Syntax};
+use lisa_syntax::Syntax;
+use lisa_syntax::lisa_forms::{Coding, Forms};
+use lisa_syntax::lisa_machine::Machine;
 use lisa_words::NoMemory;
 use std::alloc::Global;
 

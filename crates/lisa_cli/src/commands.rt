@@ -16,10 +16,12 @@ ghost use Rattle.lisa_cli.specs.Gives.{Gives, GivesOver};
 ghost use Rattle.lisa_cli.specs.Worlds.{readings, IsGiven, IsHeard, HasFailed, IsCutOver, Blamed};
 
 use command_words::Command;
-use generator_commands::{
-    assemble_source, check_description, do_with_description, do_with_module, format_description,
-    link_objects, list_image, soak, write_program,
+use generator_commands::assembler_commands::{assemble_source, link_objects, list_image};
+use generator_commands::description_commands::{
+    check_description, do_with_description, format_description,
 };
+use generator_commands::module_commands::do_with_module;
+use generator_commands::{soak, write_program};
 use lisa_io::{Files, Flush, Source};
 use lisa_outcomes::{End, NamedFile, RunNames, file_at, load_files, run_bytes};
 use lisa_words::NoMemory;

@@ -5,11 +5,11 @@ use Rattle.std.proofs.lemmas.Option.{same_Some}
 use Rattle.lisa_tree.specs.Descriptions.{DescriptionTree}
 use Rattle.lisa_tree.specs.Paths.{choice_node}
 use Rattle.least_fixed_points.specs.Settles.{Settles, settled, IsMonotone, IsWithin}
-use Rattle.lisa_syntax.specs.coding_checks.Widths.{width_step}
-use Rattle.lisa_syntax.specs.coding_checks.Steady.{widths_monotone}
+use Rattle.coding_checks.specs.Widths.{width_step}
+use Rattle.coding_checks.specs.Steady.{widths_monotone}
 use Rattle.instruction_trees.specs.Trees.{Tree}
-use Rattle.lisa_syntax.specs.instruction_forms.Widths.{HasWidth, IsInstructionWidth}
-use Rattle.lisa_syntax.specs.form_patterns.Instructions.{instruction_frames, instruction_plain}
+use Rattle.form_patterns.specs.instruction_forms.Widths.{HasWidth, IsInstructionWidth}
+use Rattle.form_patterns.specs.Instructions.{instruction_frames, instruction_plain}
 use Rattle.lisa_engine.specs.Memory.{Memory}
 use Rattle.lisa_syntax.specs.lisa_forms.declared.coding.Coding.{Coding}
 use Rattle.lisa_syntax.specs.lisa_forms.Codings.{HasTree, IsCodingOf, IsDecodedAs}

@@ -5,9 +5,9 @@ use Rattle.std.proofs.lemmas.Bool.{cases_lt}
 use Rattle.std.proofs.lemmas.List.{take_more, take_all, map-append}
 use Rattle.lisa_tree.specs.Descriptions.{DescriptionTree}
 use Rattle.instruction_trees.specs.Trees.{slice}
-use Rattle.lisa_syntax.specs.coding_tables.Instructions.{forms_of, form_count}
+use Rattle.coding_tables.specs.Instructions.{forms_of, form_count}
 use Rattle.pattern_tables.specs.Instructions.{form_at}
-use Rattle.lisa_syntax.specs.form_patterns.Instructions.{field_places}
+use Rattle.form_patterns.specs.Instructions.{field_places}
 use Rattle.lisa_syntax.specs.lisa_forms.Codings.{HasField}
 
 pub one_more_read : (w : ℕ) (places : List (ℕ × ℕ)) (i v : ℕ) (old new : List ℕ) → i < length places → old ≡ map (slice w) (take i places)

@@ -2,10 +2,10 @@
 use Rattle.std.proofs.Common.{◌≡◌, ◌∙◌, ℕ, List, map, sym}
 use Rattle.lisa_tree.specs.Descriptions.{DescriptionTree}
 use Rattle.instruction_trees.specs.Trees.{slice}
-use Rattle.lisa_syntax.specs.coding_tables.Instructions.{forms_of}
+use Rattle.coding_tables.specs.Instructions.{forms_of}
 use Rattle.pattern_tables.specs.Instructions.{form_at}
-use Rattle.lisa_syntax.specs.form_patterns.Instructions.{field_places}
-use Rattle.lisa_syntax.specs.form_patterns.Filled.{IsInstruction}
+use Rattle.form_patterns.specs.Instructions.{field_places}
+use Rattle.form_patterns.specs.Filled.{IsInstruction}
 use Rattle.lisa_syntax.specs.lisa_forms.Codings.{IsOneTreeOf}
 
 -- the one tree that has a word is that of its form with the fields that stand in the word

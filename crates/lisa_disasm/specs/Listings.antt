@@ -5,9 +5,9 @@ use Rattle.lisa_tree.specs.Descriptions.{DescriptionTree}
 use Rattle.lisa_engine.specs.Memory.{Memory}
 use Rattle.instruction_trees.specs.Trees.{Tree}
 use Rattle.instruction_trees.specs.Words.{word_of}
-use Rattle.lisa_syntax.specs.coding_tables.Codings.{coding_table}
-use Rattle.lisa_syntax.specs.coding_tables.Instructions.{instruction_items}
-use Rattle.lisa_syntax.specs.instruction_forms.Widths.{HasWidth}
+use Rattle.coding_tables.specs.Codings.{coding_table}
+use Rattle.coding_tables.specs.Instructions.{instruction_items}
+use Rattle.form_patterns.specs.instruction_forms.Widths.{HasWidth}
 use Rattle.instruction_texts.specs.Written.{text_bytes}
 use Rattle.lisa_object.specs.Texts.{text_of, hex}
 use Rattle.lisa_syntax.specs.lisa_forms.Codings.{HasTree}

@@ -3,15 +3,16 @@
 ghost use Rattle.std.specs.Prelude.{◌≡◌, ◌<◌, ◌∷◌, ◌++◌, [], ℕ, List, OnOk, IfOk, map};
 ghost use Rattle.lisa_tree.specs.Descriptions.{DescriptionTree};
 ghost use Rattle.instruction_trees.specs.Trees.{Tree, slice};
-ghost use Rattle.lisa_syntax.specs.coding_tables.Instructions.{forms_of, form_count};
+ghost use Rattle.coding_tables.specs.Instructions.{forms_of, form_count};
 ghost use Rattle.pattern_tables.specs.Instructions.{form_at};
-ghost use Rattle.lisa_syntax.specs.form_patterns.Instructions.{field_places};
-ghost use Rattle.lisa_syntax.specs.form_patterns.Filled.{AreValuesOf, IsInstruction};
+ghost use Rattle.form_patterns.specs.Instructions.{field_places};
+ghost use Rattle.form_patterns.specs.Filled.{AreValuesOf, IsInstruction};
 ghost use Rattle.lisa_syntax.specs.lisa_forms.Codings.{IsCodingOf, IsOneTreeOf};
 ghost use Rattle.lisa_syntax.specs.Parts.{IsSyntaxOf};
 ghost use Rattle.lisa_disasm.specs.Listings.{value_line, instruction_line, IsInstructionLine, IsCellLine};
 
-use lisa_syntax::{Coding, Syntax};
+use lisa_syntax::Syntax;
+use lisa_syntax::lisa_forms::Coding;
 use lisa_words::{NoMemory, hex};
 use std::alloc::{AllocError, Global};
 

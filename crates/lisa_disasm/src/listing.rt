@@ -14,7 +14,8 @@ ghost use Rattle.lisa_disasm.specs.Listings.{IsCellLine, holds_instructions, mem
 use crate::lines::cell_line;
 use lisa_engine::{Image, ImageMemory, TraceEnd};
 use lisa_io::{Failed, Sink, put_all};
-use lisa_syntax::{Coding, Forms, Syntax};
+use lisa_syntax::Syntax;
+use lisa_syntax::lisa_forms::{Coding, Forms};
 use std::alloc::Global;
 
 // The line of a memory.

@@ -20,3 +20,4 @@ pub mod ChangedItems
 pub mod ChangedCells
 pub mod CellTexts
 pub mod TraceTexts
+pub use Rattle.lisa_words.proofs as lisa_words_proofs

@@ -11,3 +11,4 @@ pub mod PinValues
 pub mod Schedules
 pub mod Changes
 pub mod Traces
+pub use Rattle.lisa_words.specs as lisa_words

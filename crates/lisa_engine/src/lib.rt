@@ -13,6 +13,7 @@ mod trace;
 pub use engine::Engine;
 pub use fake::MemEngine;
 pub use image::{Image, ImageMemory, MakeFault, first_cells};
+pub use lisa_words;
 pub use parts::{ArrayItem, Item, Setting, Touch};
 pub use running::run_edges;
 pub use schedule::{Schedule, ScheduleFault, ScheduleLine, read_number, read_schedule};

@@ -13,12 +13,11 @@ pub mod Fielded
 pub mod Known
 pub mod Encoded
 pub mod Overlapping
-pub mod activation_trees_proofs
-pub mod description_sizes_proofs
-pub mod form_patterns_proofs
-pub mod form_promises_proofs
-pub mod instruction_forms_proofs
-pub mod lisa_machine_proofs
-pub mod pattern_tables_proofs
-pub mod spelled_promises_proofs
-pub mod typed_values_proofs
+pub use Rattle.description_sizes.proofs.activation_trees_proofs
+pub use Rattle.description_sizes.proofs as description_sizes_proofs
+pub use Rattle.form_patterns.proofs as form_patterns_proofs
+pub use Rattle.form_promises.proofs as form_promises_proofs
+pub use Rattle.form_patterns.proofs.instruction_forms_proofs
+pub use Rattle.form_promises.proofs.lisa_machine_proofs
+pub use Rattle.pattern_tables.proofs as pattern_tables_proofs
+pub use Rattle.form_promises.proofs.spelled_promises_proofs

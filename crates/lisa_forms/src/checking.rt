@@ -1,7 +1,7 @@
 //! The conditions on codings, sizes and texts, in the order of their numbers.
 
 ghost use Rattle.std.specs.Prelude.{◌≡◌, ◌⊎◌, ◌<◌, ℕ, None, Some, length, min, option_map, IfOk, IfErr, MatchResult};
-ghost use Rattle.form_promises.specs.least_fixed_points.Settles.{entry};
+ghost use Rattle.description_sizes.specs.least_fixed_points.Settles.{entry};
 ghost use Rattle.lisa_tree.specs.declared.faults.DescFault.TheVariants as faults;
 ghost use Rattle.lisa_tree.specs.Operations.{name_at};
 ghost use Rattle.form_patterns.specs.coding_checks.Uneven.{IsFirstGroupWidth};
@@ -19,12 +19,15 @@ ghost use Rattle.lisa_forms.specs.Verdicts.{HasForms, form_name_at, from_texts, 
 
 use crate::forms::Forms;
 use crate::ways::ways;
-use description_sizes::{Unfolded, first_root_twice, unfold};
-use form_patterns::{
-    Form, Widths, count_forms, first_group_width, first_not_written, form_name, forms,
-    instruction_choice, operation_name, plain_forms,
-};
-use form_promises::{first_bad_text, instructions_have_a_width};
+use description_sizes::activation_trees::first_root_twice;
+use description_sizes::description_types::operation_name;
+use description_sizes::{Unfolded, unfold};
+use form_patterns::coding_checks::{Widths, first_group_width, first_not_written};
+use form_patterns::coding_tables::{count_forms, instruction_choice};
+use form_patterns::instruction_forms::{Form, form_name, forms};
+use form_patterns::plain_forms;
+use form_promises::form_texts::first_bad_text;
+use form_promises::instructions_have_a_width;
 use lisa_tree::{DescFault, Names};
 use lisa_words::NoMemory;
 use std::alloc::Global;

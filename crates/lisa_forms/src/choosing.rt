@@ -10,7 +10,7 @@ ghost use Rattle.lisa_forms.specs.Parts.{AreFormsOf};
 use crate::forms::Forms;
 use crate::standing::Standing;
 use crate::way::Way;
-use form_patterns::Form;
+use form_patterns::instruction_forms::Form;
 
 // A part of a form, where it has this operation.
 fn at(part: &Form, operation: u32) -> Standing<'_>

@@ -13,7 +13,8 @@ ghost use Rattle.lisa_forms.specs.Coverage.{overlap, IsOverlapVerdict, IsUncover
 use crate::coding::Coding;
 use crate::{Forms, form_name};
 use form_patterns::{all_places, patterns};
-use form_promises::{Machine, Tables};
+use form_promises::description_tables::Tables;
+use form_promises::lisa_machine::Machine;
 use lisa_tree::DescFault;
 use lisa_words::{Name, NoMemory};
 use pattern_tables::{BitPattern, Decoder, Overlap, first_overlap, first_uncovered};

@@ -4,9 +4,9 @@ ghost use Rattle.std.specs.Prelude.{◌≡◌, ◌<◌, ◌≤◌, Some, false, 
 ghost use Rattle.description_sizes.specs.activation_trees.Places.{AreParentsBefore};
 
 use crate::way::Way;
-use description_sizes::Occurrence;
-use form_patterns::Form;
-use form_promises::Item;
+use description_sizes::activation_trees::Occurrence;
+use form_patterns::instruction_forms::Form;
+use form_promises::lisa_engine::Item;
 
 /// The forms of a description's instructions, its occurrences, and its items.
 #[derive(Drop)]

@@ -8,7 +8,8 @@ ghost use Rattle.lisa_forms.specs.Verdicts.{HasForms, IsFirstFormFault, form_nam
 
 use crate::checking::from_group_widths;
 use crate::forms::Forms;
-use form_promises::{Machine, Tables};
+use form_promises::description_tables::Tables;
+use form_promises::lisa_machine::Machine;
 use lisa_tree::DescFault;
 use lisa_words::{Name, NoMemory};
 use std::alloc::Global;
@@ -44,5 +45,5 @@ pub fn form_name(
     ensures { IfOk result (λ name. name ≡ form_name_at (description_tree machine.now) form) }
 {
     let tables = Tables::make(alloc, machine.description())?;
-    form_patterns::form_name(alloc, &tables, forms.form(form))
+    form_patterns::instruction_forms::form_name(alloc, &tables, forms.form(form))
 }

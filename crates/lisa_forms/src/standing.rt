@@ -4,7 +4,7 @@ ghost use Rattle.std.specs.Prelude.{◌≡◌, is_some, option_map};
 ghost use Rattle.form_patterns.specs.instruction_forms.Trees.{form_tree};
 ghost use Rattle.lisa_forms.specs.Standings.{told, part_in};
 
-use form_patterns::Form;
+use form_patterns::instruction_forms::Form;
 
 /// How an occurrence stands to a form.
 #[derive(Clone, Copy)]

@@ -1,7 +1,6 @@
 pub mod Heavy
 pub mod Lowered
-pub mod description_weight
-pub mod lisa_machine
-pub mod lisa_meaning
-pub mod machine_parts
-pub mod netlist_rules
+pub use Rattle.module_sizes.specs.description_sizes
+pub use Rattle.module_sizes.specs.description_weight
+pub use Rattle.module_sizes.specs.lisa_machine
+pub use Rattle.module_sizes.specs.lisa_meaning

@@ -13,7 +13,7 @@ use Rattle.step_program.specs.Programs.{Program}
 use Rattle.step_program.specs.Effects.{p_state}
 use Rattle.step_program.specs.Depths.{move_depth}
 use Rattle.step_program.specs.WellFormed.{IsWellFormed}
-use Rattle.netlist_wires.specs.Tables.{HasDistinctNames}
+use Rattle.module_sizes.specs.netlist_wires.Tables.{HasDistinctNames}
 use Rattle.module_sizes.specs.Units.{IsSmall}
 use Rattle.lisa_lower.specs.Heavy.{weight_limit}
 

@@ -12,13 +12,16 @@ ghost use Rattle.step_program.specs.declared.faults.LowerFault.TheVariants as fa
 ghost use Rattle.lisa_lower.specs.Heavy.{weight_limit, IsTooHeavy};
 ghost use Rattle.lisa_lower.specs.Lowered.{IsLowered};
 
-use lisa_forms::{Coding, Forms};
 use lisa_words::{Name, NoMemory};
+use module_sizes::description_weight::weigh;
 use module_sizes::laws::modules_are_small;
-use module_sizes::{
-    Machine, lower_edges, programs_are_formed, programs_make_edges, programs_show_states,
-    shown_is_declared, weigh,
+use module_sizes::lisa_forms::{Coding, Forms};
+use module_sizes::lisa_machine::Machine;
+use module_sizes::lowered_edges::laws::{
+    programs_are_formed, programs_make_edges, programs_show_states,
 };
+use module_sizes::lowered_edges::lower_edges;
+use module_sizes::program_declarations::shown_is_declared;
 use spelled_meanings::laws::{spelled_numbers_are_low, spelled_roots_have_places};
 use std::alloc::Global;
 use step_program::{LowerFault, StepProgram};

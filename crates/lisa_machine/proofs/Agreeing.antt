@@ -8,11 +8,11 @@ use Rattle.lisa_tree.specs.declared.declared.What.TheVariants as whats
 use Rattle.lisa_tree.specs.Declarations.{Entry, entries, declared_at, owner_at, entry_name_at, what_at, above}
 use Rattle.lisa_tree.specs.Paths.{entry_node, refers}
 use Rattle.description_graph.proofs.Nodes.{at_entry}
-use Rattle.graph_paths.specs.Paths.{is_in}
-use Rattle.least_fixed_points.specs.Settles.{Settles, settled}
-use Rattle.meant_declarations.specs.Meant.{MayMean, itself, higher, SomeMeant}
-use Rattle.description_types.specs.Facts.{Fact, together, merged_from, merged, at_entry as value_at, declared_value, reference_value, entry_value, node_value, follows}
-use Rattle.description_types.specs.Tables.{AreValues}
+use Rattle.description_graph.specs.graph_paths.Paths.{is_in}
+use Rattle.kind_checks.specs.least_fixed_points.Settles.{Settles, settled}
+use Rattle.kind_checks.specs.meant_declarations.Meant.{MayMean, itself, higher, SomeMeant}
+use Rattle.kind_checks.specs.description_types.Facts.{Fact, together, merged_from, merged, at_entry as value_at, declared_value, reference_value, entry_value, node_value, follows}
+use Rattle.kind_checks.specs.description_types.Tables.{AreValues}
 use Rattle.lisa_machine.proofs.Named.{what_is}
 use Rattle.lisa_machine.proofs.Chosen.{in_here, in_later}
 

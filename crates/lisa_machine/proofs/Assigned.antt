@@ -24,16 +24,16 @@ use Rattle.lisa_tree.specs.Meanings.{meaning, meaning_of}
 use Rattle.lisa_tree.specs.Paths.{choice_node, entry_node, refers}
 use Rattle.description_graph.proofs.Hits.{found}
 use Rattle.description_graph.proofs.Nodes.{alternatives_below}
-use Rattle.graph_paths.specs.Paths.{is_in}
-use Rattle.meant_declarations.specs.Meant.{MayMean}
-use Rattle.description_types.specs.declared.values.Assignable.{Assignable}
-use Rattle.description_types.specs.declared.values.Assignable.TheVariants as assigns
-use Rattle.description_types.specs.Types.{element_shape, meant_element}
-use Rattle.description_types.specs.Refused.{is_apart, is_refused}
-use Rattle.description_types.specs.Facts.{Fact, IsSteady, merged, at_entry as value_at, declared_value, entry_value, added, known_together, any_open}
-use Rattle.description_types.specs.Kinds.{resource_assignable, settled_assignable, meant_assignable, array_assignable, value_assignable, expression_assignable, both_assignable, choice_assignable, either_assignable, assignable_fact}
-use Rattle.description_types.specs.Steady.{assignables_steady}
-use Rattle.description_types.specs.Tables.{unfit, DifferInAssigning, Known, AreKinds}
+use Rattle.description_graph.specs.graph_paths.Paths.{is_in}
+use Rattle.kind_checks.specs.meant_declarations.Meant.{MayMean}
+use Rattle.kind_checks.specs.description_types.declared.values.Assignable.{Assignable}
+use Rattle.kind_checks.specs.description_types.declared.values.Assignable.TheVariants as assigns
+use Rattle.kind_checks.specs.description_types.Types.{element_shape, meant_element}
+use Rattle.kind_checks.specs.description_types.Refused.{is_apart, is_refused}
+use Rattle.kind_checks.specs.description_types.Facts.{Fact, IsSteady, merged, at_entry as value_at, declared_value, entry_value, added, known_together, any_open}
+use Rattle.kind_checks.specs.description_types.Kinds.{resource_assignable, settled_assignable, meant_assignable, array_assignable, value_assignable, expression_assignable, both_assignable, choice_assignable, either_assignable, assignable_fact}
+use Rattle.kind_checks.specs.description_types.Steady.{assignables_steady}
+use Rattle.kind_checks.specs.description_types.Tables.{unfit, DifferInAssigning, Known, AreKinds}
 use Rattle.name_checks.specs.Doubled.{duplicate}
 use Rattle.name_checks.specs.Unknown.{unknown, is_something, is_known}
 use Rattle.kind_checks.specs.Uses.{is_no_word, is_no_array, sorts_differ, meant_misread, is_misread, meant_misindexed, is_misindexed, meant_miswritten, is_miswritten, what_misdeclared}

@@ -8,7 +8,7 @@ use Rattle.description_places.specs.Places.{at}
 use Rattle.lisa_tree.specs.declared.declared.What.TheVariants as whats
 use Rattle.lisa_tree.specs.Operations.{number_of, numbers_of, name_at, is_alias}
 use Rattle.lisa_tree.specs.Declarations.{Entry, Choice, choice, entries, choices, declared_at, what_at, alternatives_at, plain_at}
-use Rattle.description_types.specs.Tables.{Known}
+use Rattle.kind_checks.specs.description_types.Tables.{Known}
 use Rattle.name_checks.specs.Doubled.{duplicate}
 use Rattle.name_checks.specs.Unknown.{unknown, alternatives_unknown, operation_unknown}
 use Rattle.kind_checks.specs.Uses.{is_empty, is_misdeclared, what_misdeclared}

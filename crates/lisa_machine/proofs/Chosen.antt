@@ -4,16 +4,16 @@ use Rattle.std.specs.Option.{is_none}
 use Rattle.std.proofs.lemmas.Bool.{or_cases, or_parts, eq-eqb, eqb-true}
 use Rattle.lisa_tree.specs.declared.tokens.Shape.{Shape}
 use Rattle.lisa_tree.specs.Descriptions.{DescriptionTree}
-use Rattle.graph_paths.specs.Paths.{is_in}
+use Rattle.description_graph.specs.graph_paths.Paths.{is_in}
 use Rattle.lisa_tree.specs.Operations.{is_alias}
 use Rattle.lisa_tree.specs.Declarations.{alternatives_at, plain_at}
-use Rattle.description_types.specs.declared.values.TypeOf.{TypeOf}
-use Rattle.description_types.specs.declared.values.TypeOf.TheVariants as types
-use Rattle.description_types.specs.Shapes.{same_shape}
-use Rattle.description_types.specs.Types.{Types}
-use Rattle.description_types.specs.Facts.{together, merged_from, merged, added, known_together, any_open}
-use Rattle.description_types.specs.Kinds.{both_types, lacks_expression, is_refused_type, any_refused, unrefused, choice_type, type_fact}
-use Rattle.description_types.specs.Steady.{shapes_same}
+use Rattle.kind_checks.specs.description_types.declared.values.TypeOf.{TypeOf}
+use Rattle.kind_checks.specs.description_types.declared.values.TypeOf.TheVariants as types
+use Rattle.kind_checks.specs.description_types.Shapes.{same_shape}
+use Rattle.kind_checks.specs.description_types.Types.{Types}
+use Rattle.kind_checks.specs.description_types.Facts.{together, merged_from, merged, added, known_together, any_open}
+use Rattle.kind_checks.specs.description_types.Kinds.{both_types, lacks_expression, is_refused_type, any_refused, unrefused, choice_type, type_fact}
+use Rattle.kind_checks.specs.description_types.Steady.{shapes_same}
 
 abbrev pub IsSome : {T : Type 0} → Option T → Type 0
 IsSome {T = T} r = (t : T) × (r ≡ Some t)

@@ -10,7 +10,7 @@ use Rattle.std.proofs.lemmas.List.Quantifiers.{position-Some}
 use Rattle.std.proofs.lemmas.List.Sums.{fails_before_first}
 use Rattle.name_checks.specs.Doubled.{duplicate_fault, earlier}
 use Rattle.name_checks.specs.Unknown.{unknown_fault}
-use Rattle.shape_checks.specs.Shapes.{width_fault}
+use Rattle.machine_parts.specs.shape_checks.Shapes.{width_fault}
 use Rattle.kind_checks.specs.WrongKinds.{faulty, told}
 
 -- ---- truth values

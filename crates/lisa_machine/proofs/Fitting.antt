@@ -4,7 +4,7 @@ use Rattle.std.specs.Prelude.{slice_get}
 use Rattle.std.specs.List.{AllByRecursion, list_all}
 use Rattle.std.specs.Cmp.Lexicographic.{nat_list_eq_equiv}
 use Rattle.std.proofs.lemmas.Bool.{and_parts, eqb-true}
-use Rattle.lisa_words.specs.declared.words.Kind.{Kind}
+use Rattle.lisa_tree.specs.lisa_words.declared.words.Kind.{Kind}
 use Rattle.lisa_tree.specs.declared.tokens.Shape.{Shape}
 use Rattle.lisa_tree.specs.declared.descriptions.Pattern.{Pattern}
 use Rattle.lisa_tree.specs.declared.descriptions.Format.{Format}
@@ -31,23 +31,23 @@ use Rattle.lisa_tree.specs.Operations.{name_at, own_stage, sections_at, declares
 use Rattle.lisa_tree.specs.Declarations.{declared_at, what_at, entry_name_at}
 use Rattle.lisa_tree.specs.Meanings.{meaning, meaning_of}
 use Rattle.lisa_tree.specs.Paths.{entry_node, refers}
-use Rattle.coded_names.specs.Codings.{pattern_width, field_width}
-use Rattle.least_fixed_points.specs.Settles.{settled}
-use Rattle.meant_declarations.specs.Meant.{itself}
+use Rattle.kind_checks.specs.coded_names.Codings.{pattern_width, field_width}
+use Rattle.kind_checks.specs.least_fixed_points.Settles.{settled}
+use Rattle.kind_checks.specs.meant_declarations.Meant.{itself}
 use Rattle.description_graph.proofs.Hits.{found}
 use Rattle.description_graph.proofs.Nodes.{at_entry}
-use Rattle.description_types.specs.declared.values.CodedName.{CodedName}
-use Rattle.description_types.specs.declared.values.TypeOf.{TypeOf}
-use Rattle.description_types.specs.declared.values.TypeOf.TheVariants as types
-use Rattle.description_types.specs.Shapes.{shape_of}
-use Rattle.description_types.specs.Codings.{width_type, label_type, name_coding, coding_at}
-use Rattle.description_types.specs.Facts.{entry_value, node_value, follows}
-use Rattle.description_types.specs.Kinds.{type_fact}
-use Rattle.description_types.specs.Tables.{apart, LacksType, Known, AreKinds}
+use Rattle.kind_checks.specs.description_types.declared.values.CodedName.{CodedName}
+use Rattle.kind_checks.specs.description_types.declared.values.TypeOf.{TypeOf}
+use Rattle.kind_checks.specs.description_types.declared.values.TypeOf.TheVariants as types
+use Rattle.kind_checks.specs.description_types.Shapes.{shape_of}
+use Rattle.kind_checks.specs.description_types.Codings.{width_type, label_type, name_coding, coding_at}
+use Rattle.kind_checks.specs.description_types.Facts.{entry_value, node_value, follows}
+use Rattle.kind_checks.specs.description_types.Kinds.{type_fact}
+use Rattle.kind_checks.specs.description_types.Tables.{apart, LacksType, Known, AreKinds}
 use Rattle.name_checks.specs.Unknown.{unknown, is_something, stands, is_known, is_field, register_unknown, part_unknown}
-use Rattle.shape_checks.specs.Shapes.{bad_width, bit_count}
+use Rattle.machine_parts.specs.shape_checks.Shapes.{bad_width, bit_count}
 use Rattle.kind_checks.specs.Uses.{by_sort, is_free, is_wrong_operand, is_wrong_root_group, is_wrong_field, is_wrong_number, is_wrong_shown, is_misstarted, is_wrong_register, is_no_register}
-use Rattle.description_types.specs.Refused.{may_input}
+use Rattle.kind_checks.specs.description_types.Refused.{may_input}
 use Rattle.kind_checks.specs.WrongKinds.{wrong_kind, faulty, has_references, lacks_coding, is_wrong_alias, stage_name, head_name, register_name, root_name}
 use Rattle.stage_checks.specs.Resets.{is_scalar}
 use Rattle.stage_checks.specs.Running.{acts_names}

@@ -19,11 +19,11 @@ use Rattle.lisa_tree.specs.Resources.{stage_at, is_pipeline}
 use Rattle.lisa_tree.specs.Operations.{number_of, name_at, operation_at, own_stage, sections_at, coding_in}
 use Rattle.lisa_tree.specs.Declarations.{plain_at}
 use Rattle.lisa_tree.specs.Paths.{node_count}
-use Rattle.graph_paths.specs.Paths.{is_in}
+use Rattle.description_graph.specs.graph_paths.Paths.{is_in}
 use Rattle.name_checks.specs.Unknown.{unknown, name_unknown, stage_unknown, is_stage}
-use Rattle.shape_checks.specs.declared.bounds.Bounds.{Bounds}
-use Rattle.shape_checks.specs.Bounds.{bounds_of, turns}
-use Rattle.shape_checks.specs.Shapes.{without_bound, too_long, open_fault, long_fault}
+use Rattle.machine_parts.specs.shape_checks.declared.bounds.Bounds.{Bounds}
+use Rattle.machine_parts.specs.shape_checks.Bounds.{bounds_of, turns}
+use Rattle.machine_parts.specs.shape_checks.Shapes.{without_bound, too_long, open_fault, long_fault}
 use Rattle.stage_checks.specs.Controls.{main_name, reset_name, is_before, may_control, refusal, control}
 use Rattle.stage_checks.specs.Closing.{closes_well}
 use Rattle.stage_checks.specs.Running.{Activates, RunsIn, started, IsLatest}

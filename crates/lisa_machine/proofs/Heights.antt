@@ -3,7 +3,7 @@ use Rattle.std.proofs.Common.{◌≡◌, ◌⊎◌, ◌<◌, ◌≤◌, ◌+◌,
 use Rattle.std.specs.List.{IsDistinct, AllByRecursion}
 use Rattle.std.proofs.lemmas.Bool.{eqb-true, cases_Bool, cases_lt, or_cases}
 use Rattle.std.proofs.lemmas.Map.Steps.{length-le_from_distinct_below}
-use Rattle.graph_paths.specs.Paths.{is_in}
+use Rattle.description_graph.specs.graph_paths.Paths.{is_in}
 
 -- ---- the greatest of some numbers
 

@@ -24,6 +24,9 @@ pub mod Resolved
 pub mod Assigned
 pub mod Agreeing
 pub mod Unrefused
-pub mod description_graph_proofs
-pub mod description_types_proofs
-pub mod machine_parts_proofs
+pub use Rattle.description_graph.proofs as description_graph_proofs
+pub use Rattle.description_tables.proofs as description_tables_proofs
+pub use Rattle.kind_checks.proofs.description_types_proofs
+pub use Rattle.machine_parts.proofs as machine_parts_proofs
+pub use Rattle.stage_checks.proofs as stage_checks_proofs
+pub use Rattle.machine_parts.proofs.typed_values_proofs

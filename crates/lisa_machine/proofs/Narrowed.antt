@@ -9,8 +9,8 @@ use Rattle.description_places.specs.Scopes.{Scope}
 use Rattle.description_places.specs.Places as places
 use Rattle.description_places.specs.Places.{at}
 use Rattle.lisa_tree.specs.Operations.{name_at}
-use Rattle.description_types.specs.Types.{type_of}
-use Rattle.description_types.specs.Tables.{Known}
+use Rattle.kind_checks.specs.description_types.Types.{type_of}
+use Rattle.kind_checks.specs.description_types.Tables.{Known}
 use Rattle.kind_checks.specs.Narrowings.{narrows, assigned_type, narrowing}
 use Rattle.lisa_machine.specs.Freedom.{IsFree, Stands}
 use Rattle.lisa_machine.proofs.Among.{free_place}

@@ -24,15 +24,15 @@ use Rattle.lisa_tree.specs.Operations.{name_at, operation_at, own_stage, is_root
 use Rattle.lisa_tree.specs.Declarations.{declared_at}
 use Rattle.lisa_tree.specs.Meanings.{meaning, meaning_of}
 use Rattle.lisa_tree.specs.Paths.{entry_node}
-use Rattle.description_types.specs.declared.values.TypeOf.{TypeOf}
-use Rattle.description_types.specs.declared.values.TypeOf.TheVariants as types
-use Rattle.description_types.specs.Types.{typed}
-use Rattle.description_types.specs.Tables.{Known, AreKinds}
+use Rattle.kind_checks.specs.description_types.declared.values.TypeOf.{TypeOf}
+use Rattle.kind_checks.specs.description_types.declared.values.TypeOf.TheVariants as types
+use Rattle.kind_checks.specs.description_types.Types.{typed}
+use Rattle.kind_checks.specs.description_types.Tables.{Known, AreKinds}
 use Rattle.name_checks.specs.Doubled.{duplicate}
 use Rattle.name_checks.specs.Unknown.{unknown, is_something, stands, is_known, is_field, is_stage, name_unknown, stage_unknown, field_unknown, control_unknown, behind_unknown}
-use Rattle.shape_checks.specs.Bounds.{bounds_of, holds_values}
-use Rattle.shape_checks.specs.Shapes.{is_width, width_fault, field_fault, resource_width, bad_width, is_depth, depth_fault, array_fault, resource_depth, bad_depth, counter_width}
-use Rattle.description_types.specs.Refused.{may_input, are_apart, is_apart}
+use Rattle.machine_parts.specs.shape_checks.Bounds.{bounds_of, holds_values}
+use Rattle.machine_parts.specs.shape_checks.Shapes.{is_width, width_fault, field_fault, resource_width, bad_width, is_depth, depth_fault, array_fault, resource_depth, bad_depth, counter_width}
+use Rattle.kind_checks.specs.description_types.Refused.{may_input, are_apart, is_apart}
 use Rattle.kind_checks.specs.Uses.{is_no_word, is_no_register, is_no_array, meant_misread, is_misread, meant_misindexed, is_misindexed, meant_miswritten, is_miswritten, may_output, tells_decoded}
 use Rattle.kind_checks.specs.WrongKinds.{wrong_kind, owner_name, faulty, boundary_name}
 use Rattle.stage_checks.specs.Resets.{is_scalar}

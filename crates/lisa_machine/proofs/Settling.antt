@@ -18,11 +18,11 @@ use Rattle.description_graph.proofs.Meant.{next_of}
 use Rattle.lisa_tree.specs.Declarations.{entry}
 use Rattle.description_graph.proofs.Numbered.{read_entry}
 use Rattle.description_graph.proofs.Nodes.{at_operation, at_choice, at_entry, alternatives_below}
-use Rattle.graph_paths.specs.Paths.{is_in}
-use Rattle.least_fixed_points.specs.Settles.{Settles, settled}
-use Rattle.description_types.specs.Facts.{Fact, IsSteady, merged, at_entry as value_at, declared_value, reference_value, entry_value, node_value, follows}
-use Rattle.description_types.specs.Larger.{follows_monotone}
-use Rattle.description_types.specs.Tables.{AreValues, Known}
+use Rattle.description_graph.specs.graph_paths.Paths.{is_in}
+use Rattle.kind_checks.specs.least_fixed_points.Settles.{Settles, settled}
+use Rattle.kind_checks.specs.description_types.Facts.{Fact, IsSteady, merged, at_entry as value_at, declared_value, reference_value, entry_value, node_value, follows}
+use Rattle.kind_checks.specs.description_types.Larger.{follows_monotone}
+use Rattle.kind_checks.specs.description_types.Tables.{AreValues, Known}
 use Rattle.name_checks.specs.Doubled.{duplicate}
 use Rattle.name_checks.specs.Unknown.{unknown, is_main, lacks, is_loose, what_of}
 use Rattle.kind_checks.specs.WrongKinds.{wrong_kind}
@@ -32,7 +32,7 @@ use Rattle.lisa_machine.specs.Declaring.{Chooses}
 use Rattle.lisa_machine.proofs.Among.{free_place}
 use Rattle.lisa_machine.proofs.Entries.{entry_stands, entry_chooses}
 use Rattle.lisa_machine.proofs.Decoding.{off_left, off_right, not_off, some_of, is_found}
-use Rattle.description_types.proofs.OneKnown.{same_option}
+use Rattle.kind_checks.proofs.description_types_proofs.OneKnown.{same_option}
 use Rattle.lisa_machine.proofs.Named.{entry_found, what_is}
 use Rattle.lisa_machine.proofs.Choosing.{group_left, instance_left}
 use Rattle.lisa_machine.proofs.Agreeing.{merged_keeps}

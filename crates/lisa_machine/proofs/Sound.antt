@@ -4,11 +4,11 @@ use Rattle.std.specs.Prelude.{option_map}
 use Rattle.lisa_tree.specs.declared.faults.DescFault.TheVariants as faults
 use Rattle.lisa_tree.specs.Descriptions.{DescriptionTree}
 use Rattle.description_graph.specs.Circles.{IsFirstCircularOperation}
-use Rattle.description_types.specs.Tables.{Known}
-use Rattle.description_types.proofs.OneKnown.{one_known}
+use Rattle.kind_checks.specs.description_types.Tables.{Known}
+use Rattle.kind_checks.proofs.description_types_proofs.OneKnown.{one_known}
 use Rattle.name_checks.specs.Doubled.{duplicate}
 use Rattle.name_checks.specs.Unknown.{unknown}
-use Rattle.shape_checks.specs.Shapes.{bad_width, bad_depth, without_bound, too_long}
+use Rattle.machine_parts.specs.shape_checks.Shapes.{bad_width, bad_depth, without_bound, too_long}
 use Rattle.kind_checks.specs.WrongKinds.{IsFirstWrongKind}
 use Rattle.kind_checks.specs.Narrowings.{narrowing, IsFirstNarrowing}
 use Rattle.stage_checks.specs.Controls.{control}

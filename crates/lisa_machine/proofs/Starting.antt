@@ -10,7 +10,7 @@ use Rattle.lisa_tree.specs.Descriptions.{DescriptionTree}
 use Rattle.description_places.specs.declared.sites.Region.TheVariants as regions
 use Rattle.description_places.specs.Places.{at, Starts, act_places, acts_places, uses}
 use Rattle.lisa_tree.specs.Operations.{sections_at, activation_in}
-use Rattle.graph_paths.specs.Paths.{is_in}
+use Rattle.description_graph.specs.graph_paths.Paths.{is_in}
 use Rattle.stage_checks.specs.Running.{started, act_names, acts_names, activation_names, choices_named, named_choices}
 use Rattle.lisa_machine.specs.Freedom.{Stands, AllStand}
 use Rattle.lisa_machine.proofs.Among.{among_left, among_right}

@@ -4,9 +4,9 @@ use Rattle.std.specs.Prelude.{slice_get, option_map}
 use Rattle.std.specs.Option.{is_none, is_some}
 use Rattle.std.proofs.lemmas.Option.{slice_get_within}
 use Rattle.lisa_tree.specs.declared.tokens.Shape.{Shape}
-use Rattle.lisa_words.specs.declared.words.Kind.{Kind}
-use Rattle.lisa_words.specs.declared.binary.Operator.{Operator}
-use Rattle.lisa_words.specs.declared.binary.Operator.TheVariants as operators
+use Rattle.lisa_tree.specs.lisa_words.declared.words.Kind.{Kind}
+use Rattle.lisa_tree.specs.lisa_words.declared.binary.Operator.{Operator}
+use Rattle.lisa_tree.specs.lisa_words.declared.binary.Operator.TheVariants as operators
 use Rattle.lisa_tree.specs.Expressions as exprs
 use Rattle.lisa_tree.specs.Expressions.{ExprTree}
 use Rattle.lisa_tree.specs.Descriptions as trees
@@ -27,19 +27,19 @@ use Rattle.lisa_tree.specs.Declarations.{Entry, entries, choices, declared_at, a
 use Rattle.lisa_tree.specs.Meanings.{meaning, meaning_of}
 use Rattle.lisa_tree.specs.Paths.{choice_node, entry_node, refers}
 use Rattle.description_graph.proofs.Hits.{found}
-use Rattle.graph_paths.specs.Paths.{is_in}
-use Rattle.coded_names.specs.Codings.{field_width, number_kind}
-use Rattle.description_types.specs.declared.values.TypeOf.{TypeOf}
-use Rattle.description_types.specs.declared.values.TypeOf.TheVariants as types
-use Rattle.description_types.specs.Shapes.{bit, joined, beside, paired}
-use Rattle.description_types.specs.Types.{word_shape, element_shape, typed, meant_type, or_meant_type, name_type, meant_element, or_meant_element, element_type, two_type, type_of}
-use Rattle.description_types.specs.Refused.{is_apart, meant_open, is_open, rests_on_refused, rests_on_open}
-use Rattle.description_types.specs.Facts.{Fact, IsSteady, merged, at_entry as value_at, declared_value}
-use Rattle.description_types.specs.Codings.{kind_or_unsigned, width_type, name_coding}
-use Rattle.description_types.specs.Kinds.{as_type, expression_type, both_types, type_fact}
-use Rattle.description_types.specs.Steady.{types_steady}
-use Rattle.description_types.specs.Tables.{apart, DifferInType, IsSettled, Known, AreKinds}
-use Rattle.description_types.proofs.KnownTypes.{self_shape, types_decide}
+use Rattle.description_graph.specs.graph_paths.Paths.{is_in}
+use Rattle.kind_checks.specs.coded_names.Codings.{field_width, number_kind}
+use Rattle.kind_checks.specs.description_types.declared.values.TypeOf.{TypeOf}
+use Rattle.kind_checks.specs.description_types.declared.values.TypeOf.TheVariants as types
+use Rattle.kind_checks.specs.description_types.Shapes.{bit, joined, beside, paired}
+use Rattle.kind_checks.specs.description_types.Types.{word_shape, element_shape, typed, meant_type, or_meant_type, name_type, meant_element, or_meant_element, element_type, two_type, type_of}
+use Rattle.kind_checks.specs.description_types.Refused.{is_apart, meant_open, is_open, rests_on_refused, rests_on_open}
+use Rattle.kind_checks.specs.description_types.Facts.{Fact, IsSteady, merged, at_entry as value_at, declared_value}
+use Rattle.kind_checks.specs.description_types.Codings.{kind_or_unsigned, width_type, name_coding}
+use Rattle.kind_checks.specs.description_types.Kinds.{as_type, expression_type, both_types, type_fact}
+use Rattle.kind_checks.specs.description_types.Steady.{types_steady}
+use Rattle.kind_checks.specs.description_types.Tables.{apart, DifferInType, IsSettled, Known, AreKinds}
+use Rattle.kind_checks.proofs.description_types_proofs.KnownTypes.{self_shape, types_decide}
 use Rattle.name_checks.specs.Doubled.{duplicate}
 use Rattle.name_checks.specs.Unknown as unknowns
 use Rattle.name_checks.specs.Unknown.{unknown, is_something, stands, is_known, is_field, is_main, lacks, is_loose, what_of, control_unknown, behind_unknown, stage_unknown, field_unknown}

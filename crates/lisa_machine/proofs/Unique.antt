@@ -7,8 +7,8 @@ use Rattle.lisa_tree.specs.declared.faults.DescFault.TheVariants as faults
 use Rattle.lisa_tree.specs.Descriptions.{DescriptionTree}
 use Rattle.description_places.specs.Places.{Condition, first, description_places}
 use Rattle.description_graph.specs.Circles.{IsFirstCircularOperation}
-use Rattle.description_types.specs.Tables.{Known}
-use Rattle.description_types.proofs.OneKnown.{one_known}
+use Rattle.kind_checks.specs.description_types.Tables.{Known}
+use Rattle.kind_checks.proofs.description_types_proofs.OneKnown.{one_known}
 use Rattle.kind_checks.specs.WrongKinds.{wrong_kind, IsFirstWrongKind}
 use Rattle.kind_checks.specs.Narrowings.{narrowing, IsFirstNarrowing}
 use Rattle.std.specs.Prelude.{not, ◌||◌}

@@ -1,7 +1,7 @@
 -- In an expression in which nothing is wrong no use is refused, so its type rests on none.
 use Rattle.std.proofs.Common.{◌≡◌, ◌++◌, ◌||◌, ℕ, List, [], Option, None, Some, Bool, true, false, cond, not, refl, ap₂, inl}
-use Rattle.lisa_words.specs.declared.binary.Operator.{Operator}
-use Rattle.lisa_words.specs.declared.binary.Operator.TheVariants as operators
+use Rattle.lisa_tree.specs.lisa_words.declared.binary.Operator.{Operator}
+use Rattle.lisa_tree.specs.lisa_words.declared.binary.Operator.TheVariants as operators
 use Rattle.lisa_tree.specs.Expressions as exprs
 use Rattle.lisa_tree.specs.Expressions.{ExprTree}
 use Rattle.lisa_tree.specs.Descriptions.{DescriptionTree}
@@ -13,8 +13,8 @@ use Rattle.lisa_tree.specs.declared.declared.Meaning.TheVariants as meanings
 use Rattle.lisa_tree.specs.Resources.{stage_at, is_pipeline}
 use Rattle.lisa_tree.specs.Operations.{name_at, own_stage, is_root}
 use Rattle.lisa_tree.specs.Meanings.{meaning}
-use Rattle.description_types.specs.Refused.{may_input, are_apart, meant_refused, is_refused, two_rest, rests_on, rests_on_refused}
-use Rattle.description_types.specs.Tables.{Known}
+use Rattle.kind_checks.specs.description_types.Refused.{may_input, are_apart, meant_refused, is_refused, two_rest, rests_on, rests_on_refused}
+use Rattle.kind_checks.specs.description_types.Tables.{Known}
 use Rattle.kind_checks.specs.Uses.{tells_decoded, meant_misread, is_misread}
 use Rattle.kind_checks.specs.WrongKinds.{wrong_kind, faulty, boundary_name}
 use Rattle.lisa_machine.specs.Freedom.{IsFree, AllStand}

@@ -4,7 +4,7 @@ use Rattle.lisa_tree.specs.declared.faults.DescFault.{DescFault}
 use Rattle.lisa_tree.specs.Descriptions.{DescriptionTree}
 use Rattle.name_checks.specs.Doubled.{duplicate}
 use Rattle.name_checks.specs.Unknown.{unknown}
-use Rattle.shape_checks.specs.Shapes.{bad_width, bad_depth, without_bound, too_long}
+use Rattle.machine_parts.specs.shape_checks.Shapes.{bad_width, bad_depth, without_bound, too_long}
 use Rattle.stage_checks.specs.Controls.{control}
 use Rattle.stage_checks.specs.Resets.{bad_reset}
 use Rattle.lisa_machine.specs.Verdicts.{conditions, IsAccepted, IsFirstFault, HasNoFault}

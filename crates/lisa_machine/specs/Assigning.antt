@@ -10,10 +10,10 @@ use Rattle.lisa_tree.specs.Resources.{resource_at}
 use Rattle.lisa_tree.specs.declared.declared.What.TheVariants as whats
 use Rattle.lisa_tree.specs.Operations.{sections_at, expression_in}
 use Rattle.lisa_tree.specs.Declarations.{Entry, entries, declared_at, plain_at, above}
-use Rattle.graph_paths.specs.Paths.{is_in}
+use Rattle.description_graph.specs.graph_paths.Paths.{is_in}
 use Rattle.lisa_tree.specs.Paths.{entry_node}
-use Rattle.description_types.specs.declared.values.Assignable.{Assignable}
-use Rattle.description_types.specs.declared.values.Assignable.TheVariants as assigns
+use Rattle.kind_checks.specs.description_types.declared.values.Assignable.{Assignable}
+use Rattle.kind_checks.specs.description_types.declared.values.Assignable.TheVariants as assigns
 use Rattle.stage_checks.specs.Resets.{is_scalar}
 use Rattle.lisa_machine.specs.Freedom.{Stands}
 use Rattle.lisa_machine.specs.Values.{ChoosesAmong}

@@ -15,7 +15,7 @@ use Rattle.lisa_tree.specs.Descriptions.{DeclareTree, CodingTree, OperationTree,
 use Rattle.lisa_tree.specs.Resources.{resource_at, field_shape}
 use Rattle.lisa_tree.specs.Operations.{own_stage, sections_at, declares_in, coding_in, behavior_in, expression_in, activation_in}
 use Rattle.lisa_tree.specs.Declarations.{declared_at}
-use Rattle.coded_names.specs.Codings.{pattern_width, field_width}
+use Rattle.kind_checks.specs.coded_names.Codings.{pattern_width, field_width}
 use Rattle.stage_checks.specs.Resets.{is_scalar}
 use Rattle.lisa_machine.specs.Declaring.{IsLabel, IsGroup, IsChild}
 

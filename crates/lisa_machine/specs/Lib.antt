@@ -10,17 +10,16 @@ pub mod Distinctness
 pub mod Resolving
 pub mod Values
 pub mod Assigning
-pub mod coded_names
-pub mod description_graph
-pub mod description_places
-pub mod description_types
-pub mod graph_paths
-pub mod kind_checks
-pub mod least_fixed_points
-pub mod lisa_engine
-pub mod lisa_words
-pub mod machine_parts
-pub mod meant_declarations
-pub mod name_checks
-pub mod shape_checks
-pub mod stage_checks
+pub use Rattle.kind_checks.specs.coded_names
+pub use Rattle.description_graph.specs as description_graph
+pub use Rattle.description_places.specs as description_places
+pub use Rattle.kind_checks.specs.description_types
+pub use Rattle.description_graph.specs.graph_paths
+pub use Rattle.kind_checks.specs as kind_checks
+pub use Rattle.machine_parts.specs.lisa_engine
+pub use Rattle.machine_parts.specs as machine_parts
+pub use Rattle.kind_checks.specs.meant_declarations
+pub use Rattle.name_checks.specs as name_checks
+pub use Rattle.machine_parts.specs.shape_checks
+pub use Rattle.stage_checks.specs as stage_checks
+pub use Rattle.machine_parts.specs.typed_values

@@ -1,7 +1,7 @@
 -- Ranks that fall from each operation, choice and declared name to what it leads to.
 use Rattle.std.specs.Prelude.{ℕ, suc, ◌≡◌, ◌≤◌, ◌<◌, true, Some, slice_get}
 use Rattle.lisa_tree.specs.Descriptions.{DescriptionTree}
-use Rattle.graph_paths.specs.Paths.{is_in}
+use Rattle.description_graph.specs.graph_paths.Paths.{is_in}
 use Rattle.lisa_tree.specs.Declarations.{Choice, choices, alternatives_at}
 use Rattle.lisa_tree.specs.Paths.{Node, node_count, leads}
 

@@ -13,8 +13,8 @@ use Rattle.lisa_tree.specs.Resources.{resource_at, stage_at, stages, field_shape
 use Rattle.lisa_tree.specs.Operations.{own_stage, is_root}
 use Rattle.lisa_tree.specs.Declarations.{declared_at}
 use Rattle.lisa_tree.specs.Paths.{entry_node}
-use Rattle.description_types.specs.declared.values.TypeOf.TheVariants as types
-use Rattle.description_types.specs.Types.{Types, word_shape, element_shape}
+use Rattle.kind_checks.specs.description_types.declared.values.TypeOf.TheVariants as types
+use Rattle.kind_checks.specs.description_types.Types.{Types, word_shape, element_shape}
 use Rattle.stage_checks.specs.Resets.{is_scalar}
 
 -- ---- names

@@ -6,8 +6,8 @@ use Rattle.lisa_tree.specs.Descriptions as trees
 use Rattle.lisa_tree.specs.Descriptions.{SectionTree, OperationTree, DescriptionTree}
 use Rattle.lisa_tree.specs.Resources.{stage_at, is_pipeline}
 use Rattle.lisa_tree.specs.Operations.{number_of, name_at, operation_at, own_stage, coding_in}
-use Rattle.shape_checks.specs.declared.bounds.Bounds.{Bounds}
-use Rattle.shape_checks.specs.Bounds.{bounds_of, turns}
+use Rattle.machine_parts.specs.shape_checks.declared.bounds.Bounds.{Bounds}
+use Rattle.machine_parts.specs.shape_checks.Bounds.{bounds_of, turns}
 use Rattle.stage_checks.specs.Closing.{closes_well}
 use Rattle.stage_checks.specs.Running.{Activates, RunsIn}
 

@@ -2,10 +2,10 @@
 use Rattle.std.specs.Prelude.{None, false}
 use Rattle.lisa_tree.specs.Descriptions.{DescriptionTree}
 use Rattle.description_graph.specs.Circles.{IsFirstCircularOperation}
-use Rattle.description_types.specs.Tables.{Known, AreKinds}
+use Rattle.kind_checks.specs.description_types.Tables.{Known, AreKinds}
 use Rattle.name_checks.specs.Doubled.{duplicate}
 use Rattle.name_checks.specs.Unknown.{unknown}
-use Rattle.shape_checks.specs.Shapes.{bad_width, bad_depth, without_bound, too_long}
+use Rattle.machine_parts.specs.shape_checks.Shapes.{bad_width, bad_depth, without_bound, too_long}
 use Rattle.kind_checks.specs.WrongKinds.{wrong_kind}
 use Rattle.kind_checks.specs.Narrowings.{narrowing}
 use Rattle.stage_checks.specs.Controls.{control}

@@ -10,11 +10,11 @@ use Rattle.lisa_tree.specs.declared.declared.What.TheVariants as whats
 use Rattle.lisa_tree.specs.Operations.{sections_at, coding_in, expression_in}
 use Rattle.lisa_tree.specs.Declarations.{Entry, entries, what_at, plain_at, declared_at, above}
 use Rattle.lisa_tree.specs.Paths.{entry_node}
-use Rattle.graph_paths.specs.Paths.{is_in}
-use Rattle.coded_names.specs.Codings.{field_width}
-use Rattle.description_types.specs.declared.values.TypeOf.TheVariants as types
-use Rattle.description_types.specs.Types.{Types, type_of}
-use Rattle.description_types.specs.Tables.{Known}
+use Rattle.description_graph.specs.graph_paths.Paths.{is_in}
+use Rattle.kind_checks.specs.coded_names.Codings.{field_width}
+use Rattle.kind_checks.specs.description_types.declared.values.TypeOf.TheVariants as types
+use Rattle.kind_checks.specs.description_types.Types.{Types, type_of}
+use Rattle.kind_checks.specs.description_types.Tables.{Known}
 use Rattle.kind_checks.specs.Narrowings.{assigned_type}
 use Rattle.lisa_machine.specs.Freedom.{Stands, AllStand}
 use Rattle.lisa_machine.specs.Declaring.{IsLabel}

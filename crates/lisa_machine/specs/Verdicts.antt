@@ -8,7 +8,7 @@ use Rattle.lisa_tree.specs.Operations.{name_at}
 use Rattle.description_graph.specs.Circles.{IsFirstCircularOperation}
 use Rattle.name_checks.specs.Doubled.{duplicate}
 use Rattle.name_checks.specs.Unknown.{unknown}
-use Rattle.shape_checks.specs.Shapes.{bad_width, bad_depth, without_bound, too_long}
+use Rattle.machine_parts.specs.shape_checks.Shapes.{bad_width, bad_depth, without_bound, too_long}
 use Rattle.kind_checks.specs.WrongKinds.{IsFirstWrongKind}
 use Rattle.kind_checks.specs.Narrowings.{IsFirstNarrowing}
 use Rattle.stage_checks.specs.Controls.{control}

@@ -11,8 +11,8 @@ use crate::firsts::from_duplicates;
 use crate::machine::Machine;
 use crate::parts::Parts;
 use description_tables::Tables;
+use lisa_tree::lisa_words::NoMemory;
 use lisa_tree::{DescFault, Description};
-use lisa_words::NoMemory;
 use std::alloc::Global;
 
 // The first fault of a description.

@@ -2,16 +2,18 @@
 #![tactic(auto, using(crate::proofs::Steps::here, crate::proofs::Steps::past))]
 
 ghost use Rattle.std.specs.Prelude.{◌≡◌, IfOk};
-ghost use Rattle.description_types.specs.Tables.{known_by, AreKinds};
+ghost use Rattle.kind_checks.specs.description_types.Tables.{known_by, AreKinds};
 ghost use Rattle.lisa_machine.specs.Verdicts.{IsCircleVerdict, IsBadMainVerdict, from_resets, from_mains, from_controls, from_backwards, from_circles, from_long_loops, from_loops, from_narrowings, from_depths, from_widths, from_kinds, from_unknowns, from_duplicates};
 
 use description_graph::first_circular_operation;
-use description_types::{Kinds, operation_name};
+use kind_checks::description_types::{Kinds, operation_name};
 use kind_checks::{first_narrowing, first_wrong_kind};
+use lisa_tree::lisa_words::NoMemory;
 use lisa_tree::{DescFault, Names};
-use lisa_words::NoMemory;
+use machine_parts::shape_checks::{
+    first_bad_depth, first_bad_width, first_long_loop, first_unbounded_loop,
+};
 use name_checks::{first_duplicate, first_unknown};
-use shape_checks::{first_bad_depth, first_bad_width, first_long_loop, first_unbounded_loop};
 use stage_checks::{first_backward, first_bad_reset, first_control, is_bad_main};
 use std::alloc::Global;
 

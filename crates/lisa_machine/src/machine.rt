@@ -7,8 +7,8 @@ ghost use Rattle.lisa_machine.specs.Verdicts.{IsAccepted, HasNoFault};
 ghost use Rattle.lisa_machine.specs.Machines.{IsSpelled, IsResetShort, AreParts};
 
 use crate::parts::Parts;
-use lisa_engine::{ArrayItem, Item};
 use lisa_tree::Description;
+use machine_parts::lisa_engine::{ArrayItem, Item};
 use std::marker::Model;
 
 /// A description in which no condition is broken, with what the machine that it describes shows. Contracts see it as the description.

@@ -4,9 +4,9 @@ ghost use Rattle.std.specs.Prelude.{◌≡◌, IfOk};
 ghost use Rattle.machine_parts.specs.Parts.{first_values};
 ghost use Rattle.lisa_machine.specs.Machines.{IsResetShort, AreParts};
 
-use lisa_engine::{ArrayItem, Item};
 use lisa_tree::Names;
-use lisa_words::NoMemory;
+use lisa_tree::lisa_words::NoMemory;
+use machine_parts::lisa_engine::{ArrayItem, Item};
 use machine_parts::{arrays, count_reset, count_reset_nodes, first_values, memories, pins};
 use std::alloc::Global;
 

@@ -9,7 +9,7 @@ ghost use Rattle.description_places.specs.declared.sites.Region.{Region};
 ghost use Rattle.description_places.specs.Scopes.{Scope};
 ghost use Rattle.description_places.specs.Places.{at, Reads, ReadsElement, ReadsInput, ReadsOutput, ReadsBoundary, ReadsDecoded, Casts, Writes, WritesElement, WritesOutput, Local, Counts, Executes, Shifts};
 ghost use Rattle.lisa_tree.specs.Resources.{is_pipeline};
-ghost use Rattle.description_types.specs.Tables.{Known, AreKinds};
+ghost use Rattle.kind_checks.specs.description_types.Tables.{Known, AreKinds};
 ghost use Rattle.lisa_machine.specs.Verdicts.{IsAccepted};
 ghost use Rattle.lisa_machine.specs.Freedom.{Stands};
 ghost use Rattle.lisa_machine.specs.Codings.{IsInput};

@@ -2,7 +2,7 @@
 
 ghost use Rattle.std.specs.Prelude.{◌≡◌};
 ghost use Rattle.lisa_tree.specs.Descriptions.{DescriptionTree};
-ghost use Rattle.description_types.specs.Tables.{Known, AreKinds};
+ghost use Rattle.kind_checks.specs.description_types.Tables.{Known, AreKinds};
 ghost use Rattle.lisa_machine.specs.Verdicts.{IsAccepted};
 ghost use Rattle.lisa_machine.specs.Soundness.{IsSound};
 

@@ -13,7 +13,7 @@ use Rattle.lisa_tree.specs.Declarations.{Entry, Choice, choice, entries, choices
 use Rattle.lisa_tree.specs.Paths.{Operation, Choosing, leads}
 use Rattle.graph_paths.specs.Paths.{is_in}
 use Rattle.use_promises.proofs.description_graph_proofs.Hits.{found}
-use Rattle.lisa_forms.specs.stage_checks.Running.{choice_of, choice_at}
+use Rattle.use_promises.specs.stage_checks.Running.{choice_of, choice_at}
 use Rattle.use_promises.specs.lisa_machine.Ranks.{Ranks}
 use Rattle.use_promises.specs.lisa_machine.Declaring.{Chooses}
 use Rattle.use_promises.proofs.lisa_machine_proofs.Chosen.{plain_listed}

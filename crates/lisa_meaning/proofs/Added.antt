@@ -16,9 +16,9 @@ use Rattle.lisa_tree.specs.Resources.{stage_at}
 use Rattle.lisa_tree.specs.Operations.{own_stage}
 use Rattle.lisa_tree.specs.Meanings.{meaning}
 use Rattle.lisa_forms.specs.description_sizes.Texts.{levels}
-use Rattle.lisa_forms.specs.typed_values.Words.{TypedWord}
-use Rattle.lisa_forms.specs.typed_values.Effects.{Doing, effects}
-use Rattle.lisa_forms.proofs.typed_values_proofs.Preserved.{Keeps, effects_kept}
+use Rattle.use_promises.specs.typed_values.Words.{TypedWord}
+use Rattle.use_promises.specs.typed_values.Effects.{Doing, effects}
+use Rattle.use_promises.proofs.typed_values_proofs.Preserved.{Keeps, effects_kept}
 use Rattle.pipeline_time.specs.Sound.{NamesEarlier}
 use Rattle.lisa_meaning.specs.Scenes.{Link, Scene, at_path, running, home, child_at_home, child, scene_of}
 use Rattle.graph_paths.specs.Paths.{is_in}

@@ -11,13 +11,13 @@ use Rattle.use_promises.specs.description_places.Places.{at}
 use Rattle.lisa_tree.specs.Resources.{stage_at}
 use Rattle.lisa_tree.specs.Operations.{number_of, own_stage, sections_at, behavior_in}
 use Rattle.graph_paths.specs.Paths.{is_in}
-use Rattle.lisa_forms.specs.stage_checks.Controls.{main_name}
+use Rattle.use_promises.specs.stage_checks.Controls.{main_name}
 use Rattle.use_promises.specs.lisa_machine.Running.{FitsControl}
 use Rattle.use_promises.specs.lisa_machine.Soundness.{IsSound}
 use Rattle.use_promises.proofs.lisa_machine_proofs.Forward.{stall_fits, flush_fits}
 use Rattle.use_promises.proofs.lisa_machine_proofs.Standing.{behavior_stand}
 use Rattle.lisa_forms.specs.description_sizes.Texts.{levels}
-use Rattle.use_promises.specs.meant_declarations.Meant as meant
+use Rattle.lisa_forms.specs.meant_declarations.Meant as meant
 use Rattle.use_promises.specs.Using.{RunsInPlace, IsCallable}
 use Rattle.use_promises.proofs.Used.{call_fits}
 use Rattle.lisa_forms.specs.activation_trees.declared.parts.Occurrence.{Occurrence}

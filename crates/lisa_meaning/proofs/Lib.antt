@@ -18,11 +18,12 @@ pub mod Shown
 pub mod Showing
 pub mod Itemed
 pub mod Sample
-pub mod activation_trees_proofs
-pub mod description_sizes_proofs
-pub mod form_patterns_proofs
-pub mod form_promises_proofs
-pub mod instruction_forms_proofs
-pub mod lisa_forms_proofs
-pub mod lisa_machine_proofs
-pub mod use_promises_proofs
+pub use Rattle.lisa_forms.proofs.activation_trees_proofs
+pub use Rattle.lisa_forms.proofs.description_sizes_proofs
+pub use Rattle.lisa_forms.proofs.form_patterns_proofs
+pub use Rattle.lisa_forms.proofs.form_promises_proofs
+pub use Rattle.lisa_forms.proofs.instruction_forms_proofs
+pub use Rattle.lisa_forms.proofs as lisa_forms_proofs
+pub use Rattle.use_promises.proofs.lisa_machine_proofs
+pub use Rattle.use_promises.proofs.machine_parts_proofs
+pub use Rattle.use_promises.proofs as use_promises_proofs

@@ -7,8 +7,8 @@ use Rattle.lisa_tree.specs.Activations.{ActTree, ActTrees}
 use Rattle.lisa_tree.specs.Descriptions.{OperationTree, DescriptionTree}
 use Rattle.lisa_tree.specs.Operations.{number_of, operation_at, own_stage, sections_at, activation_in}
 use Rattle.lisa_tree.specs.Paths.{node_count}
-use Rattle.lisa_forms.specs.stage_checks.Controls.{main_name}
-use Rattle.lisa_forms.specs.stage_checks.Running.{act_names, acts_names, activation_names}
+use Rattle.use_promises.specs.stage_checks.Controls.{main_name}
+use Rattle.use_promises.specs.stage_checks.Running.{act_names, acts_names, activation_names}
 use Rattle.lisa_forms.specs.activation_trees.declared.parts.Occurrence.{Occurrence}
 use Rattle.lisa_forms.specs.activation_trees.Starting.{Activated, alternatives, start_of, starts_named, activated_by}
 use Rattle.lisa_forms.specs.activation_trees.Unfolding.{occurrence, child, children, in_turn, unfolded, whole, firsts}

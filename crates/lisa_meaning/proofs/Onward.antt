@@ -8,9 +8,9 @@ use Rattle.lisa_tree.specs.Descriptions as trees
 use Rattle.lisa_tree.specs.Descriptions.{CodingTree, DescriptionTree}
 use Rattle.lisa_tree.specs.Resources.{stages}
 use Rattle.lisa_tree.specs.Operations.{own_stage, sections_at, coding_in, activation_in, is_root}
-use Rattle.use_promises.specs.coded_names.Codings.{names_instructions}
+use Rattle.lisa_forms.specs.coded_names.Codings.{names_instructions}
 use Rattle.graph_paths.specs.Paths.{is_in}
-use Rattle.lisa_forms.specs.stage_checks.Running.{started, choices_named, activation_names, Activates, RunsIn}
+use Rattle.use_promises.specs.stage_checks.Running.{started, choices_named, activation_names, Activates, RunsIn}
 use Rattle.use_promises.proofs.lisa_machine_proofs.Entries.{Split, in_first, in_second, split}
 use Rattle.use_promises.proofs.Staged.{own_low}
 use Rattle.lisa_forms.specs.activation_trees.declared.parts.Occurrence.{Occurrence}

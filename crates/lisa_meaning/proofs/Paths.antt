@@ -17,7 +17,7 @@ use Rattle.lisa_tree.specs.Declarations.{Entry, entries, declared_at, what_at, a
 use Rattle.lisa_tree.specs.Paths.{Operation, refers}
 use Rattle.graph_paths.specs.Paths.{is_in}
 use Rattle.use_promises.proofs.description_graph_proofs.Hits.{found}
-use Rattle.lisa_forms.specs.stage_checks.Controls.{main_name}
+use Rattle.use_promises.specs.stage_checks.Controls.{main_name}
 use Rattle.use_promises.specs.lisa_machine.Ranks.{Ranks}
 use Rattle.use_promises.specs.lisa_machine.Running.{FitsMain}
 use Rattle.use_promises.specs.lisa_machine.Soundness.{IsSound}
@@ -29,7 +29,7 @@ use Rattle.use_promises.proofs.lisa_machine_proofs.Fitting.{alias_fits}
 use Rattle.use_promises.proofs.lisa_machine_proofs.Forward.{main_is}
 use Rattle.use_promises.proofs.lisa_machine_proofs.Named.{what_is}
 use Rattle.use_promises.proofs.lisa_machine_proofs.Standing.{operation_stands}
-use Rattle.use_promises.specs.meant_declarations.Meant.{MayMean, itself, higher}
+use Rattle.lisa_forms.specs.meant_declarations.Meant.{MayMean, itself, higher}
 use Rattle.use_promises.specs.Meant.{FitsReference}
 use Rattle.use_promises.proofs.References.{reference_fits}
 use Rattle.lisa_forms.specs.activation_trees.declared.parts.Occurrence.{Occurrence}

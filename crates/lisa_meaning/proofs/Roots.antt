@@ -8,7 +8,7 @@ use Rattle.std.proofs.lemmas.Option.{slice_get_within, same_Some}
 use Rattle.lisa_tree.specs.Descriptions.{OperationTree, DescriptionTree}
 use Rattle.lisa_tree.specs.Resources.{stages}
 use Rattle.lisa_tree.specs.Operations.{operation_at, own_stage, is_root}
-use Rattle.lisa_forms.specs.stage_checks.Running.{Activates, RunsIn}
+use Rattle.use_promises.specs.stage_checks.Running.{Activates, RunsIn}
 use Rattle.lisa_forms.specs.activation_trees.declared.parts.Occurrence.{Occurrence}
 use Rattle.lisa_forms.specs.activation_trees.Unfolding.{occurrences, occurrences_of}
 use Rattle.lisa_forms.specs.activation_trees.Twice.{root_before, is_twice, first_from, first_root_twice}

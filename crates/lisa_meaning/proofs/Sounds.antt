@@ -10,9 +10,9 @@ use Rattle.lisa_tree.specs.Descriptions.{DescriptionTree}
 use Rattle.lisa_tree.specs.Operations.{number_of, own_stage, sections_at, coding_in, activation_in, is_root}
 use Rattle.lisa_tree.specs.Declarations.{plain_at}
 use Rattle.lisa_tree.specs.Paths.{node_count}
-use Rattle.use_promises.specs.coded_names.Codings.{names_instructions}
-use Rattle.lisa_forms.specs.stage_checks.Controls.{main_name}
-use Rattle.lisa_forms.specs.stage_checks.Running.{Activates, RunsIn, started, act_names, acts_names, activation_names}
+use Rattle.lisa_forms.specs.coded_names.Codings.{names_instructions}
+use Rattle.use_promises.specs.stage_checks.Controls.{main_name}
+use Rattle.use_promises.specs.stage_checks.Running.{Activates, RunsIn, started, act_names, acts_names, activation_names}
 use Rattle.use_promises.proofs.lisa_machine_proofs.Entries.{get_left, get_right}
 use Rattle.lisa_forms.specs.activation_trees.declared.parts.Occurrence.{Occurrence}
 use Rattle.lisa_forms.specs.activation_trees.Starting.{Activated, activation, activated_by, start}

@@ -22,10 +22,10 @@ use Rattle.lisa_tree.specs.Same.{same_name}
 use Rattle.lisa_tree.specs.Resources.{stages, fields, stage_at}
 use Rattle.lisa_tree.specs.Operations.{own_stage}
 use Rattle.lisa_tree.specs.Meanings.{meaning}
-use Rattle.lisa_forms.specs.typed_values.Words.{TypedWord}
-use Rattle.lisa_forms.specs.typed_values.Effects.{Locals, Doing, like, local_put}
-use Rattle.lisa_forms.proofs.typed_values_proofs.Fitting.{fitted_within}
-use Rattle.lisa_forms.proofs.typed_values_proofs.Preserved.{Keeps, effects_kept}
+use Rattle.use_promises.specs.typed_values.Words.{TypedWord}
+use Rattle.use_promises.specs.typed_values.Effects.{Locals, Doing, like, local_put}
+use Rattle.use_promises.proofs.typed_values_proofs.Fitting.{fitted_within}
+use Rattle.use_promises.proofs.typed_values_proofs.Preserved.{Keeps, effects_kept}
 use Rattle.use_promises.specs.machine_parts.Parts.{item, array, array_in, arrays_of, register_in, registers_of}
 use Rattle.lisa_forms.specs.description_sizes.Texts.{levels}
 use Rattle.pipeline_time.specs.Edges.{is_held, is_flushed}

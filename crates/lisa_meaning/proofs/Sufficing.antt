@@ -19,18 +19,18 @@ use Rattle.lisa_tree.specs.Declarations.{Entry, entries, declared_at, what_at, p
 use Rattle.lisa_tree.specs.Meanings.{meaning}
 use Rattle.lisa_tree.specs.Paths.{Operation, Choosing, Declaring, leads}
 use Rattle.graph_paths.specs.Paths.{is_in}
-use Rattle.lisa_forms.specs.stage_checks.Running.{choice_at}
+use Rattle.use_promises.specs.stage_checks.Running.{choice_at}
 use Rattle.use_promises.specs.lisa_machine.Ranks.{Ranks}
 use Rattle.use_promises.specs.lisa_machine.Soundness.{IsSound}
 use Rattle.use_promises.proofs.lisa_machine_proofs.Chosen.{plain_listed}
-use Rattle.use_promises.specs.meant_declarations.Meant.{MayMean, itself, higher}
+use Rattle.lisa_forms.specs.meant_declarations.Meant.{MayMean, itself, higher}
 use Rattle.use_promises.specs.Meant.{ChoosesFrom}
 use Rattle.use_promises.proofs.Traits.{means}
 use Rattle.lisa_forms.specs.description_sizes.Texts.{levels}
-use Rattle.lisa_forms.specs.typed_values.Words.{TypedWord, truth}
-use Rattle.lisa_forms.specs.typed_values.Expressions.{Reader, value}
-use Rattle.lisa_forms.specs.typed_values.Effects.{Doing}
-use Rattle.lisa_forms.specs.typed_values.ResetEffects.{local_or}
+use Rattle.use_promises.specs.typed_values.Words.{TypedWord, truth}
+use Rattle.use_promises.specs.typed_values.Expressions.{Reader, value}
+use Rattle.use_promises.specs.typed_values.Effects.{Doing}
+use Rattle.use_promises.specs.typed_values.ResetEffects.{local_or}
 use Rattle.lisa_forms.specs.activation_trees.declared.parts.Occurrence.{Occurrence}
 use Rattle.lisa_forms.specs.activation_trees.Starting.{plain_of, plain_named}
 use Rattle.lisa_forms.specs.activation_trees.Unfolding.{occurrences}

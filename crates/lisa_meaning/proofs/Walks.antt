@@ -10,11 +10,11 @@ use Rattle.use_promises.specs.description_places.declared.sites.Region.TheVarian
 use Rattle.use_promises.specs.description_places.Scopes.{Scope}
 use Rattle.use_promises.specs.description_places.Places as sites
 use Rattle.use_promises.specs.description_places.Places.{At, at, Calls, Stalls, Flushes, uses, head_places, after, places, all_places}
-use Rattle.use_promises.specs.shape_checks.declared.bounds.Bounds.{Bounds}
-use Rattle.use_promises.specs.shape_checks.Bounds.{bounds_of, turns}
-use Rattle.lisa_forms.specs.typed_values.Words.{TypedWord, is_zero}
-use Rattle.lisa_forms.specs.typed_values.Expressions.{value}
-use Rattle.lisa_forms.specs.typed_values.Effects.{Locals, Doing, leave, turned, loop_turn, all_turns, looped, with_counter, effect, effects}
+use Rattle.lisa_forms.specs.shape_checks.declared.bounds.Bounds.{Bounds}
+use Rattle.lisa_forms.specs.shape_checks.Bounds.{bounds_of, turns}
+use Rattle.use_promises.specs.typed_values.Words.{TypedWord, is_zero}
+use Rattle.use_promises.specs.typed_values.Expressions.{value}
+use Rattle.use_promises.specs.typed_values.Effects.{Locals, Doing, leave, turned, loop_turn, all_turns, looped, with_counter, effect, effects}
 use Rattle.use_promises.specs.lisa_machine.Freedom.{Stands, AllStand}
 use Rattle.use_promises.proofs.lisa_machine_proofs.Among.{stand_both}
 

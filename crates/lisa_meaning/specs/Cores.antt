@@ -8,7 +8,7 @@ use Rattle.lisa_tree.specs.Descriptions as trees
 use Rattle.lisa_tree.specs.Descriptions.{CodingTree, DescriptionTree}
 use Rattle.lisa_tree.specs.Resources.{stages}
 use Rattle.lisa_tree.specs.Operations.{sections_at, coding_in, activation_in, is_root}
-use Rattle.lisa_forms.specs.typed_values.Words.{is_zero}
+use Rattle.use_promises.specs.typed_values.Words.{is_zero}
 use Rattle.lisa_forms.specs.activation_trees.declared.parts.Occurrence.{Occurrence}
 use Rattle.lisa_forms.specs.activation_trees.Unfolding.{occurrences}
 use Rattle.lisa_forms.specs.coding_tables.Instructions.{Root, first_root}

@@ -15,8 +15,8 @@ use Rattle.lisa_tree.specs.Same.{same_name}
 use Rattle.lisa_tree.specs.Resources.{stage_at}
 use Rattle.lisa_tree.specs.Operations.{sections_at, behavior_in, own_stage}
 use Rattle.lisa_tree.specs.Meanings.{meaning}
-use Rattle.lisa_forms.specs.typed_values.Words.{TypedWord, fitted}
-use Rattle.lisa_forms.specs.typed_values.Effects.{Doing, local_put, like, effects}
+use Rattle.use_promises.specs.typed_values.Words.{TypedWord, fitted}
+use Rattle.use_promises.specs.typed_values.Effects.{Doing, local_put, like, effects}
 use Rattle.lisa_forms.specs.description_sizes.Texts.{levels}
 use Rattle.lisa_meaning.specs.Scenes.{Link, Scene, at_path, running, home, child_at_home, child}
 use Rattle.lisa_meaning.specs.Moments.{Moment, with_memory, with_locals, with_out, with_stall, with_flush, bare}

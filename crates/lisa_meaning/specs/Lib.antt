@@ -8,18 +8,15 @@ pub mod Cores
 pub mod States
 pub mod Laws
 pub mod Showing
-pub mod activation_trees
-pub mod coding_checks
-pub mod coding_tables
-pub mod description_sizes
-pub mod form_patterns
-pub mod instruction_forms
-pub mod kind_checks
-pub mod lisa_forms
-pub mod lisa_machine
-pub mod machine_parts
-pub mod pattern_tables
-pub mod shape_checks
-pub mod stage_checks
-pub mod typed_values
-pub mod use_promises
+pub use Rattle.lisa_forms.specs.activation_trees
+pub use Rattle.lisa_forms.specs.coding_tables
+pub use Rattle.lisa_forms.specs.description_sizes
+pub use Rattle.lisa_forms.specs.form_patterns
+pub use Rattle.lisa_forms.specs.instruction_forms
+pub use Rattle.lisa_forms.specs as lisa_forms
+pub use Rattle.use_promises.specs.lisa_machine
+pub use Rattle.use_promises.specs.machine_parts
+pub use Rattle.lisa_forms.specs.pattern_tables
+pub use Rattle.use_promises.specs.stage_checks
+pub use Rattle.use_promises.specs.typed_values
+pub use Rattle.use_promises.specs as use_promises

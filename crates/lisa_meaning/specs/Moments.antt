@@ -5,7 +5,7 @@ use Rattle.lisa_tree.specs.Descriptions.{DescriptionTree}
 use Rattle.lisa_tree.specs.Resources.{stages, fields}
 use Rattle.graph_paths.specs.Paths.{is_in}
 use Rattle.pipeline_time.specs.Edges.{is_held, is_flushed}
-use Rattle.lisa_forms.specs.typed_values.Effects.{Locals}
+use Rattle.use_promises.specs.typed_values.Effects.{Locals}
 
 -- all that lasts from edge to edge beside what stands in stages
 pub record Contents : Type 0 where

@@ -7,7 +7,7 @@ use Rattle.lisa_tree.specs.declared.declared.What.TheVariants as whats
 use Rattle.lisa_tree.specs.Operations.{sections_at, coding_in, is_root}
 use Rattle.lisa_tree.specs.Declarations.{declared_at, what_at, is_reference}
 use Rattle.graph_paths.specs.Paths.{is_in}
-use Rattle.use_promises.specs.coded_names.Codings.{names_instructions}
+use Rattle.lisa_forms.specs.coded_names.Codings.{names_instructions}
 use Rattle.lisa_forms.specs.activation_trees.declared.parts.Occurrence.{Occurrence}
 use Rattle.lisa_forms.specs.activation_trees.Starting.{plain_named}
 use Rattle.lisa_forms.specs.activation_trees.Unfolding.{occurrences}

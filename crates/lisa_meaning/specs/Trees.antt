@@ -6,7 +6,7 @@ use Rattle.lisa_tree.specs.Activations.{ActTree, ActTrees}
 use Rattle.lisa_tree.specs.Descriptions.{DescriptionTree}
 use Rattle.lisa_tree.specs.Operations.{number_of, sections_at, activation_in}
 use Rattle.lisa_tree.specs.Paths.{node_count}
-use Rattle.lisa_forms.specs.stage_checks.Controls.{main_name}
+use Rattle.use_promises.specs.stage_checks.Controls.{main_name}
 use Rattle.lisa_forms.specs.activation_trees.declared.parts.Occurrence.{Occurrence}
 use Rattle.lisa_forms.specs.activation_trees.Starting.{Activated, start_of, activated_by}
 use Rattle.lisa_forms.specs.activation_trees.Unfolding.{occurrence, child}

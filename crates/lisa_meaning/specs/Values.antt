@@ -13,9 +13,9 @@ use Rattle.lisa_tree.specs.Same.{same_name}
 use Rattle.lisa_tree.specs.Resources.{fields, stage_at}
 use Rattle.lisa_tree.specs.Operations.{sections_at, expression_in, own_stage}
 use Rattle.lisa_tree.specs.Meanings.{meaning}
-use Rattle.lisa_forms.specs.typed_values.Words.{TypedWord, typed, truth}
-use Rattle.lisa_forms.specs.typed_values.Expressions.{Reader, value}
-use Rattle.lisa_forms.specs.typed_values.ResetEffects.{local_or}
+use Rattle.use_promises.specs.typed_values.Words.{TypedWord, typed, truth}
+use Rattle.use_promises.specs.typed_values.Expressions.{Reader, value}
+use Rattle.use_promises.specs.typed_values.ResetEffects.{local_or}
 use Rattle.use_promises.specs.machine_parts.Parts.{array_in, pin_in, register_in}
 use Rattle.instruction_trees.specs.Trees.{slice}
 use Rattle.lisa_forms.specs.instruction_forms.declared.form.Field.{Field}

@@ -4,11 +4,10 @@
 
 pub mod laws;
 
+pub use lisa_forms;
 pub use lisa_forms::{
-    Coding, Field, Form, Forms, Occurrence, Place, Value, activating_names, field,
-    instruction_choice, patterns, places,
+    activation_trees, coded_names, coding_tables, description_types, form_patterns,
+    instruction_forms, pattern_tables,
 };
-pub use use_promises::{
-    Machine, first_values, first_values_fit, is_root, machines_show, names_instructions,
-    operation_count, resource, sections,
-};
+pub use use_promises;
+pub use use_promises::{lisa_machine, machine_parts, typed_values};

@@ -10,3 +10,4 @@ pub mod ObjectRules
 pub mod ObjectReading
 pub mod ObjectGives
 pub mod ObjectPieces
+pub use Rattle.asm_source.specs as asm_source

@@ -14,6 +14,7 @@ mod printing;
 mod rules;
 mod words;
 
+pub use asm_source;
 pub use faults::{GenFault, ImageFault, LinkFault, ObjectFault};
 pub use image_reader::read_image;
 pub use image_text::print_image;

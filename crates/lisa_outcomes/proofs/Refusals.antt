@@ -1,9 +1,9 @@
 -- A fault that is no want of memory makes a refusal.
 use Rattle.std.proofs.Common.{◌≡◌, ◌≢◌, List, ℕ}
-use Rattle.asm_source.specs.declared.flaw.SourceFault.{SourceFault}
-use Rattle.asm_source.specs.declared.flaw.SourceFault.TheVariants as sources
-use Rattle.lisa_engine.specs.declared.schedule.ScheduleFault.{ScheduleFault}
-use Rattle.lisa_engine.specs.declared.schedule.ScheduleFault.TheVariants as schedules
+use Rattle.lisa_object.specs.asm_source.declared.flaw.SourceFault.{SourceFault}
+use Rattle.lisa_object.specs.asm_source.declared.flaw.SourceFault.TheVariants as sources
+use Rattle.verilog_text.specs.lisa_engine.declared.schedule.ScheduleFault.{ScheduleFault}
+use Rattle.verilog_text.specs.lisa_engine.declared.schedule.ScheduleFault.TheVariants as schedules
 use Rattle.lisa_object.specs.declared.faults.GenFault.{GenFault}
 use Rattle.lisa_object.specs.declared.faults.GenFault.TheVariants as programs
 use Rattle.lisa_object.specs.declared.faults.ImageFault.{ImageFault}

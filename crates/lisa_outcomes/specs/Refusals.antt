@@ -1,7 +1,7 @@
 -- What a refusal never holds.
 use Rattle.std.specs.Prelude.{◌≢◌}
-use Rattle.asm_source.specs.declared.flaw.SourceFault.TheVariants as sources
-use Rattle.lisa_engine.specs.declared.schedule.ScheduleFault.TheVariants as schedules
+use Rattle.lisa_object.specs.asm_source.declared.flaw.SourceFault.TheVariants as sources
+use Rattle.verilog_text.specs.lisa_engine.declared.schedule.ScheduleFault.TheVariants as schedules
 use Rattle.lisa_object.specs.declared.faults.GenFault.TheVariants as programs
 use Rattle.lisa_object.specs.declared.faults.ImageFault.TheVariants as images
 use Rattle.lisa_object.specs.declared.faults.LinkFault.TheVariants as links

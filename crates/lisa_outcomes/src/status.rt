@@ -1,12 +1,12 @@
 //! How a run ends.
 
-use asm_source::SourceFault;
-use lisa_engine::ScheduleFault;
+use lisa_object::asm_source::SourceFault;
 use lisa_object::{GenFault, ImageFault, LinkFault, ObjectFault};
 use lisa_tree::DescFault;
 use lisa_words::{Name, NoMemory};
 use step_program::LowerFault;
 use verilog_text::VerilogFault;
+use verilog_text::lisa_engine::ScheduleFault;
 
 /// What may be wrong with a file as a whole.
 #[derive(Debug, PartialEq, Eq, Drop)]

@@ -2,8 +2,8 @@
 use Rattle.std.proofs.Common.{◌≡◌, ◌≤◌, ◌+◌, ℕ, suc, List, [], ◌∷◌, length, map, refl, sym, ap, ◌∙◌, subst, arith}
 use Rattle.lisa_tree.specs.Descriptions.{DescriptionTree}
 use Rattle.lisa_engine.specs.Memory.{Memory}
-use Rattle.item_promises.specs.activation_trees.declared.parts.Occurrence as trees
-use Rattle.item_promises.specs.activation_trees.Unfolding.{occurrences}
+use Rattle.occurrence_choices.specs.activation_trees.declared.parts.Occurrence as trees
+use Rattle.occurrence_choices.specs.activation_trees.Unfolding.{occurrences}
 use Rattle.pipeline_time.specs.Acts.{Node}
 use Rattle.pipeline_time.specs.Bits.{shown}
 use Rattle.pipeline_time.specs.Cores.{all_nodes}

@@ -17,7 +17,7 @@ use Rattle.item_layouts.specs.declared.place.ItemPlace.{ItemPlace}
 use Rattle.item_layouts.specs.declared.place.ItemPlace.TheVariants.{Word, Bit}
 use Rattle.item_layouts.specs.Layouts.{HasPlace, item_places}
 use Rattle.item_layouts.proofs.Listed.{listed}
-use Rattle.item_promises.specs.activation_trees.Unfolding.{occurrences}
+use Rattle.occurrence_choices.specs.activation_trees.Unfolding.{occurrences}
 use Rattle.pipeline_time.specs.Bits.{shown}
 use Rattle.pipeline_time.specs.States.{State as Past, log_of, edge_of, next, first_state, after}
 use Rattle.lisa_activation.specs.declared.kept.Queues.{Queues}

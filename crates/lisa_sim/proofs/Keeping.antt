@@ -9,7 +9,7 @@ use Rattle.lisa_engine.specs.Memory.{Memory}
 use Rattle.lisa_engine.specs.State.{State}
 use Rattle.item_layouts.specs.declared.place.ItemPlace.{ItemPlace}
 use Rattle.item_layouts.specs.Layouts.{item_places, value_at}
-use Rattle.item_promises.specs.activation_trees.Unfolding.{occurrences}
+use Rattle.occurrence_choices.specs.activation_trees.Unfolding.{occurrences}
 use Rattle.pipeline_time.specs.Bits.{shown}
 use Rattle.lisa_activation.specs.declared.kept.Queues.{Queues}
 use Rattle.lisa_activation.specs.Queued.{count}

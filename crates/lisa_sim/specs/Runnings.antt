@@ -12,7 +12,7 @@ use Rattle.machine_parts.specs.Parts.{arrays_of}
 use Rattle.item_promises.specs.lisa_machine.Verdicts.{IsAccepted}
 use Rattle.item_layouts.specs.declared.place.ItemPlace.{ItemPlace}
 use Rattle.item_layouts.specs.Layouts.{item_places}
-use Rattle.item_promises.specs.activation_trees.Unfolding.{occurrences}
+use Rattle.occurrence_choices.specs.activation_trees.Unfolding.{occurrences}
 use Rattle.pipeline_time.specs.Sound.{IsSound}
 use Rattle.lisa_activation.specs.declared.kept.Queues.{Queues}
 use Rattle.lisa_activation.specs.Queued.{count}

@@ -13,7 +13,7 @@ ghost use Rattle.lisa_sim.specs.Bodies.{lasting_of};
 ghost use Rattle.lisa_sim.specs.Holding.{CanHold};
 
 use crate::puts::put_items;
-use behavior_runs::Store;
+use behavior_runs::moment_stores::Store;
 use item_layouts::ItemPlace;
 use lisa_engine::Touch;
 use occurrence_choices::Chooser;

@@ -9,7 +9,8 @@ ghost use Rattle.behavior_runs.specs.scene_paths.Lookups.{tree_of};
 ghost use Rattle.behavior_runs.specs.Rooms.{room_for};
 
 use crate::body::Body;
-use behavior_runs::{Store, behave, fetch, holds};
+use behavior_runs::moment_stores::Store;
+use behavior_runs::{behave, fetch, holds};
 use occurrence_choices::Chooser;
 use pipeline_runs::{Behaves, with_stage};
 

@@ -9,6 +9,7 @@ mod runner;
 mod simulator;
 mod states;
 
-pub use item_promises::{Coding, Forms, sizes_are_limited};
+pub use item_promises;
+pub use item_promises::lisa_forms;
 pub use pipeline_runs::Seen;
 pub use simulator::Simulator;

@@ -21,10 +21,12 @@ ghost use Rattle.lisa_sim.specs.Bodies.{lasting_of};
 
 use crate::body::Body;
 use activation_plans::make_plan;
-use behavior_runs::{Store, count_locals};
+use behavior_runs::count_locals;
+use behavior_runs::moment_stores::Store;
 use description_tables::Tables;
 use item_layouts::ItemPlace;
-use item_promises::{Coding, Forms, Machine};
+use item_promises::lisa_forms::{Coding, Forms};
+use item_promises::lisa_machine::Machine;
 use lisa_engine::{Image, MakeFault};
 use lisa_words::NoMemory;
 use occurrence_choices::Chooser;

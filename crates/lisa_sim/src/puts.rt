@@ -6,7 +6,7 @@ ghost use Rattle.behavior_runs.specs.moment_stores.Stores.{description_of, local
 ghost use Rattle.pipeline_states.specs.Putting.{IsPut};
 ghost use Rattle.lisa_sim.specs.Holding.{CanTake, CanHold, with_item};
 
-use behavior_runs::Store;
+use behavior_runs::moment_stores::Store;
 use item_layouts::ItemPlace;
 
 // Puts a value into the register or field at a place.

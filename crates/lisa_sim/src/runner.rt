@@ -18,11 +18,13 @@ ghost use Rattle.lisa_sim.specs.Seeing.{IsLastSeen};
 use crate::body::Body;
 use crate::parts::{Parts, make_parts, make_pipeline};
 use crate::states::{restart, retreat};
-use activation_plans::laws::{
+use activation_plans::lisa_meaning::laws::{
     cores_are_sound, edges_have_items, items_show_all, trees_are_occurrences,
 };
 use item_layouts::ItemPlace;
-use item_promises::{Coding, Forms, Machine, sizes_are_limited};
+use item_promises::lisa_forms::{Coding, Forms};
+use item_promises::lisa_machine::Machine;
+use item_promises::sizes_are_limited;
 use lisa_engine::{Image, MakeFault, Touch};
 use pipeline_runs::{Pipeline, Plan, Seen};
 use pipeline_states::{all_is_shown, edges_are_shown};

@@ -15,8 +15,10 @@ ghost use Rattle.activation_plans.specs.lisa_meaning.States.{state_of};
 ghost use Rattle.lisa_sim.specs.Seeing.{IsLastSeen};
 
 use crate::runner::Runner;
-use activation_plans::laws::states_are_shaped;
-use item_promises::{Coding, Forms, Machine, shown_names_differ, shown_widths_fit};
+use activation_plans::lisa_meaning::laws::states_are_shaped;
+use item_promises::lisa_forms::{Coding, Forms};
+use item_promises::lisa_machine::Machine;
+use item_promises::{shown_names_differ, shown_widths_fit};
 use lisa_engine::{ArrayItem, Engine, Image, Item, MakeFault, Touch};
 use pipeline_runs::Seen;
 use std::alloc::Global;

@@ -13,7 +13,7 @@ ghost use Rattle.lisa_sim.specs.Bodies.{lasting_of};
 ghost use Rattle.lisa_sim.specs.Runnings.{CanRun, IsBefore};
 
 use crate::body::Body;
-use activation_plans::laws::edges_have_items;
+use activation_plans::lisa_meaning::laws::edges_have_items;
 use item_layouts::ItemPlace;
 use lisa_engine::Touch;
 use pipeline_runs::{Pipeline, Plan};

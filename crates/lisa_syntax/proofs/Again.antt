@@ -37,7 +37,7 @@ use Rattle.lisa_syntax.specs.Lines.{all_shapes, all_orders, IsReading, IsLineFau
 use Rattle.lisa_syntax.specs.Orders.{IsNowhere, IsOrder, IsInOrder, order_at}
 use Rattle.lisa_syntax.specs.Parts.{IsSyntaxOf}
 use Rattle.lisa_syntax.specs.Trees.{Gives, IsReadAs, HasText, instruction_text}
-use Rattle.lisa_syntax.proofs.FormTexts.{fits}
+use Rattle.lisa_syntax.proofs.Forms.{fits}
 use Rattle.lisa_syntax.proofs.Instructed.{Chosen, chosen, is_readable, order_is_long, spelled, instruction_is, table_counted, listed, pieces_are, order_is}
 use Rattle.lisa_syntax.proofs.Ordering.{upto_long}
 use Rattle.lisa_syntax.proofs.Sharing.{texts, from_shared}

@@ -27,7 +27,7 @@ use Rattle.lisa_syntax.specs.declared.syntax.Syntax.{Syntax}
 use Rattle.lisa_syntax.specs.Orders.{order_at}
 use Rattle.lisa_syntax.specs.Parts.{IsSyntaxOf}
 use Rattle.lisa_syntax.specs.Trees.{AreFields, instruction_text}
-use Rattle.lisa_syntax.proofs.FormTexts.{fits, readable}
+use Rattle.lisa_syntax.proofs.Forms.{fits, readable}
 use Rattle.lisa_syntax.proofs.Numbers.{shown_inside}
 use Rattle.lisa_syntax.proofs.Ordering.{order_long}
 use Rattle.lisa_syntax.proofs.Sharing.{at_map, map_long}

@@ -1,7 +1,7 @@
 mod Samples
 pub mod Operands
 pub mod OperandLines
-pub mod FormTexts
+pub mod Forms
 pub mod Numbers
 pub mod Sharing
 pub mod Made
@@ -17,7 +17,5 @@ mod Showing
 mod TextLines
 pub mod Again
 pub mod OneText
-pub mod form_patterns_proofs
-pub mod form_promises_proofs
-pub mod lisa_forms_proofs
-pub mod lisa_machine_proofs
+pub use Rattle.lisa_forms.proofs as lisa_forms_proofs
+pub use Rattle.lisa_forms.proofs.lisa_machine_proofs

@@ -20,7 +20,7 @@ use Rattle.lisa_forms.specs.form_texts.Syntaxes.{syntax_table}
 use Rattle.lisa_forms.specs.Verdicts.{HasForms}
 use Rattle.lisa_syntax.specs.Texts.{InstructionWrites, IsAmbiguityVerdict}
 use Rattle.lisa_syntax.specs.Trees.{instruction_text}
-use Rattle.lisa_syntax.proofs.FormTexts.{fits}
+use Rattle.lisa_syntax.proofs.Forms.{fits}
 use Rattle.lisa_syntax.proofs.Instructed.{Chosen, chosen, is_readable, instruction_is}
 use Rattle.lisa_syntax.proofs.Widths.{fits_range, written_fits}
 

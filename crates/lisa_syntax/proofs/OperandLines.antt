@@ -21,7 +21,7 @@ use Rattle.text_tables.specs.Shared.{shapes_at}
 use Rattle.lisa_forms.specs.Verdicts.{HasForms}
 use Rattle.lisa_syntax.specs.Lines.{all_shapes}
 use Rattle.lisa_syntax.specs.Operands.{IsLineOf}
-use Rattle.lisa_syntax.proofs.FormTexts.{writes_texts}
+use Rattle.lisa_syntax.proofs.Forms.{writes_texts}
 use Rattle.lisa_syntax.proofs.Instructed.{chosen}
 use Rattle.lisa_syntax.proofs.OneText.{IsWrittenBy, written_by}
 use Rattle.lisa_syntax.proofs.Operands.{is_text, lines_are_texts}

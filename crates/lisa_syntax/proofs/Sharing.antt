@@ -21,7 +21,7 @@ use Rattle.text_tables.specs.declared.shared.Shared.{Shared}
 use Rattle.text_tables.specs.Shared.{shapes_at, IsShared, AnswersShared}
 use Rattle.lisa_forms.specs.Verdicts.{HasForms, form_name_at}
 use Rattle.lisa_syntax.specs.Texts.{InstructionWrites, IsAmbiguity, IsAmbiguityFault, IsAmbiguityVerdict}
-use Rattle.lisa_syntax.proofs.FormTexts.{fits, readable, writes_texts, form_short}
+use Rattle.lisa_syntax.proofs.Forms.{fits, readable, writes_texts, form_short}
 use Rattle.lisa_syntax.proofs.Numbers.{narrow_form, pieces_sized}
 
 pub at_map : {A B : Type 0} (f : A → B) (xs : List A) (k : ℕ) (x : A) (y : B) → k < length xs → slice_index_or (map f xs) k y ≡ f (slice_index_or xs k x)

@@ -14,7 +14,7 @@ use Rattle.lisa_forms.specs.form_texts.Syntaxes.{syntax_table}
 use Rattle.lisa_forms.specs.form_texts.Instructions.{instruction_shapes, instruction_order}
 use Rattle.lisa_forms.specs.Verdicts.{HasForms}
 use Rattle.lisa_syntax.specs.Orders.{IsOrderOf, AreOrdersOf, order_at}
-use Rattle.lisa_syntax.proofs.FormTexts.{fits, readable}
+use Rattle.lisa_syntax.proofs.Forms.{fits, readable}
 use Rattle.lisa_syntax.proofs.Numbers.{shown_inside}
 use Rattle.lisa_syntax.proofs.Ordering.{is_order, shown_count}
 use Rattle.lisa_syntax.proofs.Sharing.{texts, at_map, below_count}

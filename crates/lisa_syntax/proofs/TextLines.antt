@@ -34,7 +34,7 @@ use Rattle.instruction_texts.specs.Written.{text_bytes}
 use Rattle.lisa_forms.specs.form_texts.Syntaxes.{content, element, elements_in, elements_at, syntax_from, syntax_table}
 use Rattle.lisa_forms.specs.Verdicts.{HasForms}
 use Rattle.lisa_syntax.specs.Trees.{instruction_text}
-use Rattle.lisa_syntax.proofs.FormTexts.{good}
+use Rattle.lisa_syntax.proofs.Forms.{good}
 use Rattle.lisa_syntax.proofs.Instructed.{chosen, spelled}
 use Rattle.lisa_syntax.proofs.LineBytes.{text_line}
 use Rattle.lisa_syntax.proofs.Showing.{IsInStrings, IsOfStrings, MayStand, symbols_shown, shapes_stand, pieces_stand, text_undotted}

@@ -4,14 +4,14 @@ pub mod Orders
 pub mod Lines
 pub mod Trees
 pub mod Operands
-pub mod activation_trees
-pub mod coding_checks
-pub mod coding_tables
-pub mod description_sizes
-pub mod form_patterns
-pub mod form_texts
-pub mod instruction_forms
-pub mod kind_checks
-pub mod lisa_forms
-pub mod lisa_machine
-pub mod machine_parts
+pub use Rattle.lisa_forms.specs.activation_trees
+pub use Rattle.lisa_forms.specs.coding_checks
+pub use Rattle.lisa_forms.specs.coding_tables
+pub use Rattle.lisa_forms.specs.description_sizes
+pub use Rattle.lisa_forms.specs.form_patterns
+pub use Rattle.lisa_forms.specs.form_texts
+pub use Rattle.lisa_forms.specs.instruction_forms
+pub use Rattle.lisa_forms.specs.kind_checks
+pub use Rattle.lisa_forms.specs as lisa_forms
+pub use Rattle.lisa_forms.specs.lisa_machine
+pub use Rattle.lisa_forms.specs.machine_parts

@@ -13,8 +13,7 @@ pub use laws::{
     lines_are_texts_of_instructions, operands_stand_for_numbers, texts_are_lines,
     texts_are_of_one_instruction,
 };
-pub use lisa_forms::{
-    Coding, Form, Forms, Machine, Steps, all_places, check, form_name, instructions_are_of_one_form,
-};
+pub use lisa_forms;
+pub use lisa_forms::lisa_machine;
 pub use reading::{LineFault, Matched};
 pub use syntax::Syntax;

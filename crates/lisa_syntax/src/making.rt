@@ -14,7 +14,9 @@ ghost use Rattle.lisa_syntax.specs.Parts.{IsSyntaxOf};
 
 use crate::parts::text_parts;
 use crate::syntax::Syntax;
-use lisa_forms::{FormTexts, Forms, Machine, form_name};
+use lisa_forms::form_texts::FormTexts;
+use lisa_forms::lisa_machine::Machine;
+use lisa_forms::{Forms, form_name};
 use lisa_tree::DescFault;
 use lisa_words::{Name, NoMemory};
 use std::alloc::Global;

@@ -5,7 +5,9 @@ ghost use Rattle.lisa_tree.specs.Descriptions.{description_tree};
 ghost use Rattle.lisa_forms.specs.instruction_forms.Described.{AreForms};
 ghost use Rattle.lisa_forms.specs.form_texts.Instructions.{AreTexts};
 
-use lisa_forms::{Form, FormTexts, Tables, texts};
+use lisa_forms::description_tables::Tables;
+use lisa_forms::form_texts::{FormTexts, texts};
+use lisa_forms::instruction_forms::Form;
 use lisa_tree::Description;
 use lisa_words::NoMemory;
 use std::alloc::Global;

@@ -15,3 +15,4 @@ pub mod Operations
 pub mod Declarations
 pub mod Meanings
 pub mod Paths
+pub use Rattle.lisa_words.specs as lisa_words

@@ -22,6 +22,7 @@ pub use descriptions::{
 pub use expressions::{BoundaryField, Expr};
 pub use faults::DescFault;
 pub use laws::above_rises;
+pub use lisa_words;
 pub use lisa_words::Operator;
 pub use names::Names;
 pub use sections::{activation, behavior, coding, declares, expression, syntax};

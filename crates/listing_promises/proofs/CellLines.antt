@@ -25,15 +25,15 @@ use Rattle.form_patterns.specs.Filled.{IsInstruction}
 use Rattle.form_patterns.proofs.Filling.{as_many, nth, filled_with, its_values}
 use Rattle.instruction_texts.specs.Lines.{Value, plain_token}
 use Rattle.instruction_texts.specs.Written.{text_bytes}
-use Rattle.lisa_syntax.specs.lisa_forms.Verdicts.{HasForms}
-use Rattle.lisa_syntax.specs.lisa_forms.Codings.{HasTree}
+use Rattle.lisa_forms.specs.Verdicts.{HasForms}
+use Rattle.lisa_forms.specs.Codings.{HasTree}
 use Rattle.lisa_syntax.specs.Texts.{IsAmbiguityVerdict}
 use Rattle.lisa_syntax.specs.Trees.{instruction_text}
 use Rattle.placed_programs.specs.Entries.{Put}
 use Rattle.placed_programs.specs.Symbols.{Symbols}
 use Rattle.lisa_assembler.specs.Sources.{SourceCell, Word, Coded, FitsCell, IsInRange, ArePartEntries, section_behind, part_names}
 use Rattle.lisa_assembler.specs.Objects.{given_values, coded, tree_with, source_sense, object_cell, field_fixes, falling}
-use Rattle.assembler_commands.specs.lisa_disasm.Listings.{value_line, instruction_line, IsInstructionLine, known, unknown, IsCellLine}
+use Rattle.lisa_disasm.specs.Listings.{value_line, instruction_line, IsInstructionLine, known, unknown, IsCellLine}
 use Rattle.listing_promises.proofs.LineKinds.{value_read, noted_read}
 use Rattle.listing_promises.proofs.SourceTexts.{line_bytes}
 use Rattle.listing_promises.proofs.TextReads.{text_is_read}

@@ -6,15 +6,15 @@ use Rattle.lisa_engine.specs.Memory.{Memory}
 use Rattle.lisa_engine.specs.Images.{missing_memory}
 use Rattle.lisa_machine.specs.Verdicts.{IsAccepted, Verdict, before}
 use Rattle.lisa_machine.specs.Machines.{IsSpelled}
-use Rattle.lisa_syntax.specs.lisa_forms.Verdicts.{HasForms}
-use Rattle.lisa_syntax.specs.lisa_forms.Coverage.{IsOverlapVerdict}
+use Rattle.lisa_forms.specs.Verdicts.{HasForms}
+use Rattle.lisa_forms.specs.Coverage.{IsOverlapVerdict}
 use Rattle.lisa_syntax.specs.Texts.{IsAmbiguityVerdict}
 use Rattle.lisa_object.specs.ObjectText.{object_text}
 use Rattle.lisa_object.specs.Rules.{IsStamped}
 use Rattle.lisa_object.specs.Texts.{image_text}
 use Rattle.lisa_object.specs.declared.parts.Stamped.{Stamped}
 use Rattle.lisa_assembler.specs.Memories.{memory_items}
-use Rattle.assembler_commands.specs.lisa_disasm.Listings.{IsListing}
+use Rattle.lisa_disasm.specs.Listings.{IsListing}
 use Rattle.description_digest.specs.Digests.{digest_of}
 use Rattle.lisa_outcomes.specs.declared.status.Refusal.{Refusal}
 use Rattle.lisa_outcomes.specs.Outcomes.{Outcome, Finished, After, passed}

@@ -15,7 +15,7 @@ use Rattle.object_links.specs.LinkFaults.{named_width}
 use Rattle.lisa_assembler.specs.Memories.{memory_items, memory_named}
 use Rattle.lisa_assembler.specs.Sources.{SourceCell, AreLineEntries, AreEntries, part_names}
 use Rattle.lisa_assembler.specs.Objects.{source_sense, object_cell}
-use Rattle.assembler_commands.specs.lisa_disasm.Listings.{memory_lines}
+use Rattle.lisa_disasm.specs.Listings.{memory_lines}
 use Rattle.listing_promises.proofs.LineKinds.{section_read}
 use Rattle.listing_promises.proofs.SourceTexts.{AreSaid, said_both, plain_lines}
 use Rattle.listing_promises.proofs.CellLines.{SaysCell}

@@ -23,7 +23,7 @@ use Rattle.form_patterns.specs.Filled.{IsInstruction}
 use Rattle.lisa_object.specs.Objects.{PlainObject}
 use Rattle.lisa_object.specs.ObjectRules.{IsObject}
 use Rattle.lisa_object.specs.Rules.{IsDigest, IsStamped, is_visible}
-use Rattle.lisa_syntax.specs.lisa_forms.Verdicts.{HasForms}
+use Rattle.lisa_forms.specs.Verdicts.{HasForms}
 use Rattle.lisa_syntax.specs.Texts.{IsAmbiguityVerdict}
 use Rattle.placed_programs.specs.Entries.{Entry, PlainCell, mapped, lines_of}
 use Rattle.placed_programs.specs.Addresses.{no_cells, definitions}
@@ -37,7 +37,7 @@ use Rattle.lisa_linker.proofs.Images.{image_rules}
 use Rattle.lisa_assembler.specs.Memories.{memory_items}
 use Rattle.lisa_assembler.specs.Sources.{SourceCell, IsSourceOf, line_names, part_names}
 use Rattle.lisa_assembler.specs.Objects.{digest_of, IsObjectOf, object_cell, source_sense}
-use Rattle.assembler_commands.specs.lisa_disasm.Listings.{holds_instructions, memory_lines, IsListing}
+use Rattle.lisa_disasm.specs.Listings.{holds_instructions, memory_lines, IsListing}
 use Rattle.assembler_commands.specs.source_promises.Programs.{AreSources, AreObjects, source_image, object_image}
 use Rattle.assembler_commands.specs.Links.{stamped}
 use Rattle.listing_promises.specs.Reassembled.{AreAlike, Reassembles}

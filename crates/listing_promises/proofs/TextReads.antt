@@ -22,7 +22,7 @@ use Rattle.form_texts.specs.Syntaxes.{syntax_table}
 use Rattle.form_texts.specs.Instructions.{instruction_shapes, instruction_order}
 use Rattle.text_tables.specs.Reading.{IsMatch}
 use Rattle.text_tables.specs.Shared.{shapes_at}
-use Rattle.lisa_syntax.specs.lisa_forms.Verdicts.{HasForms}
+use Rattle.lisa_forms.specs.Verdicts.{HasForms}
 use Rattle.lisa_syntax.specs.Lines.{all_shapes, all_orders}
 use Rattle.lisa_syntax.specs.Orders.{IsOrder, IsInOrder, order_at}
 use Rattle.lisa_syntax.specs.Texts.{IsAmbiguityVerdict}

@@ -5,20 +5,22 @@ ghost use Rattle.lisa_engine.specs.Memory.{Memory};
 ghost use Rattle.lisa_engine.specs.Images.{missing_memory};
 ghost use Rattle.lisa_machine.specs.Machines.{IsSpelled};
 ghost use Rattle.lisa_machine.specs.Verdicts.{IsAccepted};
-ghost use Rattle.lisa_syntax.specs.lisa_forms.Verdicts.{HasForms};
+ghost use Rattle.lisa_forms.specs.Verdicts.{HasForms};
 ghost use Rattle.lisa_syntax.specs.Texts.{IsAmbiguityVerdict};
 ghost use Rattle.lisa_object.specs.Rules.{IsStamped};
 ghost use Rattle.lisa_assembler.specs.Memories.{memory_items};
-ghost use Rattle.assembler_commands.specs.lisa_disasm.Listings.{IsListing};
+ghost use Rattle.lisa_disasm.specs.Listings.{IsListing};
 ghost use Rattle.lisa_outcomes.specs.Outcomes.{Finished};
 ghost use Rattle.assembler_commands.specs.Links.{stamped};
 ghost use Rattle.assembler_commands.specs.Listed.{GivesListing};
 ghost use Rattle.listing_promises.specs.Reassembled.{Reassembles, IsReassembled};
 
-use assembler_commands::{
-    objects_of_sources_keep_rules, sizes_are_limited, sources_link_to_their_image,
+use assembler_commands::item_promises::sizes_are_limited;
+use assembler_commands::source_promises::{
+    objects_of_sources_keep_rules, sources_link_to_their_image,
 };
-use lisa_syntax::{instructions_are_of_one_form, texts_are_lines};
+use lisa_forms::instructions_are_of_one_form;
+use lisa_syntax::texts_are_lines;
 use spelled_promises::spelled_is_well_formed;
 use use_promises::machines_show;
 

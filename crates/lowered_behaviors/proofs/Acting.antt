@@ -4,7 +4,7 @@ use Rattle.std.proofs.Common.{◌≡◌, ◌≤◌, ◌∙◌, ℕ, Bool, true, 
 use Rattle.std.specs.Prelude.{bit_and}
 use Rattle.std.specs.List.{AllByRecursion}
 use Rattle.lowered_words.specs.instruction_forms.Trees.{FormTree}
-use Rattle.scene_paths.specs.lisa_meaning.Scenes.{Link}
+use Rattle.lowered_resources.specs.lisa_meaning.Scenes.{Link}
 use Rattle.step_program.specs.Programs.{Program, Expr, Temp}
 use Rattle.step_program.specs.Effects.{Moment, value}
 use Rattle.step_pieces.specs.Pieces.{Piece, nothing, behind, top, held}

@@ -12,7 +12,7 @@ use Rattle.lisa_tree.specs.Statements.{StmtTree, StmtTrees}
 use Rattle.lisa_tree.specs.Descriptions.{DescriptionTree}
 use Rattle.lisa_tree.specs.Same.{same_name}
 use Rattle.description_places.specs.Literals.{literal}
-use Rattle.scene_paths.specs.machine_parts.Parts.{registers_of}
+use Rattle.lisa_machine.specs.machine_parts.Parts.{registers_of}
 use Rattle.shape_checks.specs.declared.bounds.Bounds.{Bounds}
 use Rattle.shape_checks.specs.Bounds.{bounds_of, turns}
 use Rattle.step_program.specs.Programs.{Expr, Const, Temp, Aim, ToItem, ToTemp, ToCell, Move}

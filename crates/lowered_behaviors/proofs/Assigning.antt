@@ -31,30 +31,30 @@ use Rattle.description_types.specs.Facts.{entry_value}
 use Rattle.description_types.specs.Kinds.{assignable_fact}
 use Rattle.description_types.specs.Steady.{assignables_steady}
 use Rattle.description_types.specs.Tables.{unfit}
-use Rattle.scene_paths.specs.lisa_machine.Assigning.{IsPlace as IsAssignable, register, element, declared}
-use Rattle.scene_paths.specs.lisa_machine.Freedom.{Stands, AllStand}
-use Rattle.scene_paths.specs.lisa_machine.Soundness.{IsSound}
-use Rattle.scene_paths.proofs.lisa_machine_proofs.Assigned.{written, child_yes, reference_yes, operation_yes}
-use Rattle.scene_paths.proofs.lisa_machine_proofs.Chosen.{plain_listed}
-use Rattle.scene_paths.proofs.lisa_machine_proofs.Named.{what_is}
-use Rattle.scene_paths.proofs.lisa_machine_proofs.Standing.{expression_stand}
-use Rattle.scene_paths.proofs.lisa_machine_proofs.Settling.{entry_is}
-use Rattle.scene_paths.specs.description_sizes.Texts.{levels}
+use Rattle.lisa_machine.specs.Assigning.{IsPlace as IsAssignable, register, element, declared}
+use Rattle.lisa_machine.specs.Freedom.{Stands, AllStand}
+use Rattle.lisa_machine.specs.Soundness.{IsSound}
+use Rattle.lisa_machine.proofs.Assigned.{written, child_yes, reference_yes, operation_yes}
+use Rattle.lisa_machine.proofs.Chosen.{plain_listed}
+use Rattle.lisa_machine.proofs.Named.{what_is}
+use Rattle.lisa_machine.proofs.Standing.{expression_stand}
+use Rattle.lisa_machine.proofs.Settling.{entry_is}
+use Rattle.lowered_resources.specs.description_sizes.Texts.{levels}
 use Rattle.meant_declarations.specs.Meant.{MayMean, itself, higher}
-use Rattle.scene_paths.specs.use_promises.Using.{IsChildEntry, ChildrenMayRun}
-use Rattle.scene_paths.proofs.use_promises_proofs.Used.{reads_run, writes_run}
-use Rattle.scene_paths.proofs.use_promises_proofs.References.{definite}
+use Rattle.lowered_resources.specs.use_promises.Using.{IsChildEntry, ChildrenMayRun}
+use Rattle.lowered_resources.proofs.use_promises_proofs.Used.{reads_run, writes_run}
+use Rattle.lowered_resources.proofs.use_promises_proofs.References.{definite}
 use Rattle.lowered_words.specs.instruction_forms.Trees.{FormTree}
 use Rattle.step_program.specs.Programs.{Program, Expr}
 use Rattle.step_program.specs.Effects as steps
 use Rattle.typed_values.specs.Words.{TypedWord}
-use Rattle.scene_paths.specs.lisa_meaning.Scenes.{Link, Scene, child_at_home}
-use Rattle.scene_paths.specs.lisa_meaning.Moments.{Moment, bare, with_locals}
-use Rattle.scene_paths.specs.lisa_meaning.Effects as effects
-use Rattle.scene_paths.specs.lisa_meaning.Effects.{PutBelow, doing, put_within}
-use Rattle.scene_paths.proofs.lisa_meaning_proofs.Above.{named_by}
-use Rattle.scene_paths.proofs.lisa_meaning_proofs.Paths as paths
-use Rattle.scene_paths.proofs.lisa_meaning_proofs.Paths.{Home, ranks}
+use Rattle.lowered_resources.specs.lisa_meaning.Scenes.{Link, Scene, child_at_home}
+use Rattle.lowered_resources.specs.lisa_meaning.Moments.{Moment, bare, with_locals}
+use Rattle.lowered_resources.specs.lisa_meaning.Effects as effects
+use Rattle.lowered_resources.specs.lisa_meaning.Effects.{PutBelow, doing, put_within}
+use Rattle.lowered_resources.proofs.lisa_meaning_proofs.Above.{named_by}
+use Rattle.lowered_resources.proofs.lisa_meaning_proofs.Paths as paths
+use Rattle.lowered_resources.proofs.lisa_meaning_proofs.Paths.{Home, ranks}
 use Rattle.lowered_resources.specs.meaning_promises.Running.{PartsStand}
 use Rattle.lowered_resources.proofs.meaning_promises_proofs.Children.{as_path, is_path, home_parts, child_low, Child, child_there, apart}
 use Rattle.lowered_resources.proofs.meaning_promises_proofs.Reading.{On, Within, enough}

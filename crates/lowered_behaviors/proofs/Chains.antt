@@ -5,7 +5,7 @@ use Rattle.std.specs.List.{AllByRecursion}
 use Rattle.std.proofs.lemmas.Bool.{eq-eqb}
 use Rattle.lisa_tree.specs.declared.tokens.Shape.{Shape}
 use Rattle.lowered_words.specs.instruction_forms.Trees.{FormTree}
-use Rattle.scene_paths.specs.lisa_meaning.Scenes.{Link}
+use Rattle.lowered_resources.specs.lisa_meaning.Scenes.{Link}
 use Rattle.lowered_resources.specs.meaning_promises.Typing.{IsOfType}
 use Rattle.lowered_resources.proofs.meaning_promises_proofs.Typed.{same_width}
 use Rattle.step_program.specs.declared.expressions.OneOp.TheVariants.{Cut}

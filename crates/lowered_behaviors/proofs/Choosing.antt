@@ -9,10 +9,10 @@ use Rattle.lisa_tree.specs.Operations.{sections_at, coding_in}
 use Rattle.lisa_tree.specs.Declarations.{is_reference}
 use Rattle.graph_paths.specs.Paths.{is_in}
 use Rattle.coded_names.specs.Codings.{names_instructions}
-use Rattle.scene_paths.specs.activation_trees.Starting.{plain_named}
+use Rattle.lowered_resources.specs.activation_trees.Starting.{plain_named}
 use Rattle.lowered_words.specs.instruction_forms.Trees.{FormTree}
-use Rattle.scene_paths.specs.lisa_forms.Choosing.{child_place, operation_of}
-use Rattle.scene_paths.specs.lisa_meaning.Scenes.{Link, Scene, link, declared, part_at, child_part, chosen, onto, child_at_home, home as home_of}
+use Rattle.lowered_resources.specs.lisa_forms.Choosing.{child_place, operation_of}
+use Rattle.lowered_resources.specs.lisa_meaning.Scenes.{Link, Scene, link, declared, part_at, child_part, chosen, onto, child_at_home, home as home_of}
 use Rattle.step_program.specs.Programs.{Program}
 use Rattle.step_program.specs.Effects as steps
 use Rattle.lowered_time.specs.Lowering.{bit}

@@ -13,18 +13,18 @@ use Rattle.description_places.specs.Places as marks
 use Rattle.description_places.specs.Places.{at, targets}
 use Rattle.lisa_tree.specs.Resources.{stage_at}
 use Rattle.lisa_tree.specs.Operations.{sections_at, behavior_in}
-use Rattle.scene_paths.specs.lisa_machine.Freedom.{Stands, AllStand}
-use Rattle.scene_paths.specs.lisa_machine.Soundness.{IsSound}
-use Rattle.scene_paths.proofs.lisa_machine_proofs.Standing.{behavior_stand}
-use Rattle.scene_paths.specs.description_sizes.Texts.{levels}
+use Rattle.lisa_machine.specs.Freedom.{Stands, AllStand}
+use Rattle.lisa_machine.specs.Soundness.{IsSound}
+use Rattle.lisa_machine.proofs.Standing.{behavior_stand}
+use Rattle.lowered_resources.specs.description_sizes.Texts.{levels}
 use Rattle.step_program.specs.Programs.{Program, Expr}
 use Rattle.step_program.specs.Effects as steps
 use Rattle.typed_values.specs.Words.{TypedWord}
 use Rattle.typed_values.specs.Effects.{Doing, Locals, effects}
 use Rattle.typed_values.specs.Laws.{HasNumbers}
-use Rattle.scene_paths.specs.lisa_meaning.Scenes.{Link, Scene, at_path, first_operation}
-use Rattle.scene_paths.specs.lisa_meaning.Moments.{Moment, bare}
-use Rattle.scene_paths.specs.lisa_meaning.Effects.{doing, body, behavior_at, put_within, run_within}
+use Rattle.lowered_resources.specs.lisa_meaning.Scenes.{Link, Scene, at_path, first_operation}
+use Rattle.lowered_resources.specs.lisa_meaning.Moments.{Moment, bare}
+use Rattle.lowered_resources.specs.lisa_meaning.Effects.{doing, body, behavior_at, put_within, run_within}
 use Rattle.lowered_resources.specs.meaning_promises.Running.{IsPath, PartsStand, Runs, HasChild}
 use Rattle.lowered_resources.proofs.meaning_promises_proofs.Meant.{called_child}
 use Rattle.lowered_resources.proofs.meaning_promises_proofs.Reading.{On, enough}

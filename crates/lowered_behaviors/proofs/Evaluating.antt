@@ -30,18 +30,18 @@ use Rattle.description_types.specs.declared.values.TypeOf.TheVariants as types
 use Rattle.description_types.specs.Types.{Types, typed, meant_type, or_meant_type}
 use Rattle.description_places.specs.declared.scopes.Local.{Local}
 use Rattle.coded_names.specs.Codings.{field_width, is_coding}
-use Rattle.scene_paths.specs.lisa_machine.Freedom.{Stands, AllStand}
-use Rattle.scene_paths.specs.lisa_machine.Resolving.{Readable, reads_local, reads_word, reads_value}
-use Rattle.scene_paths.specs.lisa_machine.Soundness.{IsSound}
-use Rattle.scene_paths.proofs.lisa_machine_proofs.Named.{what_is}
-use Rattle.scene_paths.proofs.lisa_machine_proofs.Resolved.{readable}
-use Rattle.scene_paths.proofs.lisa_machine_proofs.Standing.{expression_stand}
+use Rattle.lisa_machine.specs.Freedom.{Stands, AllStand}
+use Rattle.lisa_machine.specs.Resolving.{Readable, reads_local, reads_word, reads_value}
+use Rattle.lisa_machine.specs.Soundness.{IsSound}
+use Rattle.lisa_machine.proofs.Named.{what_is}
+use Rattle.lisa_machine.proofs.Resolved.{readable}
+use Rattle.lisa_machine.proofs.Standing.{expression_stand}
 use Rattle.meant_declarations.specs.Meant.{MayMean}
-use Rattle.scene_paths.specs.use_promises.Meant.{ChoosesFrom}
-use Rattle.scene_paths.specs.use_promises.Valued.{IsField}
-use Rattle.scene_paths.proofs.use_promises_proofs.Given.{label_fielded}
-use Rattle.scene_paths.proofs.use_promises_proofs.References.{definite}
-use Rattle.scene_paths.proofs.use_promises_proofs.Used.{reads_run}
+use Rattle.lowered_resources.specs.use_promises.Meant.{ChoosesFrom}
+use Rattle.lowered_resources.specs.use_promises.Valued.{IsField}
+use Rattle.lowered_resources.proofs.use_promises_proofs.Given.{label_fielded}
+use Rattle.lowered_resources.proofs.use_promises_proofs.References.{definite}
+use Rattle.lowered_resources.proofs.use_promises_proofs.Used.{reads_run}
 use Rattle.lowered_words.specs.instruction_forms.Trees.{FormTree}
 use Rattle.step_program.specs.Programs.{Program}
 use Rattle.step_program.specs.Effects as steps
@@ -49,15 +49,15 @@ use Rattle.typed_values.specs.Words.{TypedWord, truth}
 use Rattle.typed_values.specs.Expressions.{value as expression_value}
 use Rattle.typed_values.specs.Laws.{IsFit, HasNumbers}
 use Rattle.typed_values.specs.ResetEffects.{local_or}
-use Rattle.scene_paths.specs.lisa_forms.Choosing.{numbered_form}
-use Rattle.scene_paths.specs.lisa_meaning.Scenes.{Link, Scene, declared, is_label, child_at_home, form_with}
-use Rattle.scene_paths.specs.lisa_meaning.Moments.{Moment, bare}
-use Rattle.scene_paths.specs.lisa_meaning.Values as meant
-use Rattle.scene_paths.specs.lisa_meaning.Values.{Below, label_value, value_below, declared_value, meant_value, reader}
-use Rattle.scene_paths.specs.lisa_meaning.Cores.{decodes}
-use Rattle.scene_paths.proofs.lisa_meaning_proofs.Above.{named_by, owner_is, name_is}
-use Rattle.scene_paths.proofs.lisa_meaning_proofs.Paths as paths
-use Rattle.scene_paths.proofs.lisa_meaning_proofs.Paths.{Home, ranks}
+use Rattle.lowered_resources.specs.lisa_forms.Choosing.{numbered_form}
+use Rattle.lowered_resources.specs.lisa_meaning.Scenes.{Link, Scene, declared, is_label, child_at_home, form_with}
+use Rattle.lowered_resources.specs.lisa_meaning.Moments.{Moment, bare}
+use Rattle.lowered_resources.specs.lisa_meaning.Values as meant
+use Rattle.lowered_resources.specs.lisa_meaning.Values.{Below, label_value, value_below, declared_value, meant_value, reader}
+use Rattle.lowered_resources.specs.lisa_meaning.Cores.{decodes}
+use Rattle.lowered_resources.proofs.lisa_meaning_proofs.Above.{named_by, owner_is, name_is}
+use Rattle.lowered_resources.proofs.lisa_meaning_proofs.Paths as paths
+use Rattle.lowered_resources.proofs.lisa_meaning_proofs.Paths.{Home, ranks}
 use Rattle.lowered_resources.specs.meaning_promises.Forms.{IsPartOf}
 use Rattle.lowered_resources.specs.meaning_promises.Typing.{IsOfType, IsTypedBy, ReadsTyped}
 use Rattle.lowered_resources.specs.meaning_promises.Scoping.{AreLocalsOf}

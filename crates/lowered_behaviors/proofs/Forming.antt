@@ -15,13 +15,13 @@ use Rattle.lisa_tree.specs.Same.{same_name}
 use Rattle.lisa_tree.specs.Operations.{sections_at, expression_in}
 use Rattle.lisa_tree.specs.Meanings.{meaning}
 use Rattle.description_types.specs.Types.{meant_type}
-use Rattle.scene_paths.specs.lisa_machine.Freedom.{AllStand}
-use Rattle.scene_paths.proofs.lisa_machine_proofs.Standing.{expression_stand}
+use Rattle.lisa_machine.specs.Freedom.{AllStand}
+use Rattle.lisa_machine.proofs.Standing.{expression_stand}
 use Rattle.step_program.specs.Programs.{Program, Expr, Const, ToTemp}
 use Rattle.step_program.specs.Effects.{width}
 use Rattle.step_program.specs.WellFormed.{IsWidth, IsFit}
 use Rattle.typed_values.specs.Laws.{HasNumbers}
-use Rattle.scene_paths.specs.lisa_meaning.Scenes.{declared, is_label}
+use Rattle.lowered_resources.specs.lisa_meaning.Scenes.{declared, is_label}
 use Rattle.step_pieces.specs.Pieces.{nothing, behind, top, held}
 use Rattle.step_pieces.specs.Formed.{Lies, IsStep, IsPiece}
 use Rattle.step_program.specs.Depths.{expr_depth}

@@ -21,13 +21,13 @@ use Rattle.lisa_tree.specs.Same.{same_name}
 use Rattle.lisa_tree.specs.Resources.{stage_at}
 use Rattle.lisa_tree.specs.Operations.{sections_at, expression_in, behavior_in, own_stage}
 use Rattle.lisa_tree.specs.Meanings.{meaning}
-use Rattle.scene_paths.specs.lisa_machine.Soundness.{IsSound}
-use Rattle.scene_paths.proofs.lisa_machine_proofs.Standing.{expression_stand, behavior_stand}
-use Rattle.scene_paths.specs.description_sizes.Texts.{levels}
-use Rattle.scene_paths.specs.machine_parts.Parts.{item, register_in, registers_of}
+use Rattle.lisa_machine.specs.Soundness.{IsSound}
+use Rattle.lisa_machine.proofs.Standing.{expression_stand, behavior_stand}
+use Rattle.lowered_resources.specs.description_sizes.Texts.{levels}
+use Rattle.lisa_machine.specs.machine_parts.Parts.{item, register_in, registers_of}
 use Rattle.step_program.specs.Programs.{Program, Expr, Temp, Aim, ToItem, ToTemp, ToCell, Move}
 use Rattle.step_program.specs.Effects.{Moment, value, taken, effect}
-use Rattle.scene_paths.specs.lisa_meaning.Values.{Array, register_place, named_array, field_place, shape_at}
+use Rattle.lowered_resources.specs.lisa_meaning.Values.{Array, register_place, named_array, field_place, shape_at}
 use Rattle.lowered_resources.proofs.meaning_promises_proofs.Fitted.{placed}
 use Rattle.step_pieces.specs.Pieces.{Piece, nothing, top, held, always}
 use Rattle.step_pieces.specs.Running.{ran}

@@ -3,13 +3,13 @@ use Rattle.std.proofs.Common.{◌≡◌, ◌<◌, ◌≤◌, ◌^◌, ◌∙◌,
 use Rattle.std.specs.Prelude.{slice_index}
 use Rattle.description_types.specs.Tables.{Known}
 use Rattle.description_types.proofs.OneKnown.{one_known}
-use Rattle.scene_paths.specs.lisa_machine.Soundness.{IsSound}
-use Rattle.scene_paths.proofs.lisa_machine_proofs.Sound.{sound}
+use Rattle.lisa_machine.specs.Soundness.{IsSound}
+use Rattle.lisa_machine.proofs.Sound.{sound}
 use Rattle.step_program.specs.Programs.{Program}
 use Rattle.step_program.specs.Effects as steps
 use Rattle.typed_values.specs.Effects.{Locals}
-use Rattle.scene_paths.specs.lisa_meaning.Scenes.{Scene, instruction_with}
-use Rattle.scene_paths.specs.lisa_meaning.Moments.{Moment, with_locals}
+use Rattle.lowered_resources.specs.lisa_meaning.Scenes.{Scene, instruction_with}
+use Rattle.lowered_resources.specs.lisa_meaning.Moments.{Moment, with_locals}
 use Rattle.step_pieces.specs.Running.{Rests}
 use Rattle.step_pieces.proofs.Rested.{rests_up}
 use Rattle.lowered_resources.proofs.Holding.{holds_locals, holds_rests}

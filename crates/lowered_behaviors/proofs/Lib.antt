@@ -25,5 +25,5 @@ pub mod Flagged
 pub mod Bodies
 pub mod Levels
 pub mod Naming
-pub mod meaning_promises_proofs
-pub mod scene_paths_proofs
+pub use Rattle.lowered_resources.proofs.meaning_promises_proofs
+pub use Rattle.lowered_words.proofs.scene_paths_proofs

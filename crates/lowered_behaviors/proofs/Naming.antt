@@ -8,7 +8,7 @@ use Rattle.lisa_tree.specs.Same.{same_name}
 use Rattle.lisa_tree.specs.Meanings.{meaning}
 use Rattle.std.specs.Prelude.{cond, is_some}
 use Rattle.description_types.specs.Types.{meant_type}
-use Rattle.scene_paths.specs.lisa_meaning.Scenes.{declared, is_label}
+use Rattle.lowered_resources.specs.lisa_meaning.Scenes.{declared, is_label}
 use Rattle.lowered_values.specs.Computed.{Computed, leaf}
 use Rattle.lowered_statements.specs.Scopes.{Local, Scope}
 use Rattle.lowered_resources.specs.Reading.{absent}

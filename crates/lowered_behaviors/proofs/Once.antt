@@ -11,10 +11,10 @@ use Rattle.lisa_tree.specs.Operations.{number_of, numbers_of, is_alias}
 use Rattle.lisa_tree.specs.Declarations.{Choice, choices, alternatives_at}
 use Rattle.graph_paths.specs.Paths.{is_in}
 use Rattle.stage_checks.specs.Running.{started}
-use Rattle.scene_paths.specs.activation_trees.Starting.{plain_of, plain_named}
-use Rattle.scene_paths.specs.lisa_machine.Soundness.{IsSound}
-use Rattle.scene_paths.proofs.lisa_machine_proofs.Decoding.{position_there}
-use Rattle.scene_paths.proofs.lisa_machine_proofs.Distinct.{alternatives_distinct}
+use Rattle.lowered_resources.specs.activation_trees.Starting.{plain_of, plain_named}
+use Rattle.lisa_machine.specs.Soundness.{IsSound}
+use Rattle.lisa_machine.proofs.Decoding.{position_there}
+use Rattle.lisa_machine.proofs.Distinct.{alternatives_distinct}
 use Rattle.lowered_behaviors.proofs.Choosing.{AreOnce}
 
 abbrev Differ : List ℕ → List ℕ → Type 0

@@ -15,14 +15,14 @@ use Rattle.lisa_tree.specs.declared.declared.Meaning.{Meaning}
 use Rattle.lisa_tree.specs.declared.declared.Meaning.TheVariants as meanings
 use Rattle.lisa_tree.specs.Same.{same_name}
 use Rattle.lisa_tree.specs.Meanings.{meaning}
-use Rattle.scene_paths.specs.lisa_machine.Freedom.{AllStand}
-use Rattle.scene_paths.specs.lisa_machine.Soundness.{IsSound}
-use Rattle.scene_paths.proofs.lisa_machine_proofs.Resolved.{read_element, written_element, writes_output, no_output_read}
+use Rattle.lisa_machine.specs.Freedom.{AllStand}
+use Rattle.lisa_machine.specs.Soundness.{IsSound}
+use Rattle.lisa_machine.proofs.Resolved.{read_element, written_element, writes_output, no_output_read}
 use Rattle.step_program.specs.Programs.{Program, Expr, Const, Now, Before, Pin, Temp, Cell, One, Two, Choose}
 use Rattle.step_program.specs.Effects as steps
 use Rattle.typed_values.specs.Effects.{Locals}
 use Rattle.typed_values.specs.Laws.{HasNumbers}
-use Rattle.scene_paths.specs.lisa_meaning.Values.{Array, named_array, field_place}
+use Rattle.lowered_resources.specs.lisa_meaning.Values.{Array, named_array, field_place}
 use Rattle.lowered_statements.specs.Scopes.{Local, Scope, names_of, IsScope, IsFree}
 use Rattle.lowered_statements.specs.Agreement.{IsLocal, Spares, IsGuard, AreGiven}
 use Rattle.lowered_statements.proofs.Scoped.{scope_low, guard_low, guard_wide, guard_fits, guard_up}
@@ -30,8 +30,8 @@ use Rattle.lowered_resources.specs.Places.{IsThere}
 use Rattle.lowered_resources.proofs.Standing.{field_low}
 use Rattle.std.proofs.lemmas.Bool.Decides.{nat_tests}
 use Rattle.lisa_tree.specs.Operations.{sections_at, expression_in, own_stage}
-use Rattle.scene_paths.proofs.lisa_machine_proofs.Standing.{expression_stand}
-use Rattle.scene_paths.specs.description_sizes.Texts.{levels}
+use Rattle.lisa_machine.proofs.Standing.{expression_stand}
+use Rattle.lowered_resources.specs.description_sizes.Texts.{levels}
 use Rattle.step_program.specs.Depths.{expr_depth}
 use Rattle.step_pieces.specs.Pieces.{Piece, nothing, top, held}
 use Rattle.step_pieces.specs.Formed.{Lies, IsPiece}

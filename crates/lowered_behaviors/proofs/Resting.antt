@@ -4,7 +4,7 @@ use Rattle.std.specs.Prelude.{bit_and}
 use Rattle.lisa_tree.specs.Expressions.{ExprTree}
 use Rattle.lisa_tree.specs.Statements.{StmtTrees}
 use Rattle.lisa_tree.specs.Operations.{sections_at, expression_in, behavior_in}
-use Rattle.scene_paths.specs.description_sizes.Texts.{levels}
+use Rattle.lowered_resources.specs.description_sizes.Texts.{levels}
 use Rattle.step_program.specs.Programs.{Program, Expr, Temp}
 use Rattle.step_program.specs.Effects.{Moment, value}
 use Rattle.step_pieces.specs.Pieces.{Piece, nothing, top, held}

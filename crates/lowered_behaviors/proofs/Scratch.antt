@@ -12,7 +12,7 @@ use Rattle.lisa_tree.specs.Meanings.{meaning}
 use Rattle.lisa_tree.specs.Operations.{sections_at, expression_in}
 use Rattle.description_types.specs.Types.{meant_type}
 use Rattle.lowered_words.specs.instruction_forms.declared.form.Field.{Field}
-use Rattle.scene_paths.specs.lisa_meaning.Scenes.{declared, is_label}
+use Rattle.lowered_resources.specs.lisa_meaning.Scenes.{declared, is_label}
 use Rattle.step_program.specs.Programs.{Const, ToTemp, Move}
 use Rattle.step_pieces.specs.Pieces.{Piece, nothing, behind, top, held, IsScratch}
 use Rattle.lowered_values.specs.Templates.{fitted}

@@ -17,18 +17,18 @@ use Rattle.lisa_tree.specs.Same.{same_name}
 use Rattle.lisa_tree.specs.Resources.{resource_at, stage_at}
 use Rattle.lisa_tree.specs.Meanings.{meaning_of}
 use Rattle.description_types.specs.Types.{element_shape}
-use Rattle.scene_paths.specs.lisa_machine.Freedom.{Stands, AllStand}
-use Rattle.scene_paths.specs.lisa_machine.Resolving.{IsArray, IsBoundary}
-use Rattle.scene_paths.specs.lisa_machine.Soundness.{IsSound}
-use Rattle.scene_paths.proofs.lisa_machine_proofs.Among.{among_left, among_right}
-use Rattle.scene_paths.proofs.lisa_machine_proofs.Resolved.{read_element, reads_boundary}
+use Rattle.lisa_machine.specs.Freedom.{Stands, AllStand}
+use Rattle.lisa_machine.specs.Resolving.{IsArray, IsBoundary}
+use Rattle.lisa_machine.specs.Soundness.{IsSound}
+use Rattle.lisa_machine.proofs.Among.{among_left, among_right}
+use Rattle.lisa_machine.proofs.Resolved.{read_element, reads_boundary}
 use Rattle.step_program.specs.Programs.{Program}
 use Rattle.step_program.specs.Effects as steps
 use Rattle.typed_values.specs.Laws.{HasNumbers}
 use Rattle.typed_values.specs.Effects.{Locals}
-use Rattle.scene_paths.specs.lisa_meaning.Scenes.{Scene, running}
-use Rattle.scene_paths.specs.lisa_meaning.Moments.{Moment}
-use Rattle.scene_paths.specs.lisa_meaning.Values.{Array, Below, array_place, array_of, meant_array, named_array, field_place, reader}
+use Rattle.lowered_resources.specs.lisa_meaning.Scenes.{Scene, running}
+use Rattle.lowered_resources.specs.lisa_meaning.Moments.{Moment}
+use Rattle.lowered_resources.specs.lisa_meaning.Values.{Array, Below, array_place, array_of, meant_array, named_array, field_place, reader}
 use Rattle.lowered_resources.specs.meaning_promises.Scoping.{AreLocalsOf}
 use Rattle.lowered_values.specs.Operands.{StandsFor, IsOperand}
 use Rattle.lowered_values.specs.Sources.{AreSources, Mirrors}

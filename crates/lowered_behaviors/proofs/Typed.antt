@@ -12,13 +12,13 @@ use Rattle.description_places.specs.Scopes.{Scope, local_named, entered}
 use Rattle.description_places.specs.Places as marks
 use Rattle.description_places.specs.Places.{at, uses, targets, uses_of_value, with_counter, with_counted, head_places, after, places, all_places}
 use Rattle.lisa_tree.specs.Same.{same_name}
-use Rattle.scene_paths.specs.lisa_machine.Freedom.{Stands, AllStand}
-use Rattle.scene_paths.specs.lisa_machine.Running.{FitsLoop}
-use Rattle.scene_paths.specs.lisa_machine.Soundness.{IsSound}
-use Rattle.scene_paths.proofs.lisa_machine_proofs.Among.{among_left, among_right}
-use Rattle.scene_paths.proofs.lisa_machine_proofs.Distinct.{local_fresh, counter_fresh}
-use Rattle.scene_paths.proofs.lisa_machine_proofs.Forward.{loop_fits}
-use Rattle.scene_paths.proofs.lisa_machine_proofs.Resolved.{local_wide, counter_wide}
+use Rattle.lisa_machine.specs.Freedom.{Stands, AllStand}
+use Rattle.lisa_machine.specs.Running.{FitsLoop}
+use Rattle.lisa_machine.specs.Soundness.{IsSound}
+use Rattle.lisa_machine.proofs.Among.{among_left, among_right}
+use Rattle.lisa_machine.proofs.Distinct.{local_fresh, counter_fresh}
+use Rattle.lisa_machine.proofs.Forward.{loop_fits}
+use Rattle.lisa_machine.proofs.Resolved.{local_wide, counter_wide}
 use Rattle.typed_values.specs.Laws.{HasNumbers}
 use Rattle.lowered_resources.proofs.meaning_promises_proofs.Typed.{same_width}
 use Rattle.lowered_statements.specs.Scopes.{Names, IsNew}

@@ -5,14 +5,14 @@ use Rattle.lisa_tree.specs.Expressions.{ExprTree}
 use Rattle.description_places.specs.declared.sites.Region.{Region}
 use Rattle.description_places.specs.Scopes as places
 use Rattle.description_places.specs.Places.{uses}
-use Rattle.scene_paths.specs.lisa_machine.Freedom.{AllStand}
-use Rattle.scene_paths.specs.description_sizes.Texts.{levels}
+use Rattle.lisa_machine.specs.Freedom.{AllStand}
+use Rattle.lowered_resources.specs.description_sizes.Texts.{levels}
 use Rattle.step_program.specs.Programs.{Program}
 use Rattle.step_program.specs.Effects as steps
 use Rattle.typed_values.specs.Laws.{HasNumbers}
-use Rattle.scene_paths.specs.lisa_meaning.Scenes.{Link, Scene}
-use Rattle.scene_paths.specs.lisa_meaning.Moments.{Moment}
-use Rattle.scene_paths.specs.lisa_meaning.Values.{value_of}
+use Rattle.lowered_resources.specs.lisa_meaning.Scenes.{Link, Scene}
+use Rattle.lowered_resources.specs.lisa_meaning.Moments.{Moment}
+use Rattle.lowered_resources.specs.lisa_meaning.Values.{value_of}
 use Rattle.lowered_resources.specs.meaning_promises.Running.{IsPath, PartsStand, Runs}
 use Rattle.lowered_resources.proofs.meaning_promises_proofs.Reading.{On, enough}
 use Rattle.step_pieces.specs.Running.{ran, HasTemps}

@@ -12,13 +12,13 @@ use Rattle.description_places.specs.declared.scopes.Local.{Local}
 use Rattle.description_places.specs.declared.sites.Region.{Region}
 use Rattle.description_places.specs.Places.{uses, targets}
 use Rattle.description_places.specs.Scopes.{Scope}
-use Rattle.scene_paths.specs.lisa_machine.Freedom.{AllStand}
+use Rattle.lisa_machine.specs.Freedom.{AllStand}
 use Rattle.lowered_words.specs.instruction_forms.Trees.{FormTree}
 use Rattle.step_program.specs.Programs.{Program}
 use Rattle.step_program.specs.Effects as steps
 use Rattle.typed_values.specs.Laws.{HasNumbers}
-use Rattle.scene_paths.specs.lisa_meaning.Moments.{Moment}
-use Rattle.scene_paths.specs.lisa_meaning.Scenes.{Link, Scene, instruction_with}
+use Rattle.lowered_resources.specs.lisa_meaning.Moments.{Moment}
+use Rattle.lowered_resources.specs.lisa_meaning.Scenes.{Link, Scene, instruction_with}
 use Rattle.lowered_statements.specs.Scopes.{Names}
 use Rattle.lowered_resources.specs.Holding.{Holds}
 use Rattle.lowered_words.specs.Ways.{Way, part_by}

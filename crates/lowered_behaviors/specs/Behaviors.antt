@@ -3,7 +3,7 @@ use Rattle.std.specs.Prelude.{ℕ, zero, suc, List, [], ◌∷◌, Option, None,
 use Rattle.lisa_tree.specs.Expressions.{ExprTree}
 use Rattle.lisa_tree.specs.Statements.{StmtTrees}
 use Rattle.lisa_tree.specs.Operations.{sections_at, expression_in, behavior_in}
-use Rattle.scene_paths.specs.description_sizes.Texts.{levels}
+use Rattle.lowered_resources.specs.description_sizes.Texts.{levels}
 use Rattle.step_program.specs.Programs.{Expr, Temp}
 use Rattle.step_pieces.specs.Pieces.{Piece, nothing, behind, top, held}
 use Rattle.lowered_statements.specs.Scopes.{Scope}

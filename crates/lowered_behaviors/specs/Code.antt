@@ -12,7 +12,7 @@ use Rattle.lisa_tree.specs.declared.declared.Meaning.TheVariants as meanings
 use Rattle.lisa_tree.specs.Same.{same_name}
 use Rattle.lisa_tree.specs.Meanings.{meaning}
 use Rattle.lisa_tree.specs.Operations.{sections_at, behavior_in, expression_in}
-use Rattle.scene_paths.specs.description_sizes.Texts.{levels}
+use Rattle.lowered_resources.specs.description_sizes.Texts.{levels}
 use Rattle.description_types.specs.Types.{Types}
 use Rattle.indexmap.specs.IndexMap.{get}
 use Rattle.step_program.specs.Programs.{Expr, ToTemp, Temp}

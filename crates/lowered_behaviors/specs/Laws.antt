@@ -3,17 +3,17 @@ use Rattle.std.specs.Prelude.{ℕ, ◌≡◌, ◌≤◌, ◌<◌, ◌+◌, suc, 
 use Rattle.lisa_tree.specs.Expressions.{ExprTree}
 use Rattle.lisa_tree.specs.Descriptions.{DescriptionTree}
 use Rattle.description_places.specs.declared.sites.Region.{Region}
-use Rattle.scene_paths.specs.description_sizes.Texts.{levels}
+use Rattle.lowered_resources.specs.description_sizes.Texts.{levels}
 use Rattle.description_types.specs.Tables.{Known, AreKinds}
-use Rattle.scene_paths.specs.lisa_machine.Verdicts.{IsAccepted}
-use Rattle.scene_paths.specs.machine_parts.Parts.{registers_of}
+use Rattle.lisa_machine.specs.Verdicts.{IsAccepted}
+use Rattle.lisa_machine.specs.machine_parts.Parts.{registers_of}
 use Rattle.step_program.specs.Programs.{Program, Expr}
 use Rattle.step_program.specs.Effects as steps
 use Rattle.typed_values.specs.Laws.{HasNumbers}
-use Rattle.scene_paths.specs.lisa_meaning.Moments.{Moment}
-use Rattle.scene_paths.specs.lisa_meaning.Scenes.{Link, Scene}
-use Rattle.scene_paths.specs.lisa_meaning.Values.{value_of}
-use Rattle.scene_paths.specs.lisa_meaning.Effects.{doing, run_behavior}
+use Rattle.lowered_resources.specs.lisa_meaning.Moments.{Moment}
+use Rattle.lowered_resources.specs.lisa_meaning.Scenes.{Link, Scene}
+use Rattle.lowered_resources.specs.lisa_meaning.Values.{value_of}
+use Rattle.lowered_resources.specs.lisa_meaning.Effects.{doing, run_behavior}
 use Rattle.lowered_resources.specs.meaning_promises.Running.{Runs}
 use Rattle.lowered_resources.specs.meaning_promises.Fitting.{HaveNumbers}
 use Rattle.step_pieces.specs.Pieces.{IsScratch}

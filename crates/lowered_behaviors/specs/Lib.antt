@@ -6,12 +6,8 @@ pub mod Laws
 pub mod Settled
 pub mod Positions
 pub mod Code
-pub mod coding_checks
-pub mod coding_tables
-pub mod instruction_forms
-pub mod lisa_meaning
-pub mod lowered_statements
-pub mod lowered_words
-pub mod meaning_promises
-pub mod scene_paths
-pub mod typed_values
+pub use Rattle.lowered_resources.specs.lisa_meaning
+pub use Rattle.lowered_statements.specs as lowered_statements
+pub use Rattle.lowered_words.specs as lowered_words
+pub use Rattle.lowered_resources.specs.meaning_promises
+pub use Rattle.lowered_words.specs.scene_paths

@@ -5,9 +5,9 @@ use Rattle.lisa_tree.specs.Descriptions.{DescriptionTree}
 use Rattle.lisa_tree.specs.Operations.{sections_at, coding_in}
 use Rattle.lisa_tree.specs.Declarations.{is_reference}
 use Rattle.coded_names.specs.Codings.{names_instructions}
-use Rattle.scene_paths.specs.activation_trees.Starting.{plain_named}
-use Rattle.scene_paths.specs.lisa_forms.Choosing.{child_place}
-use Rattle.scene_paths.specs.lisa_meaning.Scenes.{declared}
+use Rattle.lowered_resources.specs.activation_trees.Starting.{plain_named}
+use Rattle.lowered_resources.specs.lisa_forms.Choosing.{child_place}
+use Rattle.lowered_resources.specs.lisa_meaning.Scenes.{declared}
 use Rattle.lowered_words.specs.Ways.{Way, Whole, Child}
 
 -- an operation, and the way in which forms reach the part that it is; none where it is no part of an instruction

@@ -14,7 +14,7 @@ use Rattle.lisa_tree.specs.Meanings.{meaning}
 use Rattle.lisa_tree.specs.Operations.{sections_at, expression_in}
 use Rattle.description_types.specs.Types.{Types, meant_type}
 use Rattle.step_program.specs.Programs.{Expr, Const, Temp, ToTemp}
-use Rattle.scene_paths.specs.lisa_meaning.Scenes.{declared, is_label}
+use Rattle.lowered_resources.specs.lisa_meaning.Scenes.{declared, is_label}
 use Rattle.step_pieces.specs.Pieces.{Piece, nothing, behind, top, held, always}
 use Rattle.lowered_values.specs.Operands.{Operand, operand_of}
 use Rattle.lowered_values.specs.Templates.{fitted}

@@ -8,9 +8,9 @@ ghost use Rattle.lowered_behaviors.specs.Settled.{types_tree};
 
 use description_tables::Tables;
 use description_types::{Kinds, typed};
+use lisa_machine::Machine;
 use lisa_tree::Shape;
 use lisa_words::NoMemory;
-use scene_paths::Machine;
 use std::alloc::Global;
 
 /// The types of a description's declared names, settled once.

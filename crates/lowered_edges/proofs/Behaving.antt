@@ -5,15 +5,15 @@ use Rattle.std.specs.Option.{option_and_then, option_map_or}
 use Rattle.std.proofs.lemmas.Bool.{both_ways}
 use Rattle.std.proofs.lemmas.Option.{same_Some, slice_get_cases}
 use Rattle.lisa_tree.specs.Descriptions.{DescriptionTree}
-use Rattle.activation_plans.specs.lisa_machine.Verdicts.{IsAccepted}
+use Rattle.lisa_machine.specs.Verdicts.{IsAccepted}
 use Rattle.activation_plans.specs.lisa_forms.Verdicts.{HasForms}
 use Rattle.description_types.specs.Types.{Types}
 use Rattle.lisa_tree.specs.Operations.{is_root}
 use Rattle.activation_plans.specs.description_sizes.Texts.{levels}
-use Rattle.activation_plans.proofs.lisa_machine_proofs.Forward.{onward, main_is}
-use Rattle.activation_plans.proofs.lisa_machine_proofs.Sound.{sound}
-use Rattle.activation_plans.specs.activation_trees.declared.parts.Occurrence.{Occurrence}
-use Rattle.activation_plans.specs.activation_trees.Unfolding.{occurrences}
+use Rattle.lisa_machine.proofs.Forward.{onward, main_is}
+use Rattle.lisa_machine.proofs.Sound.{sound}
+use Rattle.activation_trees.specs.declared.parts.Occurrence.{Occurrence}
+use Rattle.activation_trees.specs.Unfolding.{occurrences}
 use Rattle.pipeline_time.specs.Acts.{size}
 use Rattle.pipeline_time.specs.Cores.{is_past}
 use Rattle.step_program.specs.Programs.{Program, Expr}

@@ -10,9 +10,9 @@ use Rattle.lisa_tree.specs.Descriptions.{DescriptionTree}
 use Rattle.description_places.specs.declared.sites.Region.TheVariants as regions
 use Rattle.description_places.specs.Places.{At, uses, act_places, acts_places}
 use Rattle.lisa_tree.specs.Operations.{sections_at, activation_in}
-use Rattle.activation_plans.specs.lisa_machine.Freedom.{AllStand}
-use Rattle.activation_plans.proofs.lisa_machine_proofs.Among.{among_left, among_right}
-use Rattle.activation_plans.proofs.lisa_machine_proofs.Standing.{activation_stand}
+use Rattle.lisa_machine.specs.Freedom.{AllStand}
+use Rattle.lisa_machine.proofs.Among.{among_left, among_right}
+use Rattle.lisa_machine.proofs.Standing.{activation_stand}
 use Rattle.activation_plans.specs.lisa_meaning.Cores.{item_conditions, items_conditions, conditions_in, condition}
 
 module _ (d : DescriptionTree) (o : ℕ) where

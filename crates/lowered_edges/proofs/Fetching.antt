@@ -15,13 +15,13 @@ use Rattle.lisa_tree.specs.Meanings.{meaning, meaning_of}
 use Rattle.lisa_tree.specs.Resources.{resource_at}
 use Rattle.lisa_tree.specs.Operations.{sections_at, coding_in}
 use Rattle.description_types.specs.Types.{Types}
-use Rattle.activation_plans.specs.lisa_machine.Codings.{FitsWord, FitsCoding, IsScalar}
-use Rattle.activation_plans.proofs.lisa_machine_proofs.Fitting.{coding_fits}
-use Rattle.activation_plans.proofs.lisa_machine_proofs.Standing.{coding_stand}
-use Rattle.activation_plans.proofs.lisa_machine_proofs.Sound.{sound}
-use Rattle.lowered_behaviors.specs.coding_tables.Instructions.{Root, root, root_group, root_from, first_root, choice_of_root, instruction_choice}
-use Rattle.lowered_behaviors.specs.coding_checks.Widths.{choice_named}
-use Rattle.lowered_behaviors.specs.instruction_forms.Widths.{HasWidth}
+use Rattle.lisa_machine.specs.Codings.{FitsWord, FitsCoding, IsScalar}
+use Rattle.lisa_machine.proofs.Fitting.{coding_fits}
+use Rattle.lisa_machine.proofs.Standing.{coding_stand}
+use Rattle.lisa_machine.proofs.Sound.{sound}
+use Rattle.coding_tables.specs.Instructions.{Root, root, root_group, root_from, first_root, choice_of_root, instruction_choice}
+use Rattle.coding_checks.specs.Widths.{choice_named}
+use Rattle.instruction_forms.specs.Widths.{HasWidth}
 use Rattle.step_program.specs.Programs.{Program}
 use Rattle.step_program.specs.Effects as steps
 use Rattle.step_program.specs.Effects.{value}

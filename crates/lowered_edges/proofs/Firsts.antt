@@ -8,8 +8,8 @@ use Rattle.lisa_engine.specs.State as engine
 use Rattle.description_types.specs.Types.{Types}
 use Rattle.machine_parts.specs.Parts.{arrays_of, registers_of, first_values}
 use Rattle.machine_parts.proofs.Lengths.{registers_counted}
-use Rattle.activation_plans.specs.activation_trees.Unfolding.{occurrences}
-use Rattle.activation_plans.specs.activation_trees.Items.{items_behind}
+use Rattle.activation_trees.specs.Unfolding.{occurrences}
+use Rattle.activation_trees.specs.Items.{items_behind}
 use Rattle.pipeline_time.specs.Bits.{Hardware, first_hardware}
 use Rattle.activation_plans.specs.lisa_meaning.Cores.{core_of}
 use Rattle.activation_plans.specs.lisa_meaning.Moments.{Contents}

@@ -8,10 +8,10 @@ use Rattle.lisa_tree.specs.Descriptions.{CodingTree, DescriptionTree}
 use Rattle.lisa_tree.specs.Operations.{sections_at, activation_in}
 use Rattle.description_places.specs.declared.sites.Region.TheVariants as regions
 use Rattle.description_places.specs.Places.{uses}
-use Rattle.activation_plans.specs.lisa_machine.Freedom.{AllStand}
+use Rattle.lisa_machine.specs.Freedom.{AllStand}
 use Rattle.activation_plans.specs.description_sizes.Texts.{levels}
 use Rattle.description_types.specs.Types.{Types}
-use Rattle.lowered_behaviors.specs.coding_tables.Instructions.{Root, first_root}
+use Rattle.coding_tables.specs.Instructions.{Root, first_root}
 use Rattle.step_program.specs.Programs.{Program, Expr, Const, Temp}
 use Rattle.step_program.specs.WellFormed.{IsWidth}
 use Rattle.step_pieces.specs.Pieces.{Piece, nothing, held, always, top}

@@ -8,8 +8,8 @@ use Rattle.lisa_tree.specs.Descriptions.{DescriptionTree}
 use Rattle.lisa_tree.specs.Operations.{sections_at, behavior_in, is_root}
 use Rattle.lisa_tree.specs.Paths.{node_count}
 use Rattle.description_types.specs.Types.{Types}
-use Rattle.activation_plans.specs.activation_trees.declared.parts.Occurrence.{Occurrence}
-use Rattle.activation_plans.specs.activation_trees.Unfolding.{occurrences}
+use Rattle.activation_trees.specs.declared.parts.Occurrence.{Occurrence}
+use Rattle.activation_trees.specs.Unfolding.{occurrences}
 use Rattle.activation_plans.specs.lisa_meaning.Cores.{is_root_at}
 use Rattle.step_program.specs.Programs.{Expr}
 use Rattle.lowered_time.specs.Pieces.{nothing}

@@ -21,5 +21,5 @@ pub mod Lining
 pub mod Copying
 pub mod Worded
 pub mod Parting
-pub mod lowered_behaviors_proofs
-pub mod lowered_layouts_proofs
+pub use Rattle.lowered_behaviors.proofs as lowered_behaviors_proofs
+pub use Rattle.lowered_layouts.proofs as lowered_layouts_proofs

@@ -3,9 +3,9 @@ use Rattle.std.proofs.Common.{◌≡◌, ◌<◌, ◌≤◌, ◌+◌, ◌++◌, 
 use Rattle.std.proofs.lemmas.List.{length-append, get_or_append_left, get_or-append-add}
 use Rattle.lisa_tree.specs.Descriptions.{DescriptionTree}
 use Rattle.description_types.specs.Types.{Types}
-use Rattle.activation_plans.proofs.lisa_machine_proofs.Sound.{sound}
-use Rattle.activation_plans.proofs.lisa_machine_proofs.Forward.{onward, main_is}
-use Rattle.lowered_behaviors.specs.instruction_forms.Widths.{HasWidth}
+use Rattle.lisa_machine.proofs.Sound.{sound}
+use Rattle.lisa_machine.proofs.Forward.{onward, main_is}
+use Rattle.instruction_forms.specs.Widths.{HasWidth}
 use Rattle.pipeline_time.proofs.Tree.{level_within}
 use Rattle.step_pieces.specs.Formed.{Lies}
 use Rattle.activation_plans.specs.lisa_meaning.Cores.{core_of}

@@ -7,9 +7,9 @@ use Rattle.lisa_tree.specs.Descriptions.{DescriptionTree}
 use Rattle.lisa_tree.specs.Operations.{number_of, sections_at, activation_in}
 use Rattle.lisa_tree.specs.Paths.{node_count}
 use Rattle.stage_checks.specs.Controls.{main_name}
-use Rattle.activation_plans.specs.activation_trees.declared.parts.Occurrence.{Occurrence}
-use Rattle.activation_plans.specs.activation_trees.Starting.{Activated, start_of, activated_by}
-use Rattle.activation_plans.specs.activation_trees.Unfolding.{occurrence, child}
+use Rattle.activation_trees.specs.declared.parts.Occurrence.{Occurrence}
+use Rattle.activation_trees.specs.Starting.{Activated, start_of, activated_by}
+use Rattle.activation_trees.specs.Unfolding.{occurrence, child}
 use Rattle.pipeline_time.specs.Acts.{Acts, Done, Act, When, size}
 use Rattle.activation_plans.specs.lisa_meaning.Trees.{followed, items_tests, item_tests, Activator, row, item_acts, items_acts, activation_acts, acts_within, main_acts, acts_of}
 use Rattle.lowered_time.specs.Lowering.{IsOwned}

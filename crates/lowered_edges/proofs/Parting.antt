@@ -8,7 +8,7 @@ use Rattle.lisa_tree.specs.Descriptions.{DescriptionTree}
 use Rattle.lisa_tree.specs.Operations.{sections_at, coding_in}
 use Rattle.description_types.specs.Types.{Types}
 use Rattle.activation_plans.specs.description_sizes.Texts.{levels}
-use Rattle.lowered_behaviors.specs.coding_tables.Instructions.{Root, first_root}
+use Rattle.coding_tables.specs.Instructions.{Root, first_root}
 use Rattle.activation_plans.specs.lisa_meaning.Cores.{condition, core_of, root_place}
 use Rattle.step_program.specs.Programs.{Expr, Const, Temp}
 use Rattle.step_pieces.specs.declared.leaves.Leaf.{Leaf}

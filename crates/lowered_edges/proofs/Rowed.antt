@@ -4,8 +4,8 @@ use Rattle.std.specs.Prelude.{slice_get}
 use Rattle.std.specs.Option.{option_map, unwrap_or}
 use Rattle.std.proofs.lemmas.Bool.{both_ways}
 use Rattle.lisa_tree.specs.Descriptions.{DescriptionTree}
-use Rattle.activation_plans.specs.activation_trees.declared.parts.Occurrence.{Occurrence}
-use Rattle.activation_plans.specs.activation_trees.Unfolding.{occurrences}
+use Rattle.activation_trees.specs.declared.parts.Occurrence.{Occurrence}
+use Rattle.activation_trees.specs.Unfolding.{occurrences}
 use Rattle.pipeline_time.specs.Acts.{Node, size}
 use Rattle.pipeline_time.specs.Cores.{is_past, node_of}
 use Rattle.step_program.specs.Programs.{Program, Expr, Temp}

@@ -6,9 +6,9 @@ use Rattle.std.proofs.lemmas.Bool.{both_ways}
 use Rattle.std.specs.Option.{option_and_then, option_map_or}
 use Rattle.lisa_tree.specs.Descriptions.{DescriptionTree}
 use Rattle.description_types.specs.Types.{Types}
-use Rattle.activation_plans.specs.activation_trees.declared.parts.Occurrence.{Occurrence}
-use Rattle.activation_plans.specs.activation_trees.Unfolding.{occurrences}
-use Rattle.lowered_behaviors.specs.instruction_forms.Trees.{FormTree}
+use Rattle.activation_trees.specs.declared.parts.Occurrence.{Occurrence}
+use Rattle.activation_trees.specs.Unfolding.{occurrences}
+use Rattle.instruction_forms.specs.Trees.{FormTree}
 use Rattle.step_program.specs.Effects as steps
 use Rattle.activation_plans.specs.lisa_meaning.Scenes.{Link, link, occurrence_part, occurrence_link, line, scene_by, has_word, scene_with, scene_of, instruction_with}
 use Rattle.lowered_layouts.specs.lowered_words.Ways.{Way, part_by}

@@ -8,8 +8,8 @@ use Rattle.lisa_engine.specs.Memory.{Memory}
 use Rattle.lisa_engine.specs.Shape.{IsFitting}
 use Rattle.lisa_engine.specs.State.{State}
 use Rattle.description_types.specs.Types.{Types}
-use Rattle.activation_plans.proofs.lisa_machine_proofs.Sound.{sound}
-use Rattle.activation_plans.proofs.lisa_machine_proofs.Forward.{onward, main_is}
+use Rattle.lisa_machine.proofs.Sound.{sound}
+use Rattle.lisa_machine.proofs.Forward.{onward, main_is}
 use Rattle.activation_plans.proofs.use_promises_proofs.Shown.{shown_fits}
 use Rattle.machine_parts.specs.Parts.{arrays_of, pins_of}
 use Rattle.pipeline_time.specs.Bits.{Hardware, shown, first_hardware}

@@ -9,11 +9,11 @@ use Rattle.lisa_tree.specs.Descriptions.{DescriptionTree}
 use Rattle.description_places.specs.declared.sites.Region.TheVariants as regions
 use Rattle.description_places.specs.Places.{uses}
 use Rattle.lisa_tree.specs.Operations.{sections_at, activation_in}
-use Rattle.activation_plans.specs.lisa_machine.Freedom.{AllStand}
+use Rattle.lisa_machine.specs.Freedom.{AllStand}
 use Rattle.activation_plans.specs.description_sizes.Texts.{levels}
 use Rattle.description_types.specs.Types.{Types}
-use Rattle.activation_plans.specs.activation_trees.declared.parts.Occurrence.{Occurrence}
-use Rattle.activation_plans.specs.activation_trees.Unfolding.{occurrences}
+use Rattle.activation_trees.specs.declared.parts.Occurrence.{Occurrence}
+use Rattle.activation_trees.specs.Unfolding.{occurrences}
 use Rattle.step_program.specs.Programs.{Program, Expr, Const}
 use Rattle.step_program.specs.Effects as steps
 use Rattle.step_program.specs.Effects.{value}

@@ -3,18 +3,18 @@ use Rattle.std.proofs.Common.{◌≡◌, ◌≤◌, ◌<◌, ◌+◌, ◌-◌, �
 use Rattle.std.proofs.lemmas.List.{append-nil, append_assoc, length-append}
 use Rattle.lisa_tree.specs.Descriptions.{DescriptionTree}
 use Rattle.lisa_engine.specs.declared.parts.Item.{Item}
-use Rattle.activation_plans.specs.lisa_machine.Verdicts.{IsAccepted, Verdict, before}
-use Rattle.activation_plans.specs.lisa_machine.Machines.{IsSpelled}
-use Rattle.activation_plans.proofs.lisa_machine_proofs.Sound.{sound}
+use Rattle.lisa_machine.specs.Verdicts.{IsAccepted, Verdict, before}
+use Rattle.lisa_machine.specs.Machines.{IsSpelled}
+use Rattle.lisa_machine.proofs.Sound.{sound}
 use Rattle.description_types.specs.Types.{Types}
 use Rattle.machine_parts.specs.Parts.{arrays_of, pins_of, registers_of, first_values}
 use Rattle.machine_parts.proofs.Lengths.{registers_counted}
-use Rattle.lowered_behaviors.specs.instruction_forms.Widths.{HasWidth}
-use Rattle.activation_plans.specs.activation_trees.Unfolding.{occurrences}
-use Rattle.activation_plans.specs.activation_trees.Items.{items_behind}
+use Rattle.instruction_forms.specs.Widths.{HasWidth}
+use Rattle.activation_trees.specs.Unfolding.{occurrences}
+use Rattle.activation_trees.specs.Items.{items_behind}
 use Rattle.activation_plans.specs.description_sizes.Sizes.{items}
 use Rattle.activation_plans.proofs.form_promises_proofs.Placed.{some_width}
-use Rattle.lowered_behaviors.specs.coding_checks.Uneven.{IsFirstGroupWidth}
+use Rattle.coding_checks.specs.Uneven.{IsFirstGroupWidth}
 use Rattle.activation_plans.specs.lisa_forms.Verdicts.{HasForms, from_writings}
 use Rattle.step_program.specs.Programs.{Program}
 use Rattle.step_pieces.specs.Pieces.{Piece}

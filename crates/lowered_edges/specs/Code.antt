@@ -5,8 +5,8 @@ use Rattle.lisa_tree.specs.Descriptions.{DescriptionTree}
 use Rattle.lisa_tree.specs.Operations.{sections_at, coding_in}
 use Rattle.description_types.specs.Types.{Types}
 use Rattle.description_types.specs.Tables.{Known, AreKinds}
-use Rattle.activation_plans.specs.activation_trees.Unfolding.{occurrences}
-use Rattle.lowered_behaviors.specs.coding_tables.Instructions.{Root, first_root}
+use Rattle.activation_trees.specs.Unfolding.{occurrences}
+use Rattle.coding_tables.specs.Instructions.{Root, first_root}
 use Rattle.activation_plans.specs.lisa_meaning.Scenes.{line}
 use Rattle.activation_plans.specs.lisa_meaning.Cores.{core_of, condition, root_place}
 use Rattle.step_program.specs.Programs.{Expr, Const, Temp, Program}

@@ -12,10 +12,10 @@ use Rattle.activation_plans.specs.lisa_meaning.States.{first_contents, shown_sta
 use Rattle.lisa_tree.specs.Operations.{sections_at, activation_in}
 use Rattle.description_types.specs.Types.{Types}
 use Rattle.description_types.specs.Tables.{Known, AreKinds}
-use Rattle.activation_plans.specs.lisa_machine.Verdicts.{IsAccepted}
-use Rattle.activation_plans.specs.lisa_machine.Machines.{IsSpelled}
+use Rattle.lisa_machine.specs.Verdicts.{IsAccepted}
+use Rattle.lisa_machine.specs.Machines.{IsSpelled}
 use Rattle.activation_plans.specs.lisa_forms.Verdicts.{HasForms}
-use Rattle.lowered_behaviors.specs.instruction_forms.Widths.{HasWidth}
+use Rattle.instruction_forms.specs.Widths.{HasWidth}
 use Rattle.step_program.specs.Programs.{Program}
 use Rattle.step_program.specs.WellFormed.{IsWidth, IsWellFormed}
 use Rattle.step_pieces.specs.Formed.{IsStep}

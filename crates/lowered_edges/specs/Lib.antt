@@ -3,11 +3,10 @@ pub mod Programs
 pub mod Meaning
 pub mod Laws
 pub mod Code
-pub mod lowered_behaviors
-pub mod lowered_layouts
-pub mod lowered_resources
-pub mod lowered_statements
-pub mod lowered_words
-pub mod meaning_promises
-pub mod program_declarations
-pub mod typed_values
+pub use Rattle.lowered_behaviors.specs as lowered_behaviors
+pub use Rattle.lowered_layouts.specs as lowered_layouts
+pub use Rattle.lowered_layouts.specs.lowered_resources
+pub use Rattle.lowered_behaviors.specs.lowered_statements
+pub use Rattle.lowered_layouts.specs.lowered_words
+pub use Rattle.lowered_behaviors.specs.meaning_promises
+pub use Rattle.program_declarations.specs as program_declarations

@@ -7,9 +7,9 @@ use Rattle.lisa_tree.specs.Descriptions.{DescriptionTree}
 use Rattle.lisa_tree.specs.Operations.{sections_at, coding_in, behavior_in, is_root}
 use Rattle.activation_plans.specs.description_sizes.Texts.{levels}
 use Rattle.description_types.specs.Types.{Types}
-use Rattle.activation_plans.specs.activation_trees.declared.parts.Occurrence.{Occurrence}
-use Rattle.activation_plans.specs.activation_trees.Unfolding.{occurrences}
-use Rattle.lowered_behaviors.specs.coding_tables.Instructions.{Root, first_root}
+use Rattle.activation_trees.specs.declared.parts.Occurrence.{Occurrence}
+use Rattle.activation_trees.specs.Unfolding.{occurrences}
+use Rattle.coding_tables.specs.Instructions.{Root, first_root}
 use Rattle.step_program.specs.Programs.{Expr, Const, Temp}
 use Rattle.activation_plans.specs.lisa_meaning.Scenes.{line, has_word}
 use Rattle.activation_plans.specs.lisa_meaning.Cores.{condition, root_place}

@@ -4,8 +4,8 @@ use Rattle.lisa_tree.specs.Descriptions.{DescriptionTree}
 use Rattle.description_types.specs.Types.{Types}
 use Rattle.activation_plans.specs.description_sizes.Sizes.{items}
 use Rattle.machine_parts.specs.Parts.{arrays_of, pins_of, first_values}
-use Rattle.activation_plans.specs.activation_trees.Unfolding.{occurrences}
-use Rattle.activation_plans.specs.activation_trees.Items.{items_behind}
+use Rattle.activation_trees.specs.Unfolding.{occurrences}
+use Rattle.activation_trees.specs.Items.{items_behind}
 use Rattle.step_program.specs.Programs.{Program}
 use Rattle.activation_plans.specs.lisa_meaning.Cores.{core_of}
 use Rattle.step_pieces.specs.Pieces.{Piece}

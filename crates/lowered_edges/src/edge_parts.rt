@@ -8,7 +8,8 @@ ghost use Rattle.lowered_layouts.specs.lowered_words.Rows.{IsWordWidth};
 ghost use Rattle.lowered_behaviors.specs.Settled.{types_of, types_tree};
 
 use lowered_behaviors::NameTypes;
-use lowered_layouts::{Positions, Words};
+use lowered_layouts::Positions;
+use lowered_layouts::lowered_words::Words;
 
 /// What is known of the words of an accepted description and of the types of its names, and where its things stand. Words have this width.
 #[derive(Drop)]

@@ -1,14 +1,14 @@
 //! Where occurrences run.
 
 ghost use Rattle.std.specs.Prelude.{◌≡◌, ◌++◌, Some, IfOk, OnOk, slice_get};
-ghost use Rattle.activation_plans.specs.activation_trees.Unfolding.{occurrences};
+ghost use Rattle.activation_trees.specs.Unfolding.{occurrences};
 ghost use Rattle.lowered_layouts.specs.lowered_words.Code.{words_tree};
 ghost use Rattle.lowered_edges.specs.Code.{line_positions, numbered_positions};
 
-use activation_plans::Occurrence;
+use activation_plans::lisa_forms::Occurrence;
 use lisa_words::NoMemory;
 use lowered_behaviors::{Position, Reach};
-use lowered_layouts::Words;
+use lowered_layouts::lowered_words::Words;
 use std::alloc::Global;
 
 /// An occurrence by its number.

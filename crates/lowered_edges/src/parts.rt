@@ -18,11 +18,13 @@ ghost use Rattle.lowered_edges.specs.Code.{base_over, ground_over, value_over, p
 use crate::edge_parts::EdgeParts;
 use crate::lines::{line, occurrence_at};
 use crate::roots::{absent, fetch};
-use activation_plans::Occurrence;
+use activation_plans::lisa_forms::Occurrence;
 use lisa_tree::{Expr, Stmt};
 use lisa_words::NoMemory;
-use lowered_behaviors::{Ground, Locals, lower_behavior, value};
-use lowered_layouts::{Placing, Positions, Told};
+use lowered_behaviors::lowered_statements::Locals;
+use lowered_behaviors::{Ground, lower_behavior, value};
+use lowered_layouts::Positions;
+use lowered_layouts::lowered_resources::{Placing, Told};
 use lowered_time::Parts;
 use lowered_values::{Source, bit, picked};
 use std::alloc::Global;

@@ -3,7 +3,7 @@
 ghost use Rattle.std.specs.Prelude.{◌≡◌, ◌≤◌, ℕ, IfOk, OnOk, option_map};
 ghost use Rattle.lisa_tree.specs.Expressions.{expr_tree};
 ghost use Rattle.lisa_tree.specs.Operations.{sections_at, coding_in};
-ghost use Rattle.lowered_behaviors.specs.coding_tables.Instructions.{first_root};
+ghost use Rattle.coding_tables.specs.Instructions.{first_root};
 ghost use Rattle.activation_plans.specs.lisa_meaning.Cores.{root_place};
 ghost use Rattle.lowered_behaviors.specs.scene_paths.Lookups.{tree_of};
 ghost use Rattle.step_pieces.specs.Pieces.{top};
@@ -17,8 +17,11 @@ ghost use Rattle.lowered_edges.specs.Code.{read_over, fetch_over};
 
 use lisa_tree::{CodingPart, Expr};
 use lisa_words::{Kind, NoMemory, Word};
-use lowered_behaviors::{Described, KnownNames, Locals};
-use lowered_layouts::{Positions, Resources};
+use lowered_behaviors::KnownNames;
+use lowered_behaviors::lowered_statements::Locals;
+use lowered_behaviors::scene_paths::Described;
+use lowered_layouts::Positions;
+use lowered_layouts::lowered_resources::Resources;
 use lowered_values::{Source, compute, fitted};
 use std::alloc::Global;
 use step_pieces::{Draft, Leaf};

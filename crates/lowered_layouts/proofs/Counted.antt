@@ -2,9 +2,9 @@
 use Rattle.std.proofs.Common.{◌≡◌, ◌+◌, ◌-◌, ◌*◌, ◌∙◌, ℕ, List, false, length, sym, ap, ap₂, arith}
 use Rattle.lisa_tree.specs.Descriptions.{DescriptionTree}
 use Rattle.lisa_tree.specs.Resources.{stages, fields}
-use Rattle.state_items.specs.lisa_machine.Verdicts.{IsAccepted}
-use Rattle.state_items.proofs.lisa_machine_proofs.Sound.{sound}
-use Rattle.state_items.proofs.lisa_machine_proofs.Forward.{main_is}
+use Rattle.lisa_machine.specs.Verdicts.{IsAccepted}
+use Rattle.lisa_machine.proofs.Sound.{sound}
+use Rattle.lisa_machine.proofs.Forward.{main_is}
 use Rattle.state_items.specs.activation_trees.declared.parts.Occurrence.{Occurrence}
 use Rattle.state_items.specs.activation_trees.Unfolding.{occurrences}
 use Rattle.pipeline_time.specs.Acts.{Act, Done, size}

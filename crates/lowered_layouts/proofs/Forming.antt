@@ -10,7 +10,7 @@ use Rattle.lisa_tree.specs.declared.tokens.Shape.{Shape}
 use Rattle.lisa_tree.specs.Descriptions.{DescriptionTree}
 use Rattle.lisa_tree.specs.Resources.{stages, fields}
 use Rattle.instruction_trees.specs.Trees.{In, here, there}
-use Rattle.state_items.specs.lisa_machine.Verdicts.{IsAccepted}
+use Rattle.lisa_machine.specs.Verdicts.{IsAccepted}
 use Rattle.step_program.specs.Programs.{Program, Temp, Move}
 use Rattle.step_program.specs.Effects.{item_width, width}
 use Rattle.step_program.specs.WellFormed.{IsWidth, IsFit, IsMove}

@@ -6,7 +6,7 @@ use Rattle.std.proofs.lemmas.Bool.{and_parts, and_from, eq-eqb, ne_eqb, lt-ltb, 
 use Rattle.std.proofs.lemmas.List.{get_or-replicate}
 use Rattle.std.proofs.lemmas.Option.{same_Some, slice_get_within}
 use Rattle.lisa_tree.specs.Descriptions.{DescriptionTree}
-use Rattle.state_items.specs.lisa_machine.Verdicts.{IsAccepted}
+use Rattle.lisa_machine.specs.Verdicts.{IsAccepted}
 use Rattle.lisa_tree.specs.Resources.{stages}
 use Rattle.state_items.specs.activation_trees.declared.parts.Occurrence.{Occurrence}
 use Rattle.state_items.specs.activation_trees.Unfolding.{occurrences}

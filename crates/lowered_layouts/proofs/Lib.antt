@@ -12,5 +12,5 @@ pub mod Counted
 pub mod Spotted
 pub mod Lasted
 pub mod Ended
-pub mod lowered_resources_proofs
-pub mod lowered_words_proofs
+pub use Rattle.lowered_resources.proofs as lowered_resources_proofs
+pub use Rattle.lowered_words.proofs as lowered_words_proofs

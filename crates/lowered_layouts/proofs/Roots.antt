@@ -8,14 +8,14 @@ use Rattle.lisa_tree.specs.Expressions.{ExprTree}
 use Rattle.lisa_tree.specs.Descriptions as trees
 use Rattle.lisa_tree.specs.Descriptions.{CodingTree, OperationTree, DescriptionTree}
 use Rattle.lisa_tree.specs.Operations.{sections_at, coding_in, is_root, operation_at}
-use Rattle.state_items.specs.lisa_machine.Codings.{FitsCoding}
-use Rattle.state_items.specs.lisa_machine.Declaring.{IsGroup}
-use Rattle.state_items.proofs.lisa_machine_proofs.Fitting.{coding_fits}
-use Rattle.state_items.proofs.lisa_machine_proofs.Standing.{coding_stand}
-use Rattle.state_items.proofs.lisa_machine_proofs.Sound.{sound}
+use Rattle.lisa_machine.specs.Codings.{FitsCoding}
+use Rattle.lisa_machine.specs.Declaring.{IsGroup}
+use Rattle.lisa_machine.proofs.Fitting.{coding_fits}
+use Rattle.lisa_machine.proofs.Standing.{coding_stand}
+use Rattle.lisa_machine.proofs.Sound.{sound}
 use Rattle.lowered_words.specs.coding_checks.Widths.{choice_named}
 use Rattle.lowered_words.specs.coding_tables.Instructions.{Root, root, root_group, root_at, root_from, first_root, choice_of_root, instruction_choice}
-use Rattle.state_items.specs.lisa_machine.Verdicts.{IsAccepted}
+use Rattle.lisa_machine.specs.Verdicts.{IsAccepted}
 use Rattle.state_items.specs.activation_trees.declared.parts.Occurrence.{Occurrence}
 use Rattle.state_items.specs.activation_trees.Items.{stage_or_first, root_stage}
 

@@ -1,7 +1,7 @@
 -- What holds of where things stand in a description's step program.
 use Rattle.std.specs.Prelude.{ℕ, ◌≡◌, ◌↔◌, ◌<◌, ◌≤◌, true, false, cond, List, [], Option, Some, length, slice_index, slice_index_or}
 use Rattle.lisa_tree.specs.Descriptions.{DescriptionTree}
-use Rattle.state_items.specs.lisa_machine.Verdicts.{IsAccepted}
+use Rattle.lisa_machine.specs.Verdicts.{IsAccepted}
 use Rattle.lisa_tree.specs.Resources.{stages}
 use Rattle.lisa_engine.specs.Memory.{Memory}
 use Rattle.lisa_engine.specs.Shape.{IsFitting}

@@ -5,5 +5,5 @@ pub mod States
 pub mod Laws
 pub mod Spots
 pub mod Code
-pub mod lowered_resources
-pub mod lowered_words
+pub use Rattle.lowered_resources.specs as lowered_resources
+pub use Rattle.lowered_words.specs as lowered_words

@@ -12,7 +12,6 @@ mod numbers;
 mod positions;
 mod spots;
 
-pub use laws::time_is_laid_out;
-pub use lowered_resources::{Placing, Resources, Told};
-pub use lowered_words::Words;
+pub use lowered_resources;
+pub use lowered_words;
 pub use positions::Positions;

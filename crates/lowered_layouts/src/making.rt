@@ -19,9 +19,11 @@ use crate::numbers::{number, product, sum};
 use crate::positions::Positions;
 use crate::spots::{Spot, spot_table};
 use indexmap::IndexMap;
+use lisa_machine::Machine;
 use lisa_words::NoMemory;
-use lowered_words::Described;
-use state_items::{Forms, Machine, make_places};
+use lowered_words::scene_paths::Described;
+use state_items::lisa_forms::Forms;
+use state_items::make_places;
 use std::alloc::Global;
 
 fn stage_count(machine: &Machine) -> Result<u8, NoMemory>

@@ -13,7 +13,7 @@ ghost use Rattle.lowered_layouts.specs.Spots.{place_at};
 
 use crate::spots::Spot;
 use indexmap::IndexMap;
-use lowered_words::Described;
+use lowered_words::scene_paths::Described;
 
 /// Where things stand in the step program of a description: temps that last through an edge, and items. No look-up takes memory, and each
 /// takes the same time however many items there are.

@@ -22,9 +22,9 @@ use Rattle.meaning_promises.specs.machine_parts.Parts.{item, register_in, regist
 use Rattle.step_program.specs.Programs.{Program, Expr, Aim, ToItem, ToTemp, ToCell, Move}
 use Rattle.step_program.specs.Effects as steps
 use Rattle.step_program.specs.Effects.{value, effect, taken, chosen}
-use Rattle.meaning_promises.specs.typed_values.Words.{TypedWord, fitted as fitted_bits}
-use Rattle.meaning_promises.specs.typed_values.Effects.{Locals, local_put, like}
-use Rattle.meaning_promises.proofs.typed_values_proofs.Fitting.{fitted_within}
+use Rattle.lowered_values.specs.typed_values.Words.{TypedWord, fitted as fitted_bits}
+use Rattle.lowered_values.specs.typed_values.Effects.{Locals, local_put, like}
+use Rattle.lowered_values.proofs.typed_values_proofs.Fitting.{fitted_within}
 use Rattle.scene_paths.specs.lisa_meaning.Scenes.{Link, Scene, at_path, running}
 use Rattle.scene_paths.specs.lisa_meaning.Moments.{Moment, with_locals, with_out, with_stall, with_flush}
 use Rattle.scene_paths.specs.lisa_meaning.Values.{Array, register_place, field_place, shape_at, value_of}

@@ -11,7 +11,7 @@ use Rattle.graph_paths.specs.Paths.{is_in}
 use Rattle.meaning_promises.specs.machine_parts.Parts.{registers_of}
 use Rattle.step_program.specs.Programs.{Program}
 use Rattle.step_program.specs.Effects as steps
-use Rattle.meaning_promises.specs.typed_values.Effects.{Locals}
+use Rattle.lowered_values.specs.typed_values.Effects.{Locals}
 use Rattle.scene_paths.specs.lisa_meaning.Moments.{Moment, Outs, with_locals, with_out, with_stall, with_flush, noted, written, out_set}
 use Rattle.scene_paths.specs.lisa_meaning.Effects.{register_put, cell_put}
 use Rattle.step_pieces.specs.Running.{Rests}

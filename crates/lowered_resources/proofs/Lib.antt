@@ -11,4 +11,6 @@ pub mod Assigning
 pub mod Numbers
 pub mod Coded
 pub mod Adding
-pub mod meaning_promises_proofs
+pub use Rattle.scene_paths.proofs.lisa_meaning_proofs
+pub use Rattle.meaning_promises.proofs as meaning_promises_proofs
+pub use Rattle.meaning_promises.proofs.use_promises_proofs

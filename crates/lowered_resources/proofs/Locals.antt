@@ -8,8 +8,8 @@ use Rattle.lisa_tree.specs.Same.{same_name}
 use Rattle.step_program.specs.Programs.{Program}
 use Rattle.step_program.specs.Effects.{Moment}
 use Rattle.step_program.specs.WellFormed.{IsWidth}
-use Rattle.meaning_promises.specs.typed_values.Words.{TypedWord}
-use Rattle.meaning_promises.specs.typed_values.Effects.{Locals, local_put}
+use Rattle.lowered_values.specs.typed_values.Words.{TypedWord}
+use Rattle.lowered_values.specs.typed_values.Effects.{Locals, local_put}
 use Rattle.lowered_values.specs.Operands.{StandsFor}
 use Rattle.lowered_statements.specs.Scopes.{Local, Scope, local_operand, IsScope, IsFree}
 use Rattle.lowered_statements.specs.Agreement.{IsLocal}

@@ -20,10 +20,10 @@ use Rattle.meaning_promises.proofs.lisa_machine_proofs.Sound.{sound}
 use Rattle.meaning_promises.specs.machine_parts.Parts.{item, arrays_of, pin_in, register_in, registers_of}
 use Rattle.step_program.specs.Programs.{Program, Before}
 use Rattle.step_program.specs.Effects as steps
-use Rattle.meaning_promises.specs.typed_values.Words.{TypedWord, truth}
-use Rattle.meaning_promises.specs.typed_values.Effects.{Locals}
-use Rattle.meaning_promises.specs.typed_values.Laws.{IsFit}
-use Rattle.meaning_promises.specs.typed_values.ResetEffects.{local_or}
+use Rattle.lowered_values.specs.typed_values.Words.{TypedWord, truth}
+use Rattle.lowered_values.specs.typed_values.Effects.{Locals}
+use Rattle.lowered_values.specs.typed_values.Laws.{IsFit}
+use Rattle.lowered_values.specs.typed_values.ResetEffects.{local_or}
 use Rattle.scene_paths.specs.lisa_meaning.Scenes.{Scene, running}
 use Rattle.scene_paths.specs.lisa_meaning.Moments.{Moment, bare, field_at}
 use Rattle.scene_paths.specs.lisa_meaning.Values.{Array, Below, register_place, pin_place, resource_value, element_value, named_array, field_place, shape_at, shaped_field, boundary_value, stage_before, meant_value}

@@ -14,7 +14,7 @@ use Rattle.lisa_tree.specs.Operations.{own_stage}
 use Rattle.lisa_tree.specs.Resources.{stage_at}
 use Rattle.step_program.specs.Programs.{Program, Expr}
 use Rattle.step_program.specs.Effects as steps
-use Rattle.meaning_promises.specs.typed_values.Words.{TypedWord}
+use Rattle.lowered_values.specs.typed_values.Words.{TypedWord}
 use Rattle.scene_paths.specs.lisa_meaning.Scenes.{Scene, Link, running}
 use Rattle.scene_paths.specs.lisa_meaning.Moments.{Moment}
 use Rattle.scene_paths.specs.lisa_meaning.Values.{Array, Below, reader, value_of, named_array, field_place}

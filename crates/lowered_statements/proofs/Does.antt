@@ -20,11 +20,11 @@ use Rattle.step_program.specs.Programs.{Program, Expr, Const, Temp, Move}
 use Rattle.step_program.specs.Effects.{Moment}
 use Rattle.step_program.specs.Effects as effects
 use Rattle.step_program.specs.WellFormed.{IsWidth}
-use Rattle.typed_values.specs.Words.{TypedWord, word_width, as_shape as shaped_value, zero_of, is_zero, number_value}
-use Rattle.typed_values.specs.Expressions.{value}
-use Rattle.typed_values.specs.Effects.{Locals, Doing, whole_of, whole, with_local as local_given, leave, first_of as first_value, turned, counter_value, with_counter, loop_turn, all_turns, looped as loop_effect, effect, effects as effect_all}
-use Rattle.typed_values.specs.Laws.{IsFit}
-use Rattle.typed_values.proofs.Fitting.{shaped_fits, zero_fits}
+use Rattle.lowered_values.specs.typed_values.Words.{TypedWord, word_width, as_shape as shaped_value, zero_of, is_zero, number_value}
+use Rattle.lowered_values.specs.typed_values.Expressions.{value}
+use Rattle.lowered_values.specs.typed_values.Effects.{Locals, Doing, whole_of, whole, with_local as local_given, leave, first_of as first_value, turned, counter_value, with_counter, loop_turn, all_turns, looped as loop_effect, effect, effects as effect_all}
+use Rattle.lowered_values.specs.typed_values.Laws.{IsFit}
+use Rattle.lowered_values.proofs.typed_values_proofs.Fitting.{shaped_fits, zero_fits}
 use Rattle.step_pieces.specs.Pieces.{Piece, nothing, behind, top, held, set_temp, IsScratch}
 use Rattle.step_pieces.specs.Running.{ran, Rests, IsLow, HasTemps}
 use Rattle.step_pieces.specs.Formed.{Lies}

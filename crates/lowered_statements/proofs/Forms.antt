@@ -15,9 +15,9 @@ use Rattle.shape_checks.specs.Bounds.{bounds_of, turns}
 use Rattle.step_program.specs.Programs.{Program, Expr, Const, Temp, Move}
 use Rattle.step_program.specs.Effects.{width}
 use Rattle.step_program.specs.WellFormed.{IsWidth, IsFit}
-use Rattle.typed_values.specs.Words.{number_value}
-use Rattle.typed_values.specs.Effects.{counter_value}
-use Rattle.typed_values.proofs.Fitting.{shaped_fits}
+use Rattle.lowered_values.specs.typed_values.Words.{number_value}
+use Rattle.lowered_values.specs.typed_values.Effects.{counter_value}
+use Rattle.lowered_values.proofs.typed_values_proofs.Fitting.{shaped_fits}
 use Rattle.step_pieces.specs.Pieces.{Piece, nothing, behind, top, held, set_temp}
 use Rattle.step_pieces.specs.Formed.{Lies, IsStep, IsPiece}
 use Rattle.step_pieces.proofs.Laid.{lies_left, lies_right, lies_one, nothing_formed, behind_formed, set_formed, held_formed}

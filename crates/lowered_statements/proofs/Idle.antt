@@ -12,7 +12,7 @@ use Rattle.shape_checks.specs.Bounds.{bounds_of, turns}
 use Rattle.step_program.specs.Programs.{Program, Expr, Const, Temp, Choose, Move}
 use Rattle.step_program.specs.Effects.{Moment, value, chosen}
 use Rattle.step_program.specs.Effects as effects
-use Rattle.typed_values.specs.Effects.{counter_value}
+use Rattle.lowered_values.specs.typed_values.Effects.{counter_value}
 use Rattle.step_pieces.specs.Pieces.{Piece, nothing, behind, top, held, set_temp, IsScratch}
 use Rattle.step_pieces.specs.Running.{ran, Rests, IsLow, HasTemps}
 use Rattle.step_pieces.specs.Formed.{Lies}

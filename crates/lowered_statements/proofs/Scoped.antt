@@ -13,7 +13,7 @@ use Rattle.step_program.specs.Programs.{Program, Expr, Const, Now, Before, Pin, 
 use Rattle.step_program.specs.Effects.{Moment, width}
 use Rattle.step_program.specs.Effects as effects
 use Rattle.step_program.specs.WellFormed.{IsWidth, IsFit}
-use Rattle.typed_values.specs.Words.{TypedWord, word_width}
+use Rattle.lowered_values.specs.typed_values.Words.{TypedWord, word_width}
 use Rattle.step_pieces.specs.Pieces.{Piece, behind, top, held}
 use Rattle.step_pieces.specs.Running.{Rests, IsLow}
 use Rattle.step_pieces.specs.Formed.{Lies}

@@ -7,9 +7,9 @@ use Rattle.description_places.specs.Literals.{literal}
 use Rattle.step_program.specs.Programs.{Program, Expr, Const, Now, Before, Pin, Temp, Cell, One, Two, Choose}
 use Rattle.step_program.specs.Effects.{Moment}
 use Rattle.step_program.specs.Effects as effects
-use Rattle.typed_values.specs.Words.{TypedWord}
-use Rattle.typed_values.specs.Expressions.{value}
-use Rattle.typed_values.specs.Effects.{Locals, Doing}
+use Rattle.lowered_values.specs.typed_values.Words.{TypedWord}
+use Rattle.lowered_values.specs.typed_values.Expressions.{value}
+use Rattle.lowered_values.specs.typed_values.Effects.{Locals, Doing}
 use Rattle.step_pieces.specs.Pieces.{Piece, IsScratch}
 use Rattle.step_pieces.specs.Running.{ran, Rests, IsLow, HasTemps}
 use Rattle.step_pieces.specs.Formed.{Lies, IsPiece}

@@ -7,8 +7,8 @@ use Rattle.lisa_tree.specs.Expressions.{ExprTree}
 use Rattle.shape_checks.specs.declared.bounds.Bounds.{Bounds}
 use Rattle.shape_checks.specs.Bounds.{turns}
 use Rattle.step_program.specs.Programs.{Expr, Const, ToTemp}
-use Rattle.typed_values.specs.Words.{word_width}
-use Rattle.typed_values.specs.Effects.{counter_value}
+use Rattle.lowered_values.specs.typed_values.Words.{word_width}
+use Rattle.lowered_values.specs.typed_values.Effects.{counter_value}
 use Rattle.step_pieces.specs.declared.drafts.Draft.{Draft}
 use Rattle.step_pieces.specs.Pieces.{Piece, always, behind, held, top}
 use Rattle.step_pieces.specs.Drafts.{leaf_tree, move, one_step, piece_of}

@@ -3,7 +3,7 @@ use Rattle.std.specs.Prelude.{◌≡◌, ℕ, List}
 use Rattle.lisa_tree.specs.Statements.{StmtTrees}
 use Rattle.step_program.specs.Programs.{Program, Expr}
 use Rattle.step_program.specs.Effects.{Moment, value}
-use Rattle.typed_values.specs.Effects.{Doing, effects}
+use Rattle.lowered_values.specs.typed_values.Effects.{Doing, effects}
 use Rattle.step_pieces.specs.Running.{ran, Rests, IsLow, HasTemps}
 use Rattle.step_pieces.specs.Formed.{Lies, IsPiece}
 use Rattle.lowered_statements.specs.Scopes.{Scope, names_of, IsScope}

@@ -10,8 +10,8 @@ use Rattle.description_places.specs.Literals.{literal}
 use Rattle.shape_checks.specs.declared.bounds.Bounds.{Bounds}
 use Rattle.shape_checks.specs.Bounds.{bounds_of, turns}
 use Rattle.step_program.specs.Programs.{Expr, Const, Temp, Move}
-use Rattle.typed_values.specs.Words.{word_width}
-use Rattle.typed_values.specs.Effects.{counter_value}
+use Rattle.lowered_values.specs.typed_values.Words.{word_width}
+use Rattle.lowered_values.specs.typed_values.Effects.{counter_value}
 use Rattle.step_pieces.specs.Pieces.{Piece, nothing, behind, top, held, set_temp}
 use Rattle.lowered_values.specs.Operands.{Operand, operand_of}
 use Rattle.lowered_values.specs.Templates.{picked, number_operand, as_shape}

@@ -3,7 +3,7 @@
 ghost use Rattle.std.specs.Prelude.{ℕ, List};
 ghost use Rattle.step_program.specs.Programs.{Program};
 ghost use Rattle.step_program.specs.Effects as steps;
-ghost use Rattle.typed_values.specs.Effects.{Doing};
+ghost use Rattle.lowered_values.specs.typed_values.Effects.{Doing};
 ghost use Rattle.lowered_statements.specs.Ways.{Ways};
 ghost use Rattle.lowered_statements.specs.Typed.{Rules};
 ghost use Rattle.lowered_statements.specs.Laws.{StatementsRest, StatementsDo, StatementsAreFormed};

@@ -14,14 +14,14 @@ use crate::local_temps::LocalTemp;
 use crate::scenes::Lowers;
 use crate::scopes::Locals;
 use crate::wholes::Given;
-use description_types::literal;
 use lisa_tree::{Expr, Shape};
 use lisa_words::{Kind, Name, NoMemory, Word};
+use lowered_values::description_types::literal;
+use lowered_values::typed_values::Value;
 use lowered_values::{Formula, as_shape, bit, picked, two, word_width};
 use std::alloc::Global;
 use step_pieces::{Draft, Leaf};
 use step_program::{StepExpr, TwoOp};
-use typed_values::Value;
 
 // All that an expression assigns.
 pub(crate) fn whole<L: Lowers>(

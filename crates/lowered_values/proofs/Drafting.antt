@@ -4,7 +4,7 @@ use Rattle.std.proofs.lemmas.List.{append_assoc}
 use Rattle.lisa_tree.specs.Expressions as exprs
 use Rattle.lisa_tree.specs.Expressions.{ExprTree}
 use Rattle.lisa_words.specs.declared.binary.Operator.{Operator}
-use Rattle.description_places.specs.Literals.{literal}
+use Rattle.typed_values.specs.description_places.Literals.{literal}
 use Rattle.step_program.specs.Programs.{Expr, Temp, Move}
 use Rattle.step_pieces.specs.Pieces.{Piece, behind, top, held, set_temp}
 use Rattle.lowered_values.specs.Operands.{Operand, operand_of}

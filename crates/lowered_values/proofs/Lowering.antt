@@ -5,7 +5,7 @@ use Rattle.std.proofs.lemmas.List.Elements.{All-append}
 use Rattle.lisa_words.specs.declared.words.Kind.TheVariants.{Unsigned}
 use Rattle.lisa_tree.specs.Expressions as exprs
 use Rattle.lisa_tree.specs.Expressions.{ExprTree}
-use Rattle.description_places.specs.Literals.{literal}
+use Rattle.typed_values.specs.description_places.Literals.{literal}
 use Rattle.step_program.specs.Programs.{Program, Expr, Temp, Aim, ToItem, ToTemp, ToCell, Move}
 use Rattle.step_program.specs.Effects.{Moment}
 use Rattle.step_program.specs.Effects as effects

@@ -12,7 +12,7 @@ use Rattle.lisa_tree.specs.declared.tokens.Base.TheVariants as bases
 use Rattle.lisa_tree.specs.declared.tokens.Shape.{Shape}
 use Rattle.lisa_tree.specs.Expressions as exprs
 use Rattle.lisa_tree.specs.Expressions.{ExprTree}
-use Rattle.description_types.specs.Shapes.{joined_kind, number_shape}
+use Rattle.typed_values.specs.description_types.Shapes.{joined_kind, number_shape}
 use Rattle.step_program.specs.declared.expressions.OneOp.TheVariants.{Not, Cut, Widen}
 use Rattle.step_program.specs.declared.expressions.TwoOp.{TwoOp}
 use Rattle.step_program.specs.declared.expressions.TwoOp.TheVariants as ops

@@ -3,7 +3,7 @@ use Rattle.std.specs.Prelude.{ℕ, List}
 use Rattle.lisa_words.specs.declared.words.Kind.TheVariants.{Unsigned}
 use Rattle.lisa_tree.specs.Expressions as exprs
 use Rattle.lisa_tree.specs.Expressions.{ExprTree}
-use Rattle.description_places.specs.Literals.{literal}
+use Rattle.typed_values.specs.description_places.Literals.{literal}
 use Rattle.step_program.specs.Programs.{Program, Temp}
 use Rattle.step_program.specs.Effects.{Moment}
 use Rattle.typed_values.specs.Words.{TypedWord}

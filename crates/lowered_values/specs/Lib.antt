@@ -4,3 +4,4 @@ pub mod Sources
 pub mod Computed
 pub mod Code
 pub mod Laws
+pub use Rattle.typed_values.specs as typed_values

@@ -5,7 +5,7 @@ use Rattle.lisa_words.specs.declared.words.Kind.TheVariants.{Unsigned, Signed}
 use Rattle.lisa_words.specs.declared.binary.Operator.{Operator}
 use Rattle.lisa_words.specs.declared.binary.Operator.TheVariants as operators
 use Rattle.lisa_tree.specs.declared.tokens.Shape.{Shape}
-use Rattle.description_types.specs.Shapes.{joined_kind, number_shape}
+use Rattle.typed_values.specs.description_types.Shapes.{joined_kind, number_shape}
 use Rattle.step_program.specs.declared.expressions.OneOp.TheVariants.{Not, Cut, Widen}
 use Rattle.step_program.specs.declared.expressions.TwoOp.{TwoOp}
 use Rattle.step_program.specs.declared.expressions.TwoOp.TheVariants as ops

@@ -10,11 +10,11 @@ ghost use Rattle.lowered_values.specs.Code.{plain, cells_of};
 use crate::drafts::keep;
 use crate::formulas::{as_shape, cell_at, chosen_by, complement, made_by, negated, number};
 use crate::operands::{ArraySource, Source};
-use description_types::literal;
 use lisa_tree::{BoundaryField, Expr};
 use lisa_words::{Kind, Name, NoMemory};
 use std::alloc::Global;
 use step_pieces::Draft;
+use typed_values::description_types::literal;
 
 /// What names stand for in a step program.
 pub trait Names {

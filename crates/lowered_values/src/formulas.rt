@@ -1,6 +1,6 @@
 //! What operators make of operands.
 ghost use Rattle.std.specs.Prelude.{◌≡◌, ◌≤◌, ◌-◌, ◌^◌, true, false, IfOk, max};
-ghost use Rattle.description_types.specs.Shapes.{joined_kind};
+ghost use Rattle.typed_values.specs.description_types.Shapes.{joined_kind};
 ghost use Rattle.lisa_words.specs.declared.binary.Operator.TheVariants as operators;
 ghost use Rattle.step_program.specs.declared.expressions.OneOp.TheVariants.{Not};
 ghost use Rattle.step_program.specs.Programs.{Const, Cell, One, Two, Choose, expr_tree};

@@ -12,3 +12,5 @@ pub use drafts::keep;
 pub use expressions::{Names, compute};
 pub use formulas::{as_shape, bit, choose, fitted, number, one, picked, two, word_width};
 pub use operands::{ArraySource, Formula, Source};
+pub use typed_values;
+pub use typed_values::description_types;

@@ -5,8 +5,8 @@ use Rattle.std.proofs.lemmas.Bool.{eqb-true}
 use Rattle.std.proofs.lemmas.Option.{cond_some}
 use Rattle.lisa_tree.specs.Descriptions.{DescriptionTree}
 use Rattle.instruction_trees.specs.Trees.{Done, Pass, Value, Choose, Form, In}
-use Rattle.instruction_forms.specs.coding_tables.Codings.{choice_alternatives}
-use Rattle.instruction_forms.specs.coding_tables.Instructions.{instruction_choice, instruction_items, forms_of}
+use Rattle.coding_tables.specs.Codings.{choice_alternatives}
+use Rattle.coding_tables.specs.Instructions.{instruction_choice, instruction_items, forms_of}
 use Rattle.instruction_forms.specs.Trees.{FormTree}
 use Rattle.instruction_forms.specs.Described.{instruction_form}
 use Rattle.instruction_forms.proofs.Sizes.{child_size}

@@ -5,8 +5,8 @@ use Rattle.std.specs.List.{list_any}
 use Rattle.std.proofs.lemmas.Bool.{eqb-true, false_from_ne_true}
 use Rattle.lisa_tree.specs.Descriptions.{DescriptionTree}
 use Rattle.instruction_trees.specs.Trees.{Done, Pass, Value, Choose, Form, In, placed}
-use Rattle.instruction_forms.specs.coding_tables.Codings.{coding_table}
-use Rattle.instruction_forms.specs.coding_tables.Instructions.{instruction_items, forms_of}
+use Rattle.coding_tables.specs.Codings.{coding_table}
+use Rattle.coding_tables.specs.Instructions.{instruction_items, forms_of}
 use Rattle.instruction_forms.specs.declared.form.Form as made
 use Rattle.instruction_forms.specs.declared.form.Form.{out-Form}
 use Rattle.instruction_forms.specs.Trees.{FormTree, FormTrees, Node, End, Then, form_tree}

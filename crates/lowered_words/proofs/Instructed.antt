@@ -10,7 +10,7 @@ use Rattle.lisa_tree.specs.Descriptions.{DescriptionTree}
 use Rattle.lisa_tree.specs.Operations.{is_alias}
 use Rattle.instruction_trees.specs.Bits.{Frame, Has, mask, pattern}
 use Rattle.instruction_trees.specs.Trees.{Form, Done, In, here, there, is_plain}
-use Rattle.instruction_forms.specs.coding_tables.Instructions.{forms_of}
+use Rattle.coding_tables.specs.Instructions.{forms_of}
 use Rattle.instruction_forms.specs.Trees.{FormTree}
 use Rattle.instruction_forms.specs.Described.{instruction_form}
 use Rattle.pattern_tables.specs.Instructions.{form_at}

@@ -11,7 +11,7 @@ use Rattle.lisa_tree.specs.Same.{same_name}
 use Rattle.scene_paths.specs.lisa_machine.Verdicts.{IsAccepted}
 use Rattle.instruction_trees.specs.Trees.{In, here, there, Done, is_plain}
 use Rattle.instruction_trees.specs.Trees as plain
-use Rattle.instruction_forms.specs.coding_tables.Instructions.{forms_of}
+use Rattle.coding_tables.specs.Instructions.{forms_of}
 use Rattle.instruction_forms.specs.declared.form.Field.{Field}
 use Rattle.instruction_forms.specs.declared.form.Form.{Form}
 use Rattle.instruction_forms.specs.declared.form.Form.TheViews.{out-Form}

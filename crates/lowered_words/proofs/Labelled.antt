@@ -20,8 +20,8 @@ use Rattle.scene_paths.proofs.lisa_machine_proofs.Standing.{coding_stand}
 use Rattle.scene_paths.proofs.lisa_machine_proofs.Fitting.{coding_fits}
 use Rattle.instruction_trees.specs.Trees.{Item, Fixed, Free, Field, Child, Done, Pass, Value, Choose, Form, In, here, there, coding, placed, slice}
 use Rattle.instruction_trees.specs.Values.{own_values}
-use Rattle.instruction_forms.specs.coding_tables.Codings.{digit_item, pattern_digits, items_of, coding_table}
-use Rattle.instruction_forms.specs.coding_tables.Instructions.{forms_of}
+use Rattle.coding_tables.specs.Codings.{digit_item, pattern_digits, items_of, coding_table}
+use Rattle.coding_tables.specs.Instructions.{forms_of}
 use Rattle.instruction_forms.specs.declared.form.Field as fields
 use Rattle.instruction_forms.specs.Trees.{FormTree}
 use Rattle.instruction_forms.specs.Described.{own_items, items_at, labels, labelled}

@@ -10,7 +10,7 @@ use Rattle.lisa_tree.specs.Operations.{is_alias}
 use Rattle.instruction_trees.specs.Bits.{Frame, mask, pattern, mask_bit, mask_bits, pattern_bit, pattern_bits}
 use Rattle.instruction_trees.specs.Trees.{Form, In, here, there, is_plain}
 use Rattle.instruction_trees.proofs.Numbers.{value_lt}
-use Rattle.instruction_forms.specs.coding_tables.Instructions.{forms_of}
+use Rattle.coding_tables.specs.Instructions.{forms_of}
 use Rattle.scene_paths.proofs.form_patterns_proofs.Standing.{all_fit}
 use Rattle.step_program.specs.Programs.{Program, Expr, Const, Temp, Aim, ToItem, ToTemp, ToCell, Move}
 use Rattle.step_program.specs.Effects.{Moment, value, taken, effect, width}

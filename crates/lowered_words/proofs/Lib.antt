@@ -14,3 +14,4 @@ pub mod Choosing
 pub mod Writing
 pub mod Keeping
 pub mod Linked
+pub use Rattle.scene_paths.proofs as scene_paths_proofs

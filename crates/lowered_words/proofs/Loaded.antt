@@ -8,7 +8,7 @@ use Rattle.std.proofs.lemmas.List.{get_or-set_same, get_or-set_other, length-set
 use Rattle.lisa_tree.specs.Descriptions.{DescriptionTree}
 use Rattle.instruction_trees.specs.Bits.{mask, pattern}
 use Rattle.instruction_trees.specs.Trees.{Form, In, here, there}
-use Rattle.instruction_forms.specs.coding_tables.Instructions.{forms_of}
+use Rattle.coding_tables.specs.Instructions.{forms_of}
 use Rattle.instruction_forms.specs.Described.{instruction_form}
 use Rattle.step_program.specs.Programs.{Program, Expr, Temp, ToTemp, Move}
 use Rattle.step_program.specs.Effects.{Moment, value, taken}

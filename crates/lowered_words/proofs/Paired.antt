@@ -6,7 +6,7 @@ use Rattle.lisa_tree.specs.Descriptions.{DescriptionTree}
 use Rattle.instruction_trees.specs.Trees.{Item, Fixed, Free, Field, Child, Done, Pass, Value, Choose, Form, Fits, AnyValue, In, coding, size, placed, form_bits}
 use Rattle.instruction_trees.specs.Values.{own_values}
 use Rattle.instruction_trees.proofs.Trees.{length-open}
-use Rattle.instruction_forms.specs.coding_tables.Codings.{coding_table}
+use Rattle.coding_tables.specs.Codings.{coding_table}
 use Rattle.instruction_forms.specs.Trees.{FormTree, End}
 use Rattle.instruction_forms.specs.Described.{items_at, labels, labelled, children, described}
 use Rattle.instruction_forms.proofs.Sizes.{child_size}

@@ -2,7 +2,7 @@
 use Rattle.std.proofs.Common.{◌≤◌, ℕ, List, [], None, Some, Option, ap, subst}
 use Rattle.lisa_tree.specs.Descriptions.{DescriptionTree}
 use Rattle.instruction_trees.specs.Trees.{Item, Done, Pass, Value, Choose, Form, Fits, AnyValue, instructions}
-use Rattle.instruction_forms.specs.coding_tables.Codings.{choice_alternatives, coding_table}
+use Rattle.coding_tables.specs.Codings.{choice_alternatives, coding_table}
 use Rattle.instruction_forms.specs.Widths.{HasWidth}
 use Rattle.instruction_forms.proofs.Wide.{small_width, whole_width}
 use Rattle.step_program.specs.WellFormed.{IsWidth}

@@ -11,7 +11,7 @@ use Rattle.instruction_trees.specs.Trees.{Done, is_plain}
 use Rattle.instruction_trees.specs.Trees as plain
 use Rattle.instruction_trees.proofs.Numbers.{value_lt}
 use Rattle.instruction_trees.proofs.FormWords.{pattern_below}
-use Rattle.instruction_forms.specs.coding_tables.Instructions.{forms_of}
+use Rattle.coding_tables.specs.Instructions.{forms_of}
 use Rattle.instruction_forms.specs.declared.form.Form.{Form}
 use Rattle.instruction_forms.specs.declared.form.Form.TheViews.{out-Form}
 use Rattle.instruction_forms.specs.Trees.{FormTree, form_tree}

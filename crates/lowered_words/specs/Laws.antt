@@ -5,7 +5,7 @@ use Rattle.lisa_tree.specs.Descriptions.{DescriptionTree}
 use Rattle.scene_paths.specs.activation_trees.declared.parts.Occurrence.{Occurrence}
 use Rattle.scene_paths.specs.activation_trees.Unfolding.{occurrences}
 use Rattle.instruction_trees.specs.Trees.{Form, In}
-use Rattle.instruction_forms.specs.coding_tables.Instructions.{forms_of}
+use Rattle.coding_tables.specs.Instructions.{forms_of}
 use Rattle.instruction_forms.specs.declared.form.Field.{Field}
 use Rattle.instruction_forms.specs.Trees.{FormTree}
 use Rattle.pattern_tables.specs.Overlaps.{AnswersOverlap}

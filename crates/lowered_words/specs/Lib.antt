@@ -8,7 +8,7 @@ pub mod Links
 pub mod Tables
 pub mod Kept
 pub mod Code
-pub mod coding_checks
-pub mod coding_tables
-pub mod instruction_forms
-pub mod scene_paths
+pub use Rattle.coding_tables.specs.coding_checks
+pub use Rattle.coding_tables.specs as coding_tables
+pub use Rattle.instruction_forms.specs as instruction_forms
+pub use Rattle.scene_paths.specs as scene_paths

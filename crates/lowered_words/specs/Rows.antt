@@ -4,8 +4,8 @@ use Rattle.std.specs.Option.{option_and_then}
 use Rattle.lisa_tree.specs.Descriptions.{DescriptionTree}
 use Rattle.instruction_trees.specs.Bits.{Frame}
 use Rattle.instruction_trees.specs.Trees.{Form, Fits, AnyValue, form_bits}
-use Rattle.instruction_forms.specs.coding_tables.Codings.{coding_table}
-use Rattle.instruction_forms.specs.coding_tables.Instructions.{instruction_items}
+use Rattle.coding_tables.specs.Codings.{coding_table}
+use Rattle.coding_tables.specs.Instructions.{instruction_items}
 use Rattle.scene_paths.specs.lisa_meaning.Scenes.{instruction_with}
 use Rattle.scene_paths.specs.lisa_meaning.Cores.{decodes}
 use Rattle.step_program.specs.Programs.{Expr, Const, Temp}

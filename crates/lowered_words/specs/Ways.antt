@@ -5,7 +5,7 @@ use Rattle.std.specs.List.{list_any}
 use Rattle.lisa_tree.specs.Descriptions.{DescriptionTree}
 use Rattle.lisa_tree.specs.Operations.{is_alias}
 use Rattle.instruction_trees.specs.Trees.{Form, is_plain}
-use Rattle.instruction_forms.specs.coding_tables.Instructions.{forms_of}
+use Rattle.coding_tables.specs.Instructions.{forms_of}
 use Rattle.instruction_forms.specs.Trees.{FormTree, FormTrees, Node, End, Then}
 use Rattle.instruction_forms.specs.Described.{instruction_form}
 use Rattle.scene_paths.specs.lisa_forms.Choosing.{child_at, operation_of}

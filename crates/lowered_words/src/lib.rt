@@ -12,6 +12,6 @@ mod table;
 mod way_at;
 mod words;
 
-pub use scene_paths::Described;
+pub use scene_paths;
 pub use way_at::WayAt;
 pub use words::Words;

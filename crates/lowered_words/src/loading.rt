@@ -1,7 +1,7 @@
 //! The steps that load a word into a row.
 
 ghost use Rattle.std.specs.Prelude.{◌≡◌, ◌≤◌, ◌<◌, ◌^◌, true, false, [], ◌∷◌, IfOk, OnOk, flat_map, length};
-ghost use Rattle.instruction_forms.specs.coding_tables.Instructions.{forms_of};
+ghost use Rattle.coding_tables.specs.Instructions.{forms_of};
 ghost use Rattle.pattern_tables.specs.Instructions.{form_at};
 ghost use Rattle.instruction_forms.specs.Trees.{form_tree};
 ghost use Rattle.step_program.specs.Programs.{Const, Two, expr_tree};

@@ -15,7 +15,10 @@ use crate::table::Table;
 use crate::words::Words;
 use description_tables::Tables;
 use lisa_words::NoMemory;
-use scene_paths::{Described, Forms, Machine, patterns};
+use scene_paths::Described;
+use scene_paths::form_patterns::patterns;
+use scene_paths::lisa_forms::Forms;
+use scene_paths::lisa_machine::Machine;
 use std::alloc::Global;
 
 // The ways of all plain forms.

@@ -17,7 +17,8 @@ use crate::table::Table;
 use crate::way_at::Chosen;
 use lisa_tree::{CodingItem, CodingPart, Names};
 use lisa_words::{Name, NoMemory};
-use scene_paths::{Described, Occurrence, activating_names, places};
+use scene_paths::Described;
+use scene_paths::activation_trees::{Occurrence, activating_names, places};
 use std::alloc::Global;
 
 // The place of a child among those of a coding.

@@ -7,4 +7,7 @@ mod listing;
 
 pub use firsts::{count_reset, count_reset_nodes, first_values};
 pub use laws::{arrays_are_told, first_values_fit, registers_have_first_values};
+pub use lisa_engine;
 pub use listing::{arrays, memories, pins};
+pub use typed_values;
+pub use typed_values::shape_checks;

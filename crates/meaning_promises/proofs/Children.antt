@@ -11,13 +11,13 @@ use Rattle.lisa_tree.specs.Declarations.{Entry, entries, declared_at, what_at, p
 use Rattle.lisa_tree.specs.Paths.{Operation, Choosing, Declaring, leads}
 use Rattle.graph_paths.specs.Paths.{is_in}
 use Rattle.coded_names.specs.Codings.{in_coding, names_instructions, is_coding}
-use Rattle.lisa_meaning.specs.coding_checks.Widths as widths
+use Rattle.instruction_forms.specs.coding_checks.Widths as widths
 use Rattle.stage_checks.specs.Running as running
-use Rattle.lisa_meaning.specs.lisa_machine.Ranks.{Ranks}
-use Rattle.lisa_meaning.specs.lisa_machine.Soundness.{IsSound}
-use Rattle.lisa_meaning.proofs.lisa_machine_proofs.Choosing.{group_left, instance_left}
-use Rattle.lisa_meaning.proofs.lisa_machine_proofs.Chosen.{in_here, plain_listed}
-use Rattle.lisa_meaning.proofs.lisa_machine_proofs.Named.{what_is}
+use Rattle.lisa_machine.specs.Ranks.{Ranks}
+use Rattle.lisa_machine.specs.Soundness.{IsSound}
+use Rattle.lisa_machine.proofs.Choosing.{group_left, instance_left}
+use Rattle.lisa_machine.proofs.Chosen.{in_here, plain_listed}
+use Rattle.lisa_machine.proofs.Named.{what_is}
 use Rattle.meant_declarations.specs.Meant.{MayMean, itself, higher}
 use Rattle.lisa_meaning.specs.use_promises.Meant.{ChoosesFrom}
 use Rattle.lisa_meaning.specs.use_promises.Using.{MayRun}
@@ -26,8 +26,8 @@ use Rattle.lisa_meaning.proofs.use_promises_proofs.Used.{coded_there}
 use Rattle.lisa_meaning.specs.activation_trees.Starting.{plain_of, plain_named}
 use Rattle.instruction_trees.specs.Trees as plain
 use Rattle.instruction_trees.specs.Trees.{In}
-use Rattle.lisa_meaning.specs.coding_tables.Codings.{choice_alternatives, child_alternatives}
-use Rattle.lisa_meaning.specs.instruction_forms.Trees.{FormTree}
+use Rattle.instruction_forms.specs.coding_tables.Codings.{choice_alternatives, child_alternatives}
+use Rattle.instruction_forms.specs.Trees.{FormTree}
 use Rattle.lisa_meaning.specs.lisa_forms.Choosing.{child_place, operation_of}
 use Rattle.lisa_meaning.specs.Scenes.{Link, link, home, part_at, child_part, chosen, onto, child_at_home, declared}
 use Rattle.lisa_meaning.proofs.Above.{named_by, owner_is, name_is, lower}

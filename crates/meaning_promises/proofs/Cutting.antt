@@ -11,14 +11,14 @@ use Rattle.description_places.specs.Places as places
 use Rattle.description_places.specs.Places.{at, uses, targets}
 use Rattle.description_types.specs.Shapes.{number_shape, beside}
 use Rattle.description_types.specs.Types.{type_of}
-use Rattle.lisa_meaning.specs.lisa_machine.Freedom.{AllStand}
-use Rattle.lisa_meaning.specs.lisa_machine.Soundness.{IsSound}
-use Rattle.lisa_meaning.proofs.lisa_machine_proofs.Among.{among_right}
-use Rattle.lisa_meaning.proofs.lisa_machine_proofs.Narrowed.{assigned_fits, local_fits}
-use Rattle.lisa_meaning.specs.kind_checks.Narrowings.{assigned_type}
-use Rattle.lisa_meaning.proofs.lisa_machine_proofs.Falling.{node_ranks}
-use Rattle.lisa_meaning.proofs.lisa_machine_proofs.Resolved.{cast_fits}
-use Rattle.lisa_meaning.proofs.lisa_machine_proofs.Typing.{all_declared, expression_typed}
+use Rattle.lisa_machine.specs.Freedom.{AllStand}
+use Rattle.lisa_machine.specs.Soundness.{IsSound}
+use Rattle.lisa_machine.proofs.Among.{among_right}
+use Rattle.lisa_machine.proofs.Narrowed.{assigned_fits, local_fits}
+use Rattle.lisa_machine.specs.kind_checks.Narrowings.{assigned_type}
+use Rattle.lisa_machine.proofs.Falling.{node_ranks}
+use Rattle.lisa_machine.proofs.Resolved.{cast_fits}
+use Rattle.lisa_machine.proofs.Typing.{all_declared, expression_typed}
 use Rattle.typed_values.specs.Words.{TypedWord, typed}
 use Rattle.typed_values.specs.Operators.{operand}
 use Rattle.typed_values.specs.Expressions.{Reader, value}

@@ -18,9 +18,9 @@ use Rattle.description_types.specs.Codings.{kind_or_unsigned}
 use Rattle.description_types.specs.Shapes.{shape_of}
 use Rattle.description_types.specs.Types.{word_shape, element_shape, meant_element}
 use Rattle.coded_names.specs.Codings.{field_width, number_kind, is_coding}
-use Rattle.lisa_meaning.specs.instruction_forms.declared.form.Field as forms
-use Rattle.lisa_meaning.specs.instruction_forms.Trees.{FormTree}
-use Rattle.lisa_meaning.specs.instruction_forms.Described.{is_signed_kind}
+use Rattle.instruction_forms.specs.declared.form.Field as forms
+use Rattle.instruction_forms.specs.Trees.{FormTree}
+use Rattle.instruction_forms.specs.Described.{is_signed_kind}
 use Rattle.lisa_meaning.specs.Moments.{Moment, field_at}
 use Rattle.lisa_meaning.specs.Values.{resource_value, array_of, meant_array, element_value, field_place, shape_at, shaped_field, boundary_value, fields_of, field_kind, field_value, label_value}
 use Rattle.meaning_promises.specs.Typing.{IsOfType, IsTypedBy}

@@ -18,12 +18,12 @@ use Rattle.lisa_tree.specs.Same.{same_name}
 use Rattle.lisa_tree.specs.Resources.{stage_at, fields, fields_in}
 use Rattle.lisa_tree.specs.Operations.{sections_at, expression_in, own_stage}
 use Rattle.lisa_tree.specs.Meanings.{meaning}
-use Rattle.lisa_meaning.specs.lisa_machine.Resolving.{IsWidth, IsDepth, FitsResource}
-use Rattle.lisa_meaning.specs.lisa_machine.Soundness.{IsSound}
-use Rattle.lisa_meaning.proofs.lisa_machine_proofs.Resolved.{resource_fits}
-use Rattle.lisa_meaning.specs.machine_parts.Parts.{item, array, array_in, arrays_of, pin_in, pins_of, register_in, registers_of}
-use Rattle.lisa_meaning.specs.instruction_forms.declared.form.Field.{Field}
-use Rattle.lisa_meaning.specs.instruction_forms.Trees.{FormTree}
+use Rattle.lisa_machine.specs.Resolving.{IsWidth, IsDepth, FitsResource}
+use Rattle.lisa_machine.specs.Soundness.{IsSound}
+use Rattle.lisa_machine.proofs.Resolved.{resource_fits}
+use Rattle.lisa_machine.specs.machine_parts.Parts.{item, array, array_in, arrays_of, pin_in, pins_of, register_in, registers_of}
+use Rattle.instruction_forms.specs.declared.form.Field.{Field}
+use Rattle.instruction_forms.specs.Trees.{FormTree}
 use Rattle.lisa_meaning.specs.description_sizes.Texts.{levels}
 use Rattle.lisa_meaning.specs.lisa_forms.Choosing.{child_place, operation_of}
 use Rattle.typed_values.specs.Words.{TypedWord, truth}

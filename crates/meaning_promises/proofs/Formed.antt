@@ -12,15 +12,15 @@ use Rattle.lisa_tree.specs.Descriptions as trees
 use Rattle.lisa_tree.specs.Descriptions.{CodingTree, DescriptionTree}
 use Rattle.lisa_tree.specs.Same.{same_name}
 use Rattle.lisa_tree.specs.Operations.{sections_at, coding_in, is_alias}
-use Rattle.lisa_meaning.proofs.lisa_machine_proofs.Decoding.{position_there}
+use Rattle.lisa_machine.proofs.Decoding.{position_there}
 use Rattle.coded_names.specs.Codings.{pattern_width, items_width, field_width, items_child, in_coding, names_instructions, is_coding}
 use Rattle.instruction_trees.specs.Trees.{Item, Fixed, Free, Table, In, Tree, Done, Pass, Value, Choose, Form, Fits, AnyValue, coding, size, placed, is_plain}
 use Rattle.instruction_trees.specs.Values.{own_values}
-use Rattle.lisa_meaning.specs.coding_tables.Codings.{digit_item, pattern_digits, child_alternatives, items_of, coding_table}
-use Rattle.lisa_meaning.specs.instruction_forms.declared.form.Field as fields
-use Rattle.lisa_meaning.specs.instruction_forms.Trees.{FormTree, FormTrees}
-use Rattle.lisa_meaning.specs.instruction_forms.Described.{is_signed, field, own_items, items_at, labels, labelled, children, described}
-use Rattle.lisa_meaning.proofs.instruction_forms_proofs.Whole.{items_list}
+use Rattle.instruction_forms.specs.coding_tables.Codings.{digit_item, pattern_digits, child_alternatives, items_of, coding_table}
+use Rattle.instruction_forms.specs.declared.form.Field as fields
+use Rattle.instruction_forms.specs.Trees.{FormTree, FormTrees}
+use Rattle.instruction_forms.specs.Described.{is_signed, field, own_items, items_at, labels, labelled, children, described}
+use Rattle.instruction_forms.proofs.Whole.{items_list}
 use Rattle.lisa_meaning.specs.lisa_forms.Choosing.{child_names, child_place, tree_at, child_at, operation_of}
 use Rattle.meaning_promises.specs.Forms.{IsFormOf}
 

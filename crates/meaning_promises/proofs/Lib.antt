@@ -15,5 +15,5 @@ pub mod Wide
 pub mod Fitted
 pub mod Kept
 pub mod RootWords
-pub mod lisa_machine_proofs
-pub mod typed_values_proofs
+pub use Rattle.lisa_machine.proofs as lisa_machine_proofs
+pub use Rattle.lisa_meaning.proofs.use_promises_proofs

@@ -8,8 +8,8 @@ use Rattle.description_places.specs.Places as places
 use Rattle.description_places.specs.Places.{at}
 use Rattle.lisa_tree.specs.Declarations.{Entry, entries, declared_at}
 use Rattle.description_graph.proofs.Hits.{found}
-use Rattle.lisa_meaning.specs.lisa_machine.Freedom.{Stands}
-use Rattle.lisa_meaning.specs.lisa_machine.Soundness.{IsSound}
+use Rattle.lisa_machine.specs.Freedom.{Stands}
+use Rattle.lisa_machine.specs.Soundness.{IsSound}
 use Rattle.meant_declarations.specs.Meant.{MayMean}
 use Rattle.lisa_meaning.specs.use_promises.Using.{IsChildEntry, ChildrenMayRun, IsCallable}
 use Rattle.lisa_meaning.proofs.use_promises_proofs.Used.{call_fits, reads_run, writes_run}

@@ -10,10 +10,10 @@ use Rattle.lisa_tree.specs.Operations.{number_of, sections_at, coding_in, is_roo
 use Rattle.graph_paths.specs.Paths.{is_in}
 use Rattle.coded_names.specs.Codings.{in_coding, names_instructions, is_coding}
 use Rattle.stage_checks.specs.Controls.{main_name}
-use Rattle.lisa_meaning.specs.lisa_machine.Running.{FitsMain}
-use Rattle.lisa_meaning.specs.lisa_machine.Soundness.{IsSound}
-use Rattle.lisa_meaning.proofs.lisa_machine_proofs.Chosen.{plain_listed}
-use Rattle.lisa_meaning.proofs.lisa_machine_proofs.Decoding.{off_left, off_right}
+use Rattle.lisa_machine.specs.Running.{FitsMain}
+use Rattle.lisa_machine.specs.Soundness.{IsSound}
+use Rattle.lisa_machine.proofs.Chosen.{plain_listed}
+use Rattle.lisa_machine.proofs.Decoding.{off_left, off_right}
 use Rattle.lisa_meaning.proofs.use_promises_proofs.Used.{coded_there}
 use Rattle.lisa_meaning.specs.activation_trees.declared.parts.Occurrence.{Occurrence}
 use Rattle.lisa_meaning.specs.activation_trees.Starting.{Activated, activated, plain_named}
@@ -25,12 +25,12 @@ use Rattle.lisa_meaning.proofs.activation_trees_proofs.Lying.{each_occurrence, h
 use Rattle.lisa_meaning.proofs.activation_trees_proofs.Ordered.{at_place, has_name}
 use Rattle.instruction_trees.specs.Trees as plain
 use Rattle.instruction_trees.specs.Trees.{Done, Pass, Value, Choose, Fits, AnyValue, coding, is_plain}
-use Rattle.lisa_meaning.specs.coding_tables.Codings.{coding_table}
-use Rattle.lisa_meaning.specs.coding_tables.Instructions.{instruction_items, forms_of}
+use Rattle.instruction_forms.specs.coding_tables.Codings.{coding_table}
+use Rattle.instruction_forms.specs.coding_tables.Instructions.{instruction_items, forms_of}
 use Rattle.pattern_tables.specs.Instructions.{form_at}
 use Rattle.pattern_tables.specs.Tables.{IsDecoded}
-use Rattle.lisa_meaning.specs.instruction_forms.Trees.{FormTree}
-use Rattle.lisa_meaning.specs.instruction_forms.Described.{instruction_form}
+use Rattle.instruction_forms.specs.Trees.{FormTree}
+use Rattle.instruction_forms.specs.Described.{instruction_form}
 use Rattle.lisa_meaning.specs.form_patterns.Instructions.{instruction_frames, instruction_plain}
 use Rattle.lisa_meaning.proofs.form_patterns_proofs.Filling.{fit_at}
 use Rattle.lisa_meaning.specs.lisa_forms.Choosing.{child_place, operation_of, numbered_form, Stands, whole, child, other, further}

@@ -36,23 +36,23 @@ use Rattle.description_types.specs.Steady.{assignables_steady}
 use Rattle.description_types.specs.Tables.{unfit}
 use Rattle.description_types.specs.Types.{typed, word_shape, element_shape, meant_type, or_meant_type, meant_element, or_meant_element, type_of, element_type}
 use Rattle.stage_checks.specs.Resets.{is_scalar}
-use Rattle.lisa_meaning.specs.lisa_machine.Assigning.{IsPlace, register, element, declared}
-use Rattle.lisa_meaning.specs.lisa_machine.Freedom.{Stands, AllStand}
-use Rattle.lisa_meaning.specs.lisa_machine.Resolving.{IsArray, IsOutput, writes_local, writes_register, writes_value, Writable, IsDepth, FitsResource}
-use Rattle.lisa_meaning.specs.lisa_machine.Soundness.{IsSound}
-use Rattle.lisa_meaning.proofs.lisa_machine_proofs.Assigned.{written, child_yes, reference_yes, operation_yes}
-use Rattle.lisa_meaning.proofs.lisa_machine_proofs.Chosen.{plain_listed}
-use Rattle.lisa_meaning.proofs.lisa_machine_proofs.Named.{what_is}
-use Rattle.lisa_meaning.proofs.lisa_machine_proofs.Resolved.{read_element, written_element, writes_output, writable, resource_fits}
-use Rattle.lisa_meaning.proofs.lisa_machine_proofs.Standing.{expression_stand}
-use Rattle.lisa_meaning.proofs.lisa_machine_proofs.Settling.{entry_is}
+use Rattle.lisa_machine.specs.Assigning.{IsPlace, register, element, declared}
+use Rattle.lisa_machine.specs.Freedom.{Stands, AllStand}
+use Rattle.lisa_machine.specs.Resolving.{IsArray, IsOutput, writes_local, writes_register, writes_value, Writable, IsDepth, FitsResource}
+use Rattle.lisa_machine.specs.Soundness.{IsSound}
+use Rattle.lisa_machine.proofs.Assigned.{written, child_yes, reference_yes, operation_yes}
+use Rattle.lisa_machine.proofs.Chosen.{plain_listed}
+use Rattle.lisa_machine.proofs.Named.{what_is}
+use Rattle.lisa_machine.proofs.Resolved.{read_element, written_element, writes_output, writable, resource_fits}
+use Rattle.lisa_machine.proofs.Standing.{expression_stand}
+use Rattle.lisa_machine.proofs.Settling.{entry_is}
 use Rattle.meant_declarations.specs.Meant.{MayMean, itself, higher}
 use Rattle.lisa_meaning.specs.use_promises.Meant.{ChoosesFrom}
 use Rattle.lisa_meaning.specs.use_promises.Using.{IsChildEntry, ChildrenMayRun}
 use Rattle.lisa_meaning.proofs.use_promises_proofs.Used.{reads_run, writes_run}
 use Rattle.lisa_meaning.proofs.use_promises_proofs.References.{definite}
 use Rattle.lisa_meaning.specs.description_sizes.Texts.{levels}
-use Rattle.lisa_meaning.specs.instruction_forms.Trees.{FormTree}
+use Rattle.instruction_forms.specs.Trees.{FormTree}
 use Rattle.typed_values.specs.Words.{TypedWord, fitted}
 use Rattle.typed_values.specs.Words as words
 use Rattle.typed_values.specs.Effects.{local_put}
@@ -66,7 +66,7 @@ use Rattle.meaning_promises.specs.Scoping.{AreLocalsOf}
 use Rattle.meaning_promises.specs.Running.{IsPath, PartsStand, Runs}
 use Rattle.meaning_promises.specs.Spots.{Spot, LocalSpot, RegisterSpot, ElementSpot, OutSpot, set_spot, IsSpotOf, SetsSpot, IsTarget}
 use Rattle.meaning_promises.proofs.Locals.{Found, none, one, find_local}
-use Rattle.lisa_meaning.specs.machine_parts.Parts.{item, array, array_in, register_in}
+use Rattle.lisa_machine.specs.machine_parts.Parts.{item, array, array_in, register_in}
 use Rattle.meaning_promises.proofs.Fitted.{placed, rest_in}
 use Rattle.meaning_promises.proofs.Children.{as_path, is_path, home_parts, child_low, Child, child_there, apart}
 use Rattle.meaning_promises.proofs.Fields.{place_there}

@@ -29,13 +29,13 @@ use Rattle.description_types.specs.declared.values.TypeOf.TheVariants as types
 use Rattle.description_types.specs.Codings.{kind_or_unsigned}
 use Rattle.description_types.specs.Shapes.{shape_of}
 use Rattle.description_types.specs.Types.{Types, typed, meant_type, or_meant_type, or_meant_element, name_type, element_type, type_of}
-use Rattle.lisa_meaning.specs.lisa_machine.Codings.{IsInput}
-use Rattle.lisa_meaning.specs.lisa_machine.Freedom.{Stands, AllStand}
-use Rattle.lisa_meaning.specs.lisa_machine.Soundness.{IsSound}
-use Rattle.lisa_meaning.proofs.lisa_machine_proofs.Named.{what_is}
-use Rattle.lisa_meaning.proofs.lisa_machine_proofs.Resolved.{reads_input, no_output_read, reads_boundary, cast_fits}
-use Rattle.lisa_meaning.proofs.lisa_machine_proofs.Standing.{expression_stand}
-use Rattle.lisa_meaning.proofs.lisa_machine_proofs.Typing.{child_types, reference_types, operation_typed}
+use Rattle.lisa_machine.specs.Codings.{IsInput}
+use Rattle.lisa_machine.specs.Freedom.{Stands, AllStand}
+use Rattle.lisa_machine.specs.Soundness.{IsSound}
+use Rattle.lisa_machine.proofs.Named.{what_is}
+use Rattle.lisa_machine.proofs.Resolved.{reads_input, no_output_read, reads_boundary, cast_fits}
+use Rattle.lisa_machine.proofs.Standing.{expression_stand}
+use Rattle.lisa_machine.proofs.Typing.{child_types, reference_types, operation_typed}
 use Rattle.meant_declarations.specs.Meant.{MayMean, itself, higher}
 use Rattle.lisa_meaning.specs.use_promises.Meant.{ChoosesFrom}
 use Rattle.lisa_meaning.specs.use_promises.Valued.{IsField}
@@ -43,7 +43,7 @@ use Rattle.lisa_meaning.proofs.use_promises_proofs.Given.{child_expressed, label
 use Rattle.lisa_meaning.proofs.use_promises_proofs.References.{definite}
 use Rattle.lisa_meaning.proofs.use_promises_proofs.Used.{reads_run}
 use Rattle.lisa_meaning.specs.description_sizes.Texts.{levels}
-use Rattle.lisa_meaning.specs.instruction_forms.Trees.{FormTree}
+use Rattle.instruction_forms.specs.Trees.{FormTree}
 use Rattle.typed_values.specs.Words.{TypedWord}
 use Rattle.typed_values.specs.ResetEffects.{local_or}
 use Rattle.lisa_meaning.specs.Scenes.{Link, Scene, first_operation, home, declared, is_label, child_at_home}

@@ -17,18 +17,18 @@ use Rattle.lisa_tree.specs.Operations.{sections_at, coding_in, own_stage}
 use Rattle.lisa_tree.specs.Meanings.{meaning, meaning_of}
 use Rattle.lisa_tree.specs.Paths.{choice_node}
 use Rattle.stage_checks.specs.Resets.{is_scalar}
-use Rattle.lisa_meaning.specs.lisa_machine.Codings.{FitsWord, FitsCoding, IsScalar, IsInput}
-use Rattle.lisa_meaning.specs.lisa_machine.Soundness.{IsSound}
-use Rattle.lisa_meaning.proofs.lisa_machine_proofs.Among.{free_places}
-use Rattle.lisa_meaning.proofs.lisa_machine_proofs.Decoding.{off_right, or_left}
-use Rattle.lisa_meaning.proofs.lisa_machine_proofs.Fitting.{coding_fits}
-use Rattle.lisa_meaning.proofs.lisa_machine_proofs.Standing.{coding_stand}
-use Rattle.lisa_meaning.specs.coding_checks.Widths.{choice_named, choice_width, child_width}
-use Rattle.lisa_meaning.specs.coding_checks.Uneven.{register_width, place_width, are_apart, child_uneven, root_uneven, uneven_fault, group_width, IsFirstGroupWidth}
-use Rattle.lisa_meaning.specs.coding_tables.Instructions.{Root, root, root_group, root_from, first_root, choice_of_root}
-use Rattle.lisa_meaning.specs.instruction_forms.Widths.{HasWidth}
+use Rattle.lisa_machine.specs.Codings.{FitsWord, FitsCoding, IsScalar, IsInput}
+use Rattle.lisa_machine.specs.Soundness.{IsSound}
+use Rattle.lisa_machine.proofs.Among.{free_places}
+use Rattle.lisa_machine.proofs.Decoding.{off_right, or_left}
+use Rattle.lisa_machine.proofs.Fitting.{coding_fits}
+use Rattle.lisa_machine.proofs.Standing.{coding_stand}
+use Rattle.instruction_forms.specs.coding_checks.Widths.{choice_named, choice_width, child_width}
+use Rattle.instruction_forms.specs.coding_checks.Uneven.{register_width, place_width, are_apart, child_uneven, root_uneven, uneven_fault, group_width, IsFirstGroupWidth}
+use Rattle.instruction_forms.specs.coding_tables.Instructions.{Root, root, root_group, root_from, first_root, choice_of_root}
+use Rattle.instruction_forms.specs.Widths.{HasWidth}
 use Rattle.lisa_meaning.proofs.form_promises_proofs.Wide.{even_child}
-use Rattle.lisa_meaning.specs.lisa_machine.Verdicts.{Verdict, before}
+use Rattle.lisa_machine.specs.Verdicts.{Verdict, before}
 use Rattle.lisa_meaning.specs.lisa_forms.Verdicts.{HasForms, from_writings}
 use Rattle.lisa_meaning.specs.Moments.{Moment, bare}
 use Rattle.lisa_meaning.specs.Values.{resource_value, field_place, stage_before, boundary_value, value_of}

@@ -13,10 +13,10 @@ use Rattle.description_places.specs.declared.sites.Region.TheVariants as regions
 use Rattle.description_places.specs.Scopes.{Scope, local_named, entered}
 use Rattle.description_places.specs.Places as places
 use Rattle.description_places.specs.Places.{At, at, uses, head_places, with_counted, after, all_places}
-use Rattle.lisa_meaning.specs.lisa_machine.Freedom.{Stands, AllStand}
-use Rattle.lisa_meaning.proofs.lisa_machine_proofs.Among.{among_left, among_right}
-use Rattle.lisa_meaning.specs.shape_checks.declared.bounds.Bounds.{Bounds}
-use Rattle.lisa_meaning.specs.shape_checks.Bounds.{bounds_of, turns}
+use Rattle.lisa_machine.specs.Freedom.{Stands, AllStand}
+use Rattle.lisa_machine.proofs.Among.{among_left, among_right}
+use Rattle.shape_checks.specs.declared.bounds.Bounds.{Bounds}
+use Rattle.shape_checks.specs.Bounds.{bounds_of, turns}
 use Rattle.typed_values.specs.Words.{is_zero}
 use Rattle.typed_values.specs.Expressions.{value}
 use Rattle.typed_values.specs.Effects.{Doing, whole, first_of, with_local, leave, turned, with_counter, loop_turn, all_turns, looped, effect, effects}

@@ -5,7 +5,7 @@ use Rattle.std.specs.Option.{option_and_then}
 use Rattle.std.proofs.lemmas.Bool.{eq-eqb, eqb-true}
 use Rattle.std.proofs.lemmas.Option.{same_Some}
 use Rattle.lisa_tree.specs.Descriptions.{DescriptionTree}
-use Rattle.lisa_meaning.specs.instruction_forms.Trees.{FormTree}
+use Rattle.instruction_forms.specs.Trees.{FormTree}
 use Rattle.lisa_meaning.specs.activation_trees.declared.parts.Occurrence.{Occurrence}
 use Rattle.lisa_meaning.specs.activation_trees.Unfolding.{occurrences}
 use Rattle.lisa_meaning.specs.activation_trees.Activators.{HasActivator, IsChild}

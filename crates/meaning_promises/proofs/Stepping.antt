@@ -19,11 +19,11 @@ use Rattle.lisa_tree.specs.Same.{same_name}
 use Rattle.lisa_tree.specs.Resources.{stage_at}
 use Rattle.lisa_tree.specs.Operations.{own_stage}
 use Rattle.lisa_tree.specs.Meanings.{meaning}
-use Rattle.lisa_meaning.specs.lisa_machine.Freedom.{AllStand}
-use Rattle.lisa_meaning.specs.lisa_machine.Resolving.{IsWidth}
-use Rattle.lisa_meaning.specs.lisa_machine.Soundness.{IsSound}
-use Rattle.lisa_meaning.proofs.lisa_machine_proofs.Distinct.{local_fresh, counter_fresh}
-use Rattle.lisa_meaning.proofs.lisa_machine_proofs.Resolved.{local_wide, counter_wide}
+use Rattle.lisa_machine.specs.Freedom.{AllStand}
+use Rattle.lisa_machine.specs.Resolving.{IsWidth}
+use Rattle.lisa_machine.specs.Soundness.{IsSound}
+use Rattle.lisa_machine.proofs.Distinct.{local_fresh, counter_fresh}
+use Rattle.lisa_machine.proofs.Resolved.{local_wide, counter_wide}
 use Rattle.lisa_meaning.proofs.use_promises_proofs.Counted.{counter_holds}
 use Rattle.lisa_words.specs.declared.words.Kind.TheVariants as kinds
 use Rattle.typed_values.specs.Words.{TypedWord, number_value}

@@ -16,9 +16,9 @@ use Rattle.description_places.specs.Places as places
 use Rattle.description_places.specs.Places.{at, uses}
 use Rattle.description_types.specs.Shapes.{bit, number_shape, joined_kind, joined, beside, paired}
 use Rattle.description_types.specs.Types.{Types, two_type, type_of}
-use Rattle.lisa_meaning.specs.lisa_machine.Freedom.{Stands, AllStand}
-use Rattle.lisa_meaning.specs.lisa_machine.Resolving.{IsWidth}
-use Rattle.lisa_meaning.proofs.lisa_machine_proofs.Among.{among_left, among_right}
+use Rattle.lisa_machine.specs.Freedom.{Stands, AllStand}
+use Rattle.lisa_machine.specs.Resolving.{IsWidth}
+use Rattle.lisa_machine.proofs.Among.{among_left, among_right}
 use Rattle.typed_values.specs.Words.{TypedWord, typed, word_width, as_shape, zero_of, truth, number_value}
 use Rattle.typed_values.specs.Operators.{operand}
 use Rattle.typed_values.specs.Expressions.{Reader, made_of, value}

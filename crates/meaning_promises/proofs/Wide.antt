@@ -8,18 +8,18 @@ use Rattle.lisa_tree.specs.declared.descriptions.CodingItem.TheVariants as items
 use Rattle.lisa_tree.specs.Descriptions as trees
 use Rattle.lisa_tree.specs.Descriptions.{CodingTree, DescriptionTree}
 use Rattle.lisa_tree.specs.Operations.{sections_at, coding_in}
-use Rattle.lisa_meaning.specs.lisa_machine.Codings.{FitsItem}
-use Rattle.lisa_meaning.specs.lisa_machine.Resolving.{IsWidth}
-use Rattle.lisa_meaning.specs.lisa_machine.Soundness.{IsSound}
-use Rattle.lisa_meaning.proofs.lisa_machine_proofs.Fitting.{coding_fits}
-use Rattle.lisa_meaning.proofs.lisa_machine_proofs.Standing.{coding_stand}
+use Rattle.lisa_machine.specs.Codings.{FitsItem}
+use Rattle.lisa_machine.specs.Resolving.{IsWidth}
+use Rattle.lisa_machine.specs.Soundness.{IsSound}
+use Rattle.lisa_machine.proofs.Fitting.{coding_fits}
+use Rattle.lisa_machine.proofs.Standing.{coding_stand}
 use Rattle.instruction_trees.specs.Trees.{Item, Done, Pass, Value, Choose, Form, Fits, AnyValue, coding, placed}
 use Rattle.instruction_trees.specs.Values.{own_values}
-use Rattle.lisa_meaning.specs.coding_tables.Codings.{pattern_digits, items_of, coding_table}
-use Rattle.lisa_meaning.specs.instruction_forms.declared.form.Field.{Field}
-use Rattle.lisa_meaning.specs.instruction_forms.Trees.{FormTree}
-use Rattle.lisa_meaning.specs.instruction_forms.Described.{own_items, items_at, labels, labelled}
-use Rattle.lisa_meaning.proofs.instruction_forms_proofs.Whole.{items_list}
+use Rattle.instruction_forms.specs.coding_tables.Codings.{pattern_digits, items_of, coding_table}
+use Rattle.instruction_forms.specs.declared.form.Field.{Field}
+use Rattle.instruction_forms.specs.Trees.{FormTree}
+use Rattle.instruction_forms.specs.Described.{own_items, items_at, labels, labelled}
+use Rattle.instruction_forms.proofs.Whole.{items_list}
 use Rattle.lisa_meaning.specs.Values.{fields_of}
 use Rattle.meaning_promises.specs.Forms.{IsFormOf}
 use Rattle.meaning_promises.proofs.Formed.{IsFree, past_digits, chosen_plain}

@@ -8,7 +8,7 @@ use Rattle.lisa_tree.specs.Descriptions as trees
 use Rattle.lisa_tree.specs.Descriptions.{DescriptionTree}
 use Rattle.lisa_engine.specs.Shape.{IsFitting, AreCells}
 use Rattle.lisa_tree.specs.Operations.{sections_at, coding_in, expression_in}
-use Rattle.lisa_meaning.specs.machine_parts.Parts.{arrays_of, pins_of, registers_of}
+use Rattle.lisa_machine.specs.machine_parts.Parts.{arrays_of, pins_of, registers_of}
 use Rattle.typed_values.specs.Laws.{IsFit, HasNumbers}
 use Rattle.lisa_meaning.specs.Moments.{Contents, Moment, field_at, written}
 use Rattle.lisa_meaning.specs.Values.{shape_at}

@@ -4,9 +4,9 @@ use Rattle.lisa_tree.specs.Descriptions.{DescriptionTree}
 use Rattle.lisa_tree.specs.Operations.{sections_at, coding_in, is_alias}
 use Rattle.coded_names.specs.Codings.{is_coding}
 use Rattle.instruction_trees.specs.Trees.{Form, Fits, AnyValue, coding, is_plain}
-use Rattle.lisa_meaning.specs.coding_tables.Codings.{coding_table}
-use Rattle.lisa_meaning.specs.instruction_forms.Trees.{FormTree}
-use Rattle.lisa_meaning.specs.instruction_forms.Described.{described}
+use Rattle.instruction_forms.specs.coding_tables.Codings.{coding_table}
+use Rattle.instruction_forms.specs.Trees.{FormTree}
+use Rattle.instruction_forms.specs.Described.{described}
 
 -- a form of an operation, with so many bits of the instruction below it; no operation in it is an alias
 pub record IsFormOf (d : DescriptionTree) (o : ℕ) (part : FormTree) : Type 0 where

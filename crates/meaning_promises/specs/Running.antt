@@ -5,7 +5,7 @@ use Rattle.lisa_tree.specs.Operations.{number_of}
 use Rattle.graph_paths.specs.Paths.{is_in}
 use Rattle.stage_checks.specs.Controls.{main_name}
 use Rattle.lisa_meaning.specs.activation_trees.Starting.{plain_named}
-use Rattle.lisa_meaning.specs.instruction_forms.Trees.{FormTree}
+use Rattle.instruction_forms.specs.Trees.{FormTree}
 use Rattle.lisa_meaning.specs.lisa_forms.Choosing.{operation_of}
 use Rattle.typed_values.specs.Effects.{Doing}
 use Rattle.lisa_meaning.specs.Scenes.{Link, Scene, at_path, child}

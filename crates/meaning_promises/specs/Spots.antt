@@ -7,7 +7,7 @@ use Rattle.lisa_engine.specs.declared.parts.ArrayItem.{ArrayItem}
 use Rattle.description_places.specs.declared.scopes.Local.{Local}
 use Rattle.description_places.specs.Scopes.{Scope, local_named}
 use Rattle.lisa_tree.specs.Resources.{stages}
-use Rattle.lisa_meaning.specs.machine_parts.Parts.{arrays_of, registers_of}
+use Rattle.lisa_machine.specs.machine_parts.Parts.{arrays_of, registers_of}
 use Rattle.lisa_meaning.specs.Values.{shape_at}
 use Rattle.lisa_tree.specs.Expressions as exprs
 use Rattle.lisa_tree.specs.Expressions.{ExprTree}

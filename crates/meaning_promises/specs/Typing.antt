@@ -8,7 +8,7 @@ use Rattle.description_places.specs.Places.{at, Reads, ReadsElement, ReadsInput,
 use Rattle.lisa_tree.specs.Resources.{field_shape}
 use Rattle.description_types.specs.Shapes.{bit}
 use Rattle.description_types.specs.Types.{Types, name_type, element_type}
-use Rattle.lisa_meaning.specs.lisa_machine.Freedom.{Stands}
+use Rattle.lisa_machine.specs.Freedom.{Stands}
 use Rattle.typed_values.specs.Words.{TypedWord}
 use Rattle.typed_values.specs.Expressions.{Reader}
 

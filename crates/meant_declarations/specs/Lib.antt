@@ -1,3 +1,5 @@
 pub mod Meant
 pub mod Meanings
 pub mod Walks
+pub use Rattle.graph_paths.specs as graph_paths
+pub use Rattle.least_fixed_points.specs as least_fixed_points

@@ -7,8 +7,8 @@ ghost use Rattle.graph_paths.specs.Paths.{targets};
 ghost use Rattle.meant_declarations.specs.Meanings.{declared_by, direct_meanings};
 ghost use Rattle.meant_declarations.specs.Walks.{is_declaration};
 
+use lisa_tree::lisa_words::Name;
 use lisa_tree::{Names, What};
-use lisa_words::Name;
 use std::alloc::{AllocError, Global};
 
 fn is_reference(what: Option<What>) -> bool

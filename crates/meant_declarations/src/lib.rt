@@ -7,4 +7,6 @@ mod directly;
 mod meanings;
 mod walking;
 
+pub use graph_paths;
+pub use least_fixed_points;
 pub use meanings::Meanings;

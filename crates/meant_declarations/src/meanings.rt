@@ -13,7 +13,7 @@ use crate::directly::{all_direct_meanings, is_declaration};
 use crate::walking::{are_some, is_marked, origins};
 use graph_paths::{reversed, row};
 use lisa_tree::Names;
-use lisa_words::NoMemory;
+use lisa_tree::lisa_words::NoMemory;
 use std::alloc::{AllocError, Global};
 use std::marker::Model;
 

@@ -1,4 +1,4 @@
 mod Modules
 mod Designed
 pub mod Stopped
-pub mod verilog_reader_proofs
+pub use Rattle.verilog_reader.proofs as verilog_reader_proofs

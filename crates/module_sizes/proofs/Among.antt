@@ -29,10 +29,10 @@ use Rattle.touch_promises.proofs.use_promises_proofs.Traits.{means}
 use Rattle.activation_trees.specs.Starting.{plain_of, plain_named}
 use Rattle.text_counts.specs.References.{MayMean, chosen, referenced}
 use Rattle.text_counts.specs.References as references
-use Rattle.description_weight.specs.description_sizes.Texts.{may_choose, levels}
-use Rattle.description_weight.specs.description_sizes.Texts as texts
-use Rattle.description_weight.proofs.description_sizes_proofs.Rising.{passing_has, some_below}
-use Rattle.description_weight.proofs.description_sizes_proofs.Chosen.{by_choice, by_name, meant_within}
+use Rattle.description_sizes.specs.Texts.{may_choose, levels}
+use Rattle.description_sizes.specs.Texts as texts
+use Rattle.description_sizes.proofs.Rising.{passing_has, some_below}
+use Rattle.description_sizes.proofs.Chosen.{by_choice, by_name, meant_within}
 use Rattle.description_weight.specs.Unfolded.{chosen_by}
 use Rattle.description_weight.specs.lisa_forms.Choosing.{child_place}
 use Rattle.touch_promises.specs.lisa_meaning.Scenes.{Link, declared}

@@ -12,11 +12,11 @@ use Rattle.lisa_tree.specs.Descriptions as trees
 use Rattle.lisa_tree.specs.Descriptions.{ResourceTree, DescriptionTree}
 use Rattle.lisa_tree.specs.Resources.{is_named, resource_at}
 use Rattle.lisa_engine.specs.declared.parts.ArrayItem.{ArrayItem}
-use Rattle.lisa_machine.specs.machine_parts.Parts as parts
-use Rattle.lisa_machine.specs.machine_parts.Parts.{array_in}
+use Rattle.machine_parts.specs.Parts as parts
+use Rattle.machine_parts.specs.Parts.{array_in}
 use Rattle.activation_trees.specs.declared.parts.Occurrence.{Occurrence}
 use Rattle.activation_trees.specs.Unfolding.{occurrences}
-use Rattle.description_weight.specs.description_sizes.Texts.{levels}
+use Rattle.description_sizes.specs.Texts.{levels}
 use Rattle.instruction_trees.specs.Bits.{one_if}
 use Rattle.access_counts.specs.Accesses.{Access}
 use Rattle.access_counts.specs.Unfolded.{of_resources, text_accesses}

@@ -2,7 +2,7 @@
 use Rattle.std.proofs.Common.{ℕ, zero, suc, ◌+◌, ◌≤◌, [], Option, None, Some, arith}
 use Rattle.lisa_tree.specs.Statements.{StmtTrees}
 use Rattle.lisa_tree.specs.Operations.{sections_at, behavior_in}
-use Rattle.description_weight.specs.description_sizes.Texts.{levels}
+use Rattle.description_sizes.specs.Texts.{levels}
 use Rattle.step_program.specs.Programs.{Program, Expr}
 use Rattle.step_pieces.specs.Pieces.{Piece}
 use Rattle.lowered_edges.specs.lowered_statements.Ways.{Ways}

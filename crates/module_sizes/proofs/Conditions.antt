@@ -18,7 +18,7 @@ use Rattle.lisa_machine.proofs.Standing.{activation_stand}
 use Rattle.text_counts.specs.Sums.{plus}
 use Rattle.text_counts.specs.Expressions.{expression_nodes}
 use Rattle.text_counts.specs.Activations.{item_nodes, items_nodes, activation_nodes}
-use Rattle.description_weight.specs.description_sizes.Texts.{levels, expression_counts}
+use Rattle.description_sizes.specs.Texts.{levels, expression_counts}
 use Rattle.access_counts.specs.Accesses.{Access, value_accesses, item_accesses, items_accesses}
 use Rattle.access_counts.specs.Accesses as counting
 use Rattle.touch_promises.specs.lisa_meaning.Cores.{item_conditions, items_conditions, conditions_in}

@@ -11,13 +11,13 @@ use Rattle.std.proofs.lemmas.Option.{slice_get_past}
 use Rattle.lisa_tree.specs.Descriptions.{DescriptionTree}
 use Rattle.lisa_tree.specs.Resources.{fields}
 use Rattle.lisa_engine.specs.declared.parts.Item.{Item}
-use Rattle.lisa_machine.specs.machine_parts.Parts.{registers_of}
+use Rattle.machine_parts.specs.Parts.{registers_of}
 use Rattle.activation_trees.specs.declared.parts.Occurrence.{Occurrence}
 use Rattle.activation_trees.specs.Unfolding.{occurrences}
 use Rattle.activation_trees.specs.Items.{has_bit}
 use Rattle.instruction_trees.specs.Bits.{one_if}
-use Rattle.description_weight.specs.instruction_forms.Widths.{HasWidth}
-use Rattle.description_weight.specs.description_sizes.Sizes.{items}
+use Rattle.instruction_forms.specs.Widths.{HasWidth}
+use Rattle.description_sizes.specs.Sizes.{items}
 use Rattle.description_types.specs.Types.{Types}
 use Rattle.item_layouts.specs.declared.place.ItemPlace.{ItemPlace}
 use Rattle.item_layouts.specs.declared.place.ItemPlace.TheVariants.{Register, Field, Word, Bit}

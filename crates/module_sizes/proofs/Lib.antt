@@ -31,4 +31,4 @@ pub mod Counted
 pub mod Longest
 pub mod Limited
 pub mod Small
-pub mod lowered_edges_proofs
+pub use Rattle.lowered_edges.proofs as lowered_edges_proofs

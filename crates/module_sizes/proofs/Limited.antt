@@ -1,9 +1,9 @@
 -- There are few items, arrays and pins.
 use Rattle.std.proofs.Common.{◌≤◌, ◌*◌, ◌^◌, ℕ, Option, arith}
 use Rattle.lisa_tree.specs.Descriptions.{DescriptionTree}
-use Rattle.description_weight.specs.coding_tables.Instructions.{form_count}
-use Rattle.description_weight.specs.instruction_forms.Widths.{HasWidth}
-use Rattle.description_weight.specs.description_sizes.Laws.{AreWithinLimits}
+use Rattle.coding_tables.specs.Instructions.{form_count}
+use Rattle.instruction_forms.specs.Widths.{HasWidth}
+use Rattle.description_sizes.specs.Laws.{AreWithinLimits}
 use Rattle.description_types.specs.Types.{Types}
 use Rattle.description_weight.specs.Weights.{weight}
 use Rattle.lowered_edges.specs.Programs.{edge_program}

@@ -12,13 +12,13 @@ use Rattle.lisa_tree.specs.Resources.{stages, stages_in, fields, fields_in}
 use Rattle.lisa_tree.specs.Operations.{name_at, operation_at}
 use Rattle.lisa_engine.specs.declared.parts.Item.{Item}
 use Rattle.lisa_engine.specs.declared.parts.ArrayItem.{ArrayItem}
-use Rattle.lisa_machine.specs.machine_parts.Parts.{array_in, pin_in, register_in, arrays_of, pins_of, registers_of}
+use Rattle.machine_parts.specs.Parts.{array_in, pin_in, register_in, arrays_of, pins_of, registers_of}
 use Rattle.spelled_promises.specs.Words.{IsName, IsType}
 use Rattle.spelled_promises.specs.Trees.{IsWellFormed, IsWellFormedResource, IsWellFormedOperation}
 use Rattle.activation_trees.specs.declared.parts.Occurrence.{Occurrence}
 use Rattle.activation_trees.specs.Unfolding.{occurrences}
 use Rattle.activation_trees.specs.Items.{boundary_items, root_stage, word_item, word_items, has_bit, bit_item, bits_from, bit_items, field_item, items_behind}
-use Rattle.description_weight.specs.description_sizes.Sizes.{items}
+use Rattle.description_sizes.specs.Sizes.{items}
 use Rattle.description_types.specs.Types.{Types}
 use Rattle.pipeline_time.proofs.Lists.{each_append, each_so}
 use Rattle.netlist_wires.specs.Tables.{program_names}

@@ -8,7 +8,7 @@ use Rattle.lisa_tree.specs.declared.tokens.Shape.{Shape}
 use Rattle.lisa_tree.specs.Descriptions as trees
 use Rattle.lisa_tree.specs.Descriptions.{ResourceTree, DescriptionTree}
 use Rattle.lisa_tree.specs.Same.{same_name}
-use Rattle.description_weight.specs.instruction_forms.declared.form.Field.{Field}
+use Rattle.instruction_forms.specs.declared.form.Field.{Field}
 use Rattle.step_program.specs.declared.expressions.OneOp.TheVariants.{Cut}
 use Rattle.step_program.specs.declared.expressions.TwoOp.TheVariants as ops
 use Rattle.step_program.specs.Programs.{Program, Expr, Const, Temp, Two, ToTemp}

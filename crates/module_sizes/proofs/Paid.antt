@@ -7,12 +7,12 @@ use Rattle.lisa_tree.specs.Descriptions.{DescriptionTree}
 use Rattle.activation_trees.specs.declared.parts.Occurrence.{Occurrence}
 use Rattle.activation_trees.specs.Unfolding.{occurrences}
 use Rattle.lisa_machine.specs.Soundness.{IsSound}
-use Rattle.description_weight.specs.description_sizes.Texts.{levels, texts}
-use Rattle.description_weight.specs.description_sizes.Sums.{nodes_by}
-use Rattle.description_weight.specs.description_sizes.Sizes.{reset_nodes}
-use Rattle.description_weight.specs.description_sizes.Laws.{AreWithinLimits}
-use Rattle.description_weight.proofs.description_sizes_proofs.Sums.{are_counted}
-use Rattle.description_weight.proofs.description_sizes_proofs.Within.{IsThere, all_there}
+use Rattle.description_sizes.specs.Texts.{levels, texts}
+use Rattle.description_sizes.specs.Sums.{nodes_by}
+use Rattle.description_sizes.specs.Sizes.{reset_nodes}
+use Rattle.description_sizes.specs.Laws.{AreWithinLimits}
+use Rattle.description_sizes.proofs.Sums.{are_counted}
+use Rattle.description_sizes.proofs.Within.{IsThere, all_there}
 use Rattle.access_counts.specs.Unfolded.{text_accesses}
 use Rattle.description_weight.specs.Unfolded.{chosen_by, accesses}
 use Rattle.description_weight.specs.Weights.{unfolded_nodes}

@@ -8,11 +8,11 @@ use Rattle.lisa_tree.specs.Statements as stmts
 use Rattle.lisa_tree.specs.Statements.{StmtTrees}
 use Rattle.lisa_tree.specs.Operations.{sections_at, coding_in, behavior_in, is_root}
 use Rattle.lisa_tree.specs.Paths.{node_count}
-use Rattle.description_weight.specs.description_sizes.Texts.{levels}
+use Rattle.description_sizes.specs.Texts.{levels}
 use Rattle.description_types.specs.Types.{Types}
 use Rattle.activation_trees.specs.declared.parts.Occurrence.{Occurrence}
 use Rattle.activation_trees.specs.Unfolding.{occurrences}
-use Rattle.description_weight.specs.coding_tables.Instructions.{Root, first_root}
+use Rattle.coding_tables.specs.Instructions.{Root, first_root}
 use Rattle.lisa_machine.specs.Soundness.{IsSound}
 use Rattle.step_program.specs.Programs.{Program, Expr, Const}
 use Rattle.step_pieces.specs.Pieces.{top, always}

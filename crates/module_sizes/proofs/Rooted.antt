@@ -8,7 +8,7 @@ use Rattle.lisa_machine.specs.Codings.{FitsWord, IsScalar}
 use Rattle.lisa_machine.specs.Soundness.{IsSound}
 use Rattle.lisa_machine.proofs.Fitting.{coding_fits}
 use Rattle.lisa_machine.proofs.Standing.{coding_stand}
-use Rattle.description_weight.specs.coding_tables.Instructions.{Root, first_root}
+use Rattle.coding_tables.specs.Instructions.{Root, first_root}
 use Rattle.pipeline_time.specs.Cores.{Core}
 use Rattle.touch_promises.specs.lisa_meaning.Cores.{root_place}
 use Rattle.lowered_edges.specs.meaning_promises.Fitting.{IsWordPlace, HaveWordPlaces}
@@ -20,7 +20,7 @@ use Rattle.module_sizes.specs.Unfolded.{chosen_worth, worths_within, names_of}
 use Rattle.module_sizes.specs.Activating.{Prices, root_worth}
 use Rattle.module_sizes.specs.Priced.{fetch_price}
 use Rattle.module_sizes.specs.Summed.{roots_worth}
-use Rattle.description_weight.specs.description_sizes.Texts.{levels}
+use Rattle.description_sizes.specs.Texts.{levels}
 
 -- ---- one root
 

@@ -7,8 +7,8 @@ use Rattle.std.proofs.lemmas.List.Sums.{sum_by-cons}
 use Rattle.std.proofs.lemmas.List.Concat.{flat_map-cons}
 use Rattle.lisa_tree.specs.Descriptions.{DescriptionTree}
 use Rattle.instruction_trees.specs.Trees.{Form}
-use Rattle.description_weight.specs.instruction_forms.Trees.{FormTree, FormTrees, Node, End, Then}
-use Rattle.description_weight.specs.instruction_forms.Described.{instruction_form}
+use Rattle.instruction_forms.specs.Trees.{FormTree, FormTrees, Node, End, Then}
+use Rattle.instruction_forms.specs.Described.{instruction_form}
 use Rattle.description_weight.specs.lisa_forms.Choosing.{operation_of}
 use Rattle.step_program.specs.Programs.{Program, Expr, Move}
 use Rattle.lowered_edges.specs.lowered_words.Ways.{Way, Whole, Child, ways_from, ways_among, all_ways, way_place, form_ways, plain_forms}

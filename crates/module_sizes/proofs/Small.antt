@@ -3,9 +3,9 @@ use Rattle.std.proofs.Common.{◌≡◌, ◌≤◌, ◌+◌, ◌*◌, ◌^◌, �
 use Rattle.std.proofs.Math.Nat.{mul-le-mul_right}
 use Rattle.lisa_tree.specs.Descriptions.{DescriptionTree}
 use Rattle.lisa_tree.specs.Resources.{stages}
-use Rattle.lisa_machine.specs.machine_parts.Parts.{registers_of}
+use Rattle.machine_parts.specs.Parts.{registers_of}
 use Rattle.activation_trees.specs.Unfolding.{occurrences}
-use Rattle.description_weight.specs.description_sizes.Laws.{AreWithinLimits}
+use Rattle.description_sizes.specs.Laws.{AreWithinLimits}
 use Rattle.description_types.specs.Types.{Types}
 use Rattle.lisa_machine.specs.Soundness.{IsSound}
 use Rattle.description_weight.specs.Weights.{weight, unfolded_nodes, pairs, form_nodes}

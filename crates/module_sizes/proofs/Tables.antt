@@ -20,9 +20,9 @@ use Rattle.lisa_machine.proofs.Entries.{entry_chooses}
 use Rattle.lisa_machine.proofs.Falling.{node_ranks}
 use Rattle.lisa_machine.proofs.Named.{what_is}
 use Rattle.text_counts.specs.References as references
-use Rattle.description_weight.specs.description_sizes.Texts.{levels}
-use Rattle.description_weight.specs.description_sizes.Texts as texts
-use Rattle.description_weight.proofs.description_sizes_proofs.Chosen.{choice_falls, meaning_falls, meant}
+use Rattle.description_sizes.specs.Texts.{levels}
+use Rattle.description_sizes.specs.Texts as texts
+use Rattle.description_sizes.proofs.Chosen.{choice_falls, meaning_falls, meant}
 use Rattle.description_weight.specs.Unfolded.{chosen_by}
 use Rattle.touch_promises.specs.lisa_meaning.Values.{Array, named_array}
 use Rattle.touch_promises.proofs.lisa_meaning_proofs.Above.{owner_is}

@@ -11,7 +11,7 @@ use Rattle.step_program.specs.declared.expressions.TwoOp.{TwoOp}
 use Rattle.step_program.specs.declared.expressions.TwoOp.TheVariants as ops
 use Rattle.step_program.specs.Programs.{Program, Expr, Const, One, Two, Choose}
 use Rattle.step_program.specs.Effects.{width}
-use Rattle.lowered_edges.specs.typed_values.Words.{word_width}
+use Rattle.lowered_values.specs.typed_values.Words.{word_width}
 use Rattle.module_sizes.specs.Charges.{wire_most, operand_most}
 use Rattle.lowered_values.specs.Operands.{Operand}
 use Rattle.lowered_values.specs.Templates.{half, widened, fitted, is_zero, picked, less, moved_down, wider, paired, same, smaller, one_bit, operated, beside, made_by, choice, chosen_by, as_shape, complement, negated}

@@ -33,9 +33,9 @@ use Rattle.text_counts.specs.References as references
 use Rattle.text_counts.specs.Expressions.{counted_at, counted_of, known_or, read_nodes, name_nodes, expression_nodes, own_nodes}
 use Rattle.text_counts.specs.Behaviors.{called, turns_in, turns_of, initial, statement_count, statements_count, behavior_count}
 use Rattle.text_counts.specs.Steps.{Counting, node_count_of, expressions_counting, behaviors_counting}
-use Rattle.description_weight.specs.description_sizes.Texts.{levels, counts_within, counts_of, expression_counts}
-use Rattle.description_weight.specs.description_sizes.Texts as texts
-use Rattle.description_weight.proofs.description_sizes_proofs.Chosen.{meant, meant_within}
+use Rattle.description_sizes.specs.Texts.{levels, counts_within, counts_of, expression_counts}
+use Rattle.description_sizes.specs.Texts as texts
+use Rattle.description_sizes.proofs.Chosen.{meant, meant_within}
 use Rattle.description_weight.specs.Unfolded.{chosen_by}
 use Rattle.touch_promises.specs.lisa_meaning.Values.{Array, named_array}
 use Rattle.touch_promises.proofs.Walked.{summed, one_and}

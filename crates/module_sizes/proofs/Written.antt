@@ -10,7 +10,7 @@ use Rattle.lisa_machine.specs.Soundness.{IsSound}
 use Rattle.description_types.specs.Types.{Types}
 use Rattle.activation_trees.specs.declared.parts.Occurrence.{Occurrence}
 use Rattle.activation_trees.specs.Unfolding.{occurrences}
-use Rattle.description_weight.specs.description_sizes.Laws.{AreWithinLimits}
+use Rattle.description_sizes.specs.Laws.{AreWithinLimits}
 use Rattle.description_weight.specs.Unfolded.{accesses}
 use Rattle.pipeline_time.specs.Sound as time
 use Rattle.step_program.specs.Programs.{Program, Aim, ToItem, ToTemp, ToCell, Move}

@@ -6,7 +6,7 @@ use Rattle.lisa_tree.specs.Activations.{ActTrees}
 use Rattle.lisa_tree.specs.Descriptions.{DescriptionTree}
 use Rattle.lisa_tree.specs.Operations.{sections_at, activation_in}
 use Rattle.activation_trees.specs.Unfolding.{occurrences}
-use Rattle.description_weight.specs.description_sizes.Texts.{texts}
+use Rattle.description_sizes.specs.Texts.{texts}
 use Rattle.access_counts.specs.Accesses.{items_accesses}
 use Rattle.description_weight.specs.Unfolded.{accesses}
 use Rattle.description_weight.specs.Weights.{unfolded_nodes}

@@ -12,14 +12,14 @@ pub mod Whole
 pub mod Counted
 pub mod Units
 pub mod Laws
-pub mod access_counts
-pub mod description_sizes
-pub mod description_weight
-pub mod instruction_forms
-pub mod lisa_forms
-pub mod lisa_machine
-pub mod lisa_meaning
-pub mod lowered_edges
-pub mod machine_parts
-pub mod netlist_rules
-pub mod program_declarations
+pub use Rattle.access_counts.specs as access_counts
+pub use Rattle.description_sizes.specs as description_sizes
+pub use Rattle.description_weight.specs as description_weight
+pub use Rattle.instruction_forms.specs as instruction_forms
+pub use Rattle.description_weight.specs.lisa_forms
+pub use Rattle.lisa_machine.specs as lisa_machine
+pub use Rattle.touch_promises.specs.lisa_meaning
+pub use Rattle.lowered_edges.specs as lowered_edges
+pub use Rattle.machine_parts.specs as machine_parts
+pub use Rattle.netlist_wires.specs as netlist_wires
+pub use Rattle.lowered_edges.specs.program_declarations

@@ -4,7 +4,7 @@ use Rattle.lisa_tree.specs.Descriptions.{DescriptionTree}
 use Rattle.lisa_tree.specs.Operations.{sections_at, coding_in}
 use Rattle.activation_trees.specs.declared.parts.Occurrence.{Occurrence}
 use Rattle.activation_trees.specs.Unfolding.{occurrences}
-use Rattle.description_weight.specs.coding_tables.Instructions.{Root, first_root}
+use Rattle.coding_tables.specs.Instructions.{Root, first_root}
 use Rattle.touch_promises.specs.lisa_meaning.Cores.{condition, root_place}
 use Rattle.module_sizes.specs.Costs.{Rates}
 use Rattle.module_sizes.specs.Standing.{read_worth}

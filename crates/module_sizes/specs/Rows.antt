@@ -2,7 +2,7 @@
 use Rattle.std.specs.Prelude.{ℕ, zero, suc, ◌+◌, ◌*◌, sum_by}
 use Rattle.lisa_tree.specs.Descriptions.{DescriptionTree}
 use Rattle.instruction_trees.specs.Trees.{Form}
-use Rattle.description_weight.specs.instruction_forms.Described.{instruction_form}
+use Rattle.instruction_forms.specs.Described.{instruction_form}
 use Rattle.lowered_edges.specs.lowered_words.Ways.{plain_forms}
 use Rattle.description_weight.specs.Weights.{tree_nodes}
 

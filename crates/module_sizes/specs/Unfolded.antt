@@ -5,7 +5,7 @@ use Rattle.std.specs.Option.{option_map_or}
 use Rattle.lisa_tree.specs.Descriptions.{DescriptionTree}
 use Rattle.lisa_tree.specs.Operations.{sections_at, expression_in, behavior_in}
 use Rattle.lisa_tree.specs.Declarations.{declared_at}
-use Rattle.description_weight.specs.description_sizes.Texts.{levels}
+use Rattle.description_sizes.specs.Texts.{levels}
 use Rattle.description_weight.specs.Unfolded.{chosen_by}
 use Rattle.touch_promises.specs.lisa_meaning.Values.{Array, named_array}
 use Rattle.lowered_edges.specs.lowered_resources.Reading.{cells_of}

@@ -3,7 +3,7 @@ use Rattle.std.specs.Prelude.{ℕ, slice_get}
 use Rattle.std.specs.Option.{option_map_or}
 use Rattle.lisa_tree.specs.Descriptions.{DescriptionTree}
 use Rattle.lisa_tree.specs.Operations.{sections_at, behavior_in}
-use Rattle.description_weight.specs.description_sizes.Texts.{levels}
+use Rattle.description_sizes.specs.Texts.{levels}
 use Rattle.access_counts.specs.Accesses.{Access, Naming, statements_accesses}
 use Rattle.access_counts.specs.Unfolded.{of_resources, naming, counted_within}
 use Rattle.description_weight.specs.Unfolded.{chosen_by}

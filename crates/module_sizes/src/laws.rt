@@ -8,12 +8,12 @@ ghost use Rattle.description_places.specs.Places.{uses};
 ghost use Rattle.lisa_machine.specs.Freedom.{AllStand};
 ghost use Rattle.lisa_machine.specs.Verdicts.{IsAccepted};
 ghost use Rattle.lisa_machine.specs.Machines.{IsSpelled};
-ghost use Rattle.lisa_machine.specs.machine_parts.Parts.{registers_of};
-ghost use Rattle.description_weight.specs.instruction_forms.Widths.{HasWidth};
+ghost use Rattle.machine_parts.specs.Parts.{registers_of};
+ghost use Rattle.instruction_forms.specs.Widths.{HasWidth};
 ghost use Rattle.activation_trees.specs.Unfolding.{occurrences};
 ghost use Rattle.access_counts.specs.Accesses.{value_accesses};
 ghost use Rattle.text_counts.specs.Expressions.{expression_nodes};
-ghost use Rattle.description_weight.specs.description_sizes.Texts.{expression_counts, texts};
+ghost use Rattle.description_sizes.specs.Texts.{expression_counts, texts};
 ghost use Rattle.description_weight.specs.Unfolded.{accesses};
 ghost use Rattle.description_weight.specs.Weights.{unfolded_nodes, pairs, weight};
 ghost use Rattle.pipeline_time.specs.Cores.{all_nodes};
@@ -50,9 +50,9 @@ ghost use Rattle.module_sizes.specs.Counted.{behavior_weight, activation_weight,
 ghost use Rattle.module_sizes.specs.Units.{units};
 ghost use Rattle.module_sizes.specs.Laws.{ModulesAreSmall};
 
-use lowered_edges::time_is_laid_out;
-use touch_promises::laws::{cores_are_sound, trees_are_occurrences};
-use touch_promises::sizes_are_limited;
+use lowered_edges::lowered_layouts::laws::time_is_laid_out;
+use touch_promises::item_promises::sizes_are_limited;
+use touch_promises::lisa_meaning::laws::{cores_are_sound, trees_are_occurrences};
 
 /// Behind writes of cells steps are charged with no more than they cost where a read of an array costs a pair for each of its writes.
 pub fn pairs_are_paid_by_reads()

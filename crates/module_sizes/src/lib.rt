@@ -4,8 +4,8 @@
 
 pub mod laws;
 
-pub use description_weight::weigh;
-pub use lisa_machine::Machine;
-pub use lowered_edges::{
-    lower_edges, programs_are_formed, programs_make_edges, programs_show_states, shown_is_declared,
-};
+pub use description_weight;
+pub use description_weight::lisa_forms;
+pub use lisa_machine;
+pub use lowered_edges;
+pub use lowered_edges::program_declarations;

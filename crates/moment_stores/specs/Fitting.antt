@@ -3,7 +3,7 @@ use Rattle.std.specs.Prelude.{ℕ, ◌≡◌, ◌<◌, ◌^◌, List, Some}
 use Rattle.lisa_tree.specs.declared.tokens.Shape.{Shape}
 use Rattle.lisa_tree.specs.Descriptions.{DescriptionTree}
 use Rattle.lisa_engine.specs.Shape.{IsFitting, AreCells}
-use Rattle.lisa_meaning.specs.machine_parts.Parts.{arrays_of, pins_of, registers_of}
+use Rattle.machine_parts.specs.Parts.{arrays_of, pins_of, registers_of}
 use Rattle.lisa_meaning.specs.Moments.{Contents, Moment, Outs, field_at, written}
 use Rattle.lisa_meaning.specs.Values.{shape_at}
 

@@ -6,8 +6,8 @@ pub mod Locals
 pub mod Changes
 pub mod Fitting
 pub mod Stores
-pub mod coding_tables
-pub mod description_sizes
-pub mod instruction_forms
-pub mod lisa_machine
-pub mod machine_parts
+pub use Rattle.lisa_meaning.specs.coding_tables
+pub use Rattle.lisa_meaning.specs.description_sizes
+pub use Rattle.lisa_meaning.specs.instruction_forms
+pub use Rattle.lisa_meaning.specs.lisa_machine
+pub use Rattle.machine_parts.specs as machine_parts

@@ -9,7 +9,7 @@ ghost use Rattle.lisa_tree.specs.Resources.{stages};
 ghost use Rattle.lisa_tree.specs.Same.{same_name};
 ghost use Rattle.typed_values.specs.Words.{typed_word};
 ghost use Rattle.typed_values.specs.Effects.{local_put};
-ghost use Rattle.lisa_meaning.specs.machine_parts.Parts.{arrays_of, registers_of};
+ghost use Rattle.machine_parts.specs.Parts.{arrays_of, registers_of};
 ghost use Rattle.lisa_meaning.specs.Moments.{bare, with_flush, with_locals, with_memory, with_out, with_stall};
 ghost use Rattle.lisa_meaning.specs.Values.{shape_at};
 ghost use Rattle.moment_stores.specs.Changes.{with_cells, with_register};

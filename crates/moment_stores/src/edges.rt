@@ -5,7 +5,7 @@ ghost use Rattle.lisa_engine.specs.Touches.{IsPlaced, put_back};
 ghost use Rattle.lisa_engine.specs.declared.parts.Item.{Item};
 ghost use Rattle.lisa_tree.specs.declared.tokens.Shape.{Shape};
 ghost use Rattle.lisa_tree.specs.Resources.{fields};
-ghost use Rattle.lisa_meaning.specs.machine_parts.Parts.{arrays_of, pins_of, registers_of};
+ghost use Rattle.machine_parts.specs.Parts.{arrays_of, pins_of, registers_of};
 ghost use Rattle.lisa_meaning.specs.Moments.{begin_moment, close_moment};
 ghost use Rattle.lisa_meaning.specs.States.{first_contents};
 ghost use Rattle.lisa_meaning.specs.Values.{shape_at};

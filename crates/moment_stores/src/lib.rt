@@ -14,5 +14,5 @@ mod row_values;
 mod store;
 mod values;
 
-pub use lisa_meaning::Machine;
+pub use lisa_meaning::lisa_machine;
 pub use store::Store;

@@ -4,7 +4,7 @@ ghost use Rattle.std.specs.Vec.{vec_len};
 ghost use Rattle.lisa_tree.specs.Descriptions.{description_tree, resource_tree};
 ghost use Rattle.lisa_engine.specs.Images.{IsImage, missing_memory};
 ghost use Rattle.lisa_tree.specs.Resources.{stages, fields, stages_in, fields_in};
-ghost use Rattle.lisa_meaning.specs.machine_parts.Parts.{arrays_of};
+ghost use Rattle.machine_parts.specs.Parts.{arrays_of};
 ghost use Rattle.lisa_meaning.specs.Moments.{by_boundaries};
 ghost use Rattle.lisa_meaning.specs.States.{first_contents};
 ghost use Rattle.moment_stores.specs.Rows.{rows};
@@ -16,9 +16,11 @@ use crate::levels::Levels;
 use crate::locals::Locals;
 use crate::store::Store;
 use lisa_engine::{Image, MakeFault, first_cells};
-use lisa_meaning::{Machine, first_values, first_values_fit, machines_show};
+use lisa_meaning::lisa_machine::Machine;
+use lisa_meaning::use_promises::machines_show;
 use lisa_tree::{Names, Resource};
 use lisa_words::NoMemory;
+use machine_parts::{first_values, first_values_fit};
 use std::alloc::Global;
 
 // How many stages the pipeline has.

@@ -10,7 +10,7 @@ ghost use Rattle.moment_stores.specs.Fitting.{MomentFits};
 ghost use Rattle.moment_stores.specs.Stores.{description_of, moment_of};
 
 use crate::store::Store;
-use lisa_meaning::Machine;
+use lisa_meaning::lisa_machine::Machine;
 use lisa_words::Name;
 use typed_values::Value;
 

@@ -5,7 +5,7 @@ ghost use Rattle.lisa_tree.specs.Descriptions.{description_tree};
 ghost use Rattle.lisa_engine.specs.Images.{first_cells};
 ghost use Rattle.lisa_engine.specs.Shape.{AreCells, IsFitting};
 ghost use Rattle.lisa_tree.specs.Resources.{stages, fields};
-ghost use Rattle.lisa_meaning.specs.machine_parts.Parts.{arrays_of, pins_of, registers_of, first_values};
+ghost use Rattle.machine_parts.specs.Parts.{arrays_of, pins_of, registers_of, first_values};
 ghost use Rattle.moment_stores.specs.Rows.{rows};
 ghost use Rattle.moment_stores.specs.Fitting.{FieldsFit, OutsFit};
 
@@ -14,7 +14,7 @@ use crate::cells::Cells;
 use crate::levels::Levels;
 use crate::locals::Locals;
 use lisa_engine::Image;
-use lisa_meaning::Machine;
+use lisa_meaning::lisa_machine::Machine;
 
 /// All that lasts of a machine from edge to edge, and the moment of an edge. No call takes memory but the one that makes it.
 #[derive(Drop)]

@@ -10,8 +10,8 @@ ghost use Rattle.std.specs.List.{list_any};
 use crate::lookups::{is_earlier, is_taken, name_at};
 use crate::repeats::{fields_fault, front, has_fields, has_pipe, has_section, list_fault};
 use description_places::{Condition, Region, Scope, Site};
+use lisa_tree::lisa_words::{Name, NoMemory};
 use lisa_tree::{DescFault, Description, ForHead, Names, Resource, Section};
-use lisa_words::{Name, NoMemory};
 use std::alloc::Global;
 
 /// The condition that no two things of one class share a name, and that nothing stands twice that stands once.

@@ -8,8 +8,8 @@ ghost use Rattle.name_checks.specs.Unknown.{unknown};
 use crate::doubled::Doubled;
 use crate::unknown::Unknown;
 use description_places::first_fault;
+use lisa_tree::lisa_words::NoMemory;
 use lisa_tree::{DescFault, Names};
-use lisa_words::NoMemory;
 use std::alloc::Global;
 
 /// The first name that two things of one class share, or of what stands twice.

@@ -8,8 +8,8 @@ ghost use Rattle.name_checks.specs.Doubled.{earlier, is_taken};
 ghost use Rattle.name_checks.specs.Unknown.{is_something, stands, is_known, is_stage, is_main};
 
 use description_places::Scope;
+use lisa_tree::lisa_words::{Name, NoMemory};
 use lisa_tree::{Description, Meaning, Names, Resource};
-use lisa_words::{Name, NoMemory};
 use std::alloc::Global;
 
 /// The name of an operation, the empty one where there is none.

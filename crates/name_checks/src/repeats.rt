@@ -9,8 +9,8 @@ ghost use Rattle.name_checks.specs.Doubled.{again_in, field_names, is_fields, is
 
 use description_places::Region;
 use indexmap::IndexSet;
+use lisa_tree::lisa_words::{Name, NoMemory};
 use lisa_tree::{DescFault, Resource, Section, Shape};
-use lisa_words::{Name, NoMemory};
 use std::alloc::Global;
 
 // Whether the name is there already; otherwise it is put in.

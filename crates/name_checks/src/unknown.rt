@@ -11,8 +11,8 @@ ghost use Rattle.name_checks.specs.Unknown.{unknown_fault, pipe_unknown, resourc
 
 use crate::lookups::{is_known, is_main, is_stage, name_at, stands};
 use description_places::{Condition, Region, Scope, Site};
+use lisa_tree::lisa_words::{Name, NoMemory};
 use lisa_tree::{BoundaryField, DescFault, Expr, ForHead, Names, Operation, Resource, What};
-use lisa_words::{Name, NoMemory};
 use std::alloc::Global;
 
 /// The condition that each name stands for something where it is used, and that each operation above a reference has its name.

@@ -8,12 +8,12 @@ use Rattle.std.proofs.lemmas.Option.{slice_get-map, slice_get-get_or, get_or_fro
 use Rattle.lisa_tree.specs.Descriptions.{DescriptionTree}
 use Rattle.description_tables.proofs.Lists.{one_more}
 use Rattle.stage_checks.specs.Graphs.{names_in}
-use Rattle.scene_paths.specs.activation_trees.declared.parts.Occurrence.{Occurrence}
-use Rattle.scene_paths.specs.activation_trees.Activators.{HasActivator, IsChild}
-use Rattle.scene_paths.specs.activation_trees.Starting.{activating_names}
-use Rattle.scene_paths.specs.activation_trees.Unfolding.{occurrences}
-use Rattle.scene_paths.specs.activation_trees.Places.{AreParentsBefore, ArePlaces, name_by, place}
-use Rattle.scene_paths.proofs.activation_trees_proofs.Lying.{has_activator}
+use Rattle.activation_trees.specs.declared.parts.Occurrence.{Occurrence}
+use Rattle.activation_trees.specs.Activators.{HasActivator, IsChild}
+use Rattle.activation_trees.specs.Starting.{activating_names}
+use Rattle.activation_trees.specs.Unfolding.{occurrences}
+use Rattle.activation_trees.specs.Places.{AreParentsBefore, ArePlaces, name_by, place}
+use Rattle.activation_trees.proofs.Lying.{has_activator}
 use Rattle.scene_paths.specs.lisa_forms.declared.way.Way.{Way as Activation}
 use Rattle.scene_paths.specs.lisa_forms.declared.way.Way.TheVariants as activations
 use Rattle.scene_paths.specs.lisa_forms.Ways.{by_name, by_activator, way_below, way}

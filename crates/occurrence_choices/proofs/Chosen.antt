@@ -5,8 +5,8 @@ use Rattle.std.specs.Option.{option_and_then, option_map_or}
 use Rattle.std.proofs.lemmas.Bool.{lt-ltb, false≢true}
 use Rattle.std.proofs.lemmas.Option.{slice_get-get_or, slice_get_past}
 use Rattle.lisa_tree.specs.Descriptions.{DescriptionTree}
-use Rattle.scene_paths.specs.activation_trees.declared.parts.Occurrence.{Occurrence}
-use Rattle.scene_paths.specs.activation_trees.Unfolding.{occurrences}
+use Rattle.activation_trees.specs.declared.parts.Occurrence.{Occurrence}
+use Rattle.activation_trees.specs.Unfolding.{occurrences}
 use Rattle.scene_paths.specs.lisa_forms.declared.forms.Forms.{Forms}
 use Rattle.scene_paths.specs.lisa_forms.Parts.{AreFormsOf}
 use Rattle.scene_paths.specs.lisa_meaning.Standings.{Stood, standing}

@@ -4,7 +4,7 @@ use Rattle.std.specs.Prelude.{slice_get}
 use Rattle.std.proofs.lemmas.Bool.{cases_lt}
 use Rattle.std.proofs.lemmas.List.{length-append}
 use Rattle.std.proofs.lemmas.Option.{slice_get-get_or}
-use Rattle.scene_paths.proofs.lisa_machine_proofs.Entries.{get_left, get_right}
+use Rattle.activation_trees.proofs.lisa_machine_proofs.Entries.{get_left, get_right}
 use Rattle.occurrence_choices.specs.Standings.{AreKept}
 
 module _ {X Y : Type 0} (seen : Option X → Y) (meant : ℕ → Y) where

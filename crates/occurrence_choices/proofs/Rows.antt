@@ -5,7 +5,7 @@ use Rattle.std.proofs.Math.Dec.{eqb-suc-suc, eqb-suc-zero}
 use Rattle.std.proofs.lemmas.Bool.{cases_eq, eq-eqb, ne_eqb}
 use Rattle.lisa_tree.specs.Descriptions.{DescriptionTree}
 use Rattle.graph_paths.specs.Paths.{targets}
-use Rattle.scene_paths.specs.coding_tables.Instructions.{form_count}
+use Rattle.coding_tables.specs.Instructions.{form_count}
 use Rattle.occurrence_choices.specs.Choices.{IsRow, AreRows}
 
 pub targets_push : (rows : List (Vec ℕ)) (v : Vec ℕ) (i : ℕ) → targets (rows ++ v ∷ []) i ≡ cond (nat_eq i (length rows)) v.items (targets rows i)

@@ -4,11 +4,11 @@ use Rattle.std.specs.Prelude.{slice_get}
 use Rattle.std.specs.Option.{option_and_then}
 use Rattle.lisa_tree.specs.Descriptions.{DescriptionTree}
 use Rattle.scene_paths.specs.instruction_forms.Trees.{FormTree}
-use Rattle.scene_paths.specs.activation_trees.declared.parts.Occurrence.{Occurrence}
-use Rattle.scene_paths.specs.activation_trees.Unfolding.{occurrences}
-use Rattle.scene_paths.specs.activation_trees.Activators.{HasActivator, IsChild}
-use Rattle.scene_paths.specs.activation_trees.Places.{IsBelow}
-use Rattle.scene_paths.proofs.activation_trees_proofs.Lying.{has_activator}
+use Rattle.activation_trees.specs.declared.parts.Occurrence.{Occurrence}
+use Rattle.activation_trees.specs.Unfolding.{occurrences}
+use Rattle.activation_trees.specs.Activators.{HasActivator, IsChild}
+use Rattle.activation_trees.specs.Places.{IsBelow}
+use Rattle.activation_trees.proofs.Lying.{has_activator}
 use Rattle.scene_paths.specs.lisa_forms.declared.way.Way.{Way as Activation}
 use Rattle.scene_paths.specs.lisa_forms.Choosing.{numbered_form}
 use Rattle.scene_paths.specs.lisa_forms.Ways.{way}

@@ -5,8 +5,8 @@ use Rattle.std.specs.Global.{Vec}
 use Rattle.lisa_tree.specs.Descriptions.{DescriptionTree}
 use Rattle.graph_paths.specs.Paths.{targets}
 use Rattle.activation_bits.specs.Members.{member}
-use Rattle.scene_paths.specs.activation_trees.Unfolding.{occurrences}
-use Rattle.scene_paths.specs.coding_tables.Instructions.{form_count}
+use Rattle.activation_trees.specs.Unfolding.{occurrences}
+use Rattle.coding_tables.specs.Instructions.{form_count}
 use Rattle.scene_paths.specs.lisa_forms.Choosing.{numbered_form}
 use Rattle.scene_paths.specs.lisa_forms.declared.coding.Coding.{Coding}
 use Rattle.scene_paths.specs.lisa_forms.Codings.{IsCodingOf, IsDecodedAs}

@@ -5,9 +5,9 @@ use Rattle.std.specs.Borrow.{Bor}
 use Rattle.std.specs.Global.{Vec}
 use Rattle.lisa_tree.specs.Descriptions.{DescriptionTree}
 use Rattle.stage_checks.specs.Graphs.{names_in}
-use Rattle.scene_paths.specs.activation_trees.declared.parts.Occurrence.{Occurrence}
-use Rattle.scene_paths.specs.activation_trees.Starting.{activating_names}
-use Rattle.scene_paths.specs.activation_trees.Unfolding.{occurrences}
+use Rattle.activation_trees.specs.declared.parts.Occurrence.{Occurrence}
+use Rattle.activation_trees.specs.Starting.{activating_names}
+use Rattle.activation_trees.specs.Unfolding.{occurrences}
 use Rattle.scene_paths.specs.instruction_forms.Trees.{FormTree}
 use Rattle.scene_paths.specs.lisa_forms.declared.way.Way.{Way as Activation}
 use Rattle.scene_paths.specs.lisa_forms.declared.way.Way.TheVariants as activations

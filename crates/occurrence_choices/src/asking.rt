@@ -2,9 +2,9 @@
 
 ghost use Rattle.std.specs.Prelude.{◌≡◌, ◌<◌, ℕ, None, Some, length};
 ghost use Rattle.lisa_tree.specs.Descriptions.{DescriptionTree};
-ghost use Rattle.scene_paths.specs.activation_trees.Unfolding.{occurrences};
+ghost use Rattle.activation_trees.specs.Unfolding.{occurrences};
 ghost use Rattle.scene_paths.specs.lisa_forms.Codings.{IsCodingOf};
-ghost use Rattle.scene_paths.specs.coding_tables.Instructions.{form_count};
+ghost use Rattle.coding_tables.specs.Instructions.{form_count};
 ghost use Rattle.graph_paths.specs.Paths.{targets};
 ghost use Rattle.scene_paths.specs.lisa_meaning.Cores.{chooses, decodes};
 ghost use Rattle.scene_paths.specs.lisa_meaning.Scenes.{form_with};
@@ -13,7 +13,7 @@ ghost use Rattle.occurrence_choices.specs.Holders.{choices_tree};
 
 use crate::choices::Choices;
 use activation_bits::contains;
-use scene_paths::Coding;
+use scene_paths::lisa_forms::Coding;
 
 // The form of a word.
 pub(crate) fn form_of_word(coding: &Coding, word: u64) -> Option<u32>

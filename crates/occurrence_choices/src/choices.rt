@@ -2,12 +2,13 @@
 
 ghost use Rattle.std.specs.Prelude.{◌≡◌, ◌<◌, ℕ, None, Some, length};
 ghost use Rattle.lisa_tree.specs.Descriptions.{description_tree};
-ghost use Rattle.scene_paths.specs.activation_trees.Unfolding.{occurrences};
-ghost use Rattle.scene_paths.specs.coding_tables.Instructions.{form_count};
+ghost use Rattle.activation_trees.specs.Unfolding.{occurrences};
+ghost use Rattle.coding_tables.specs.Instructions.{form_count};
 ghost use Rattle.scene_paths.specs.lisa_meaning.Scenes.{form_with};
 ghost use Rattle.occurrence_choices.specs.Choices.{AnswersForms, AnswersWithin, AreRows, IsRow};
 
-use scene_paths::{Coding, Machine};
+use activation_trees::lisa_machine::Machine;
+use scene_paths::lisa_forms::Coding;
 
 /// For each form, and for words that have none, one bit for each occurrence; and the form of the word that was seen last.
 #[derive(Drop)]

@@ -8,8 +8,10 @@ ghost use Rattle.scene_paths.specs.lisa_meaning.Cores.{chooses, decodes};
 ghost use Rattle.scene_paths.specs.Lookups.{tree_of};
 
 use crate::choices::Choices;
+use activation_trees::lisa_machine::Machine;
 use lisa_words::NoMemory;
-use scene_paths::{Coding, Described, Forms, Machine};
+use scene_paths::Described;
+use scene_paths::lisa_forms::{Coding, Forms};
 use std::alloc::Global;
 use std::marker::Model;
 

@@ -4,7 +4,7 @@ ghost use Rattle.std.specs.Prelude.{◌≡◌, ◌<◌, ◌≤◌, ◌*◌, ◌|
 ghost use Rattle.std.specs.Option.{option_map_or};
 ghost use Rattle.lisa_tree.specs.Descriptions.{DescriptionTree, description_tree};
 ghost use Rattle.activation_bits.specs.Members.{member};
-ghost use Rattle.scene_paths.specs.activation_trees.Unfolding.{occurrences};
+ghost use Rattle.activation_trees.specs.Unfolding.{occurrences};
 ghost use Rattle.scene_paths.specs.lisa_forms.Parts.{AreFormsOf};
 ghost use Rattle.scene_paths.specs.lisa_forms.Codings.{IsCodingOf};
 ghost use Rattle.scene_paths.specs.Lookups.{tree_of};
@@ -19,9 +19,11 @@ use crate::standings::{stand_all, standing_at};
 use crate::way::Way;
 use crate::ways::ways;
 use activation_bits::insert;
+use activation_trees::lisa_machine::Machine;
 use description_tables::Tables;
 use lisa_words::NoMemory;
-use scene_paths::{Coding, Described, Forms, Machine};
+use scene_paths::Described;
+use scene_paths::lisa_forms::{Coding, Forms};
 use std::alloc::{AllocError, Global};
 
 // Whether an occurrence is past the root.

@@ -3,8 +3,8 @@
 ghost use Rattle.std.specs.Prelude.{◌≡◌, ◌<◌, Option, Some, OnOk, length};
 ghost use Rattle.std.specs.Option.{option_and_then};
 ghost use Rattle.lisa_tree.specs.Descriptions.{DescriptionTree};
-ghost use Rattle.scene_paths.specs.activation_trees.Unfolding.{occurrences};
-ghost use Rattle.scene_paths.specs.coding_tables.Instructions.{form_count};
+ghost use Rattle.activation_trees.specs.Unfolding.{occurrences};
+ghost use Rattle.coding_tables.specs.Instructions.{form_count};
 ghost use Rattle.scene_paths.specs.lisa_forms.Choosing.{numbered_form};
 ghost use Rattle.scene_paths.specs.lisa_meaning.Standings.{standing};
 ghost use Rattle.scene_paths.specs.Lookups.{tree_of};
@@ -13,7 +13,8 @@ ghost use Rattle.occurrence_choices.specs.Standings.{activation, told, way_at, t
 
 use crate::standing::{Standing, stood};
 use crate::way::Way;
-use scene_paths::{Described, Occurrence, Part};
+use scene_paths::lisa_forms::Occurrence;
+use scene_paths::{Described, Part};
 use std::alloc::AllocError;
 
 fn way_at(ways: &[Way], number: usize) -> Way

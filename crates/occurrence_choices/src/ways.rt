@@ -3,17 +3,18 @@
 ghost use Rattle.std.specs.Prelude.{◌≡◌, ◌<◌, IfOk, length, option_map, position, slice_get};
 ghost use Rattle.lisa_tree.specs.Same.{same_name};
 ghost use Rattle.stage_checks.specs.Graphs.{names_in};
-ghost use Rattle.scene_paths.specs.activation_trees.Unfolding.{occurrences};
-ghost use Rattle.scene_paths.specs.activation_trees.Places.{ArePlaces};
+ghost use Rattle.activation_trees.specs.Unfolding.{occurrences};
+ghost use Rattle.activation_trees.specs.Places.{ArePlaces};
 ghost use Rattle.scene_paths.specs.lisa_forms.Choosing.{child_names, child_place};
 ghost use Rattle.scene_paths.specs.lisa_forms.Ways.{by_name};
 ghost use Rattle.scene_paths.specs.Lookups.{tree_of};
 ghost use Rattle.occurrence_choices.specs.Standings.{activation, way_of, rows_of, all_rows, AreWays};
 
 use crate::way::Way;
+use activation_trees::{Occurrence, activating_names, places};
 use lisa_tree::{CodingItem, CodingPart, Names};
 use lisa_words::{Name, NoMemory};
-use scene_paths::{Described, Occurrence, activating_names, places};
+use scene_paths::Described;
 use std::alloc::Global;
 
 // The place of a child among those of a coding.

@@ -9,7 +9,7 @@ use Rattle.lisa_engine.specs.declared.parts.Item.{Item}
 use Rattle.lisa_engine.specs.declared.parts.ArrayItem.{ArrayItem}
 use Rattle.lisa_engine.specs.Shape.{HaveWidths, HaveDistinctNames}
 use Rattle.lisa_tree.specs.Resources.{stages, fields}
-use Rattle.item_promises.specs.machine_parts.Parts.{arrays_of, pins_of, registers_of}
+use Rattle.machine_parts.specs.Parts.{arrays_of, pins_of, registers_of}
 use Rattle.item_promises.specs.lisa_machine.Verdicts.{IsAccepted}
 use Rattle.item_promises.specs.lisa_machine.Machines.{IsSpelled}
 use Rattle.item_promises.proofs.lisa_machine_proofs.Sound.{sound}

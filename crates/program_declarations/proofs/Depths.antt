@@ -10,7 +10,7 @@ use Rattle.lisa_engine.specs.Images as images
 use Rattle.lisa_engine.specs.declared.parts.ArrayItem.{ArrayItem}
 use Rattle.item_promises.specs.lisa_machine.Resolving.{IsDepth}
 use Rattle.item_promises.specs.description_sizes.Cells.{depth_in}
-use Rattle.item_promises.specs.machine_parts.Parts.{array_in}
+use Rattle.machine_parts.specs.Parts.{array_in}
 
 -- ---- a number with one bit is a power of two
 

@@ -9,7 +9,7 @@ use Rattle.lisa_engine.specs.declared.parts.Item.{Item}
 use Rattle.lisa_engine.specs.declared.parts.ArrayItem.{ArrayItem}
 use Rattle.lisa_tree.specs.Resources.{stages, stages_in, fields, fields_in}
 use Rattle.lisa_tree.specs.Operations.{name_at, operation_at}
-use Rattle.item_promises.specs.machine_parts.Parts.{array_in, pin_in, register_in, registers_of}
+use Rattle.machine_parts.specs.Parts.{array_in, pin_in, register_in, registers_of}
 use Rattle.spelled_promises.specs.Words.{IsName}
 use Rattle.spelled_promises.specs.Trees.{IsWellFormed, IsWellFormedResource, IsWellFormedOperation}
 use Rattle.item_promises.specs.activation_trees.declared.parts.Occurrence.{Occurrence}

@@ -3,7 +3,7 @@ use Rattle.std.specs.Prelude.{◌≢◌, ℕ, ◌≤◌, List, ◌++◌, Option,
 use Rattle.lisa_tree.specs.Descriptions.{DescriptionTree}
 use Rattle.lisa_engine.specs.declared.parts.Item.{Item}
 use Rattle.lisa_engine.specs.declared.parts.ArrayItem.{ArrayItem}
-use Rattle.item_promises.specs.machine_parts.Parts.{arrays_of, pins_of}
+use Rattle.machine_parts.specs.Parts.{arrays_of, pins_of}
 use Rattle.item_promises.specs.lisa_machine.Verdicts.{IsAccepted}
 use Rattle.item_promises.specs.lisa_machine.Machines.{IsSpelled}
 use Rattle.item_promises.specs.instruction_forms.Widths.{HasWidth}

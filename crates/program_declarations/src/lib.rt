@@ -3,5 +3,5 @@
 
 mod laws;
 
-pub use item_promises::sizes_are_limited;
+pub use item_promises;
 pub use laws::shown_is_declared;

@@ -17,8 +17,8 @@ use Rattle.lisa_engine.specs.Machines.{Machine}
 use Rattle.engine_commands.specs.Schedules.{schedule_bytes}
 use Rattle.engine_commands.specs.Tasks.{takes_input, GivesTask, GivesUnder}
 use Rattle.engine_commands.specs.Making.{GivesMade}
-use Rattle.module_commands.specs.Designs.{Design, IsDesign, clock_machine}
-use Rattle.module_commands.specs.Clocks.{module_limit, GivesClock}
+use Rattle.command_promises.specs.module_commands.Designs.{Design, IsDesign, clock_machine}
+use Rattle.command_promises.specs.module_commands.Clocks.{module_limit, GivesClock}
 use Rattle.headline_laws.specs.Files.{FilesClock}
 
 pub some_same : {T : Type 0} (x y : T) → Some x ≡ Some y → x ≡ y

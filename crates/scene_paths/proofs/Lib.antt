@@ -11,9 +11,8 @@ pub mod Acts
 pub mod Parted
 pub mod Homes
 pub mod Rooting
-pub mod activation_trees_proofs
-pub mod form_patterns_proofs
-pub mod lisa_forms_proofs
-pub mod lisa_machine_proofs
-pub mod lisa_meaning_proofs
-pub mod use_promises_proofs
+pub use Rattle.lisa_meaning.proofs.activation_trees_proofs
+pub use Rattle.lisa_meaning.proofs.form_patterns_proofs
+pub use Rattle.lisa_meaning.proofs.lisa_forms_proofs
+pub use Rattle.lisa_meaning.proofs.lisa_machine_proofs
+pub use Rattle.lisa_meaning.proofs as lisa_meaning_proofs

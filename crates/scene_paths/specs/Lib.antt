@@ -6,13 +6,9 @@ pub mod Spans
 pub mod Parts
 pub mod Paths
 pub mod Sights
-pub mod activation_trees
-pub mod coding_tables
-pub mod description_sizes
-pub mod form_patterns
-pub mod instruction_forms
-pub mod lisa_forms
-pub mod lisa_machine
-pub mod lisa_meaning
-pub mod machine_parts
-pub mod use_promises
+pub use Rattle.lisa_meaning.specs.activation_trees
+pub use Rattle.lisa_meaning.specs.form_patterns
+pub use Rattle.lisa_meaning.specs.instruction_forms
+pub use Rattle.lisa_meaning.specs.lisa_forms
+pub use Rattle.lisa_meaning.specs.lisa_machine
+pub use Rattle.lisa_meaning.specs as lisa_meaning

@@ -1,7 +1,7 @@
 //! A description with its look-ups.
 
 use crate::before::Before;
-use lisa_meaning::{Coding, Forms};
+use lisa_meaning::lisa_forms::{Coding, Forms};
 use lisa_tree::{Expr, Shape};
 use lisa_words::Name;
 use noted_names::{Noted, PlaceTable};

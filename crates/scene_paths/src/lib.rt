@@ -19,7 +19,7 @@ mod sights;
 pub use array::Array;
 pub use before::Before;
 pub use described::Described;
-pub use lisa_meaning::{Coding, Forms, Machine, Occurrence, activating_names, patterns, places};
+pub use lisa_meaning::{activation_trees, form_patterns, lisa_forms, lisa_machine};
 pub use part::Part;
 pub use paths::{Here, Path, child, home};
 pub use sight::Sight;

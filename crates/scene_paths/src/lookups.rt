@@ -29,7 +29,9 @@ use crate::before::{Before, places};
 use crate::conditions::{condition_at, conditions};
 use crate::described::Described;
 use crate::fields::{boundary_fields, field_places, shape_at};
-use lisa_meaning::{Coding, Forms, Machine, is_root, operation_count, resource, sections};
+use lisa_meaning::description_types::{is_root, operation_count, resource, sections};
+use lisa_meaning::lisa_forms::{Coding, Forms};
+use lisa_meaning::lisa_machine::Machine;
 use lisa_tree::{
     CodingPart, Description, Expr, Meaning, Names, Resource, Shape, Stmt, What, behavior, coding,
     expression,

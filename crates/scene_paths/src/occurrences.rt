@@ -10,7 +10,7 @@ ghost use Rattle.scene_paths.specs.Sights.{sight_tree, occurrence_scene};
 
 use crate::described::Described;
 use crate::sight::Sight;
-use lisa_meaning::Occurrence;
+use lisa_meaning::lisa_forms::Occurrence;
 use lisa_tree::Expr;
 
 impl<'a> Described<'a> {

@@ -10,7 +10,9 @@ ghost use Rattle.scene_paths.specs.Spans.{HasFields, IsField};
 ghost use Rattle.scene_paths.specs.Parts.{part_tree, part_trees};
 
 use crate::part::Part;
-use lisa_meaning::{Field, Form, Place, Value, field};
+use lisa_meaning::instruction_forms::{Field, Form};
+use lisa_meaning::pattern_tables::{Place, field};
+use lisa_meaning::typed_values::Value;
 use lisa_words::{Kind, Name, Word};
 
 fn field_kind(signed: bool) -> Kind

@@ -15,7 +15,7 @@ ghost use Rattle.scene_paths.specs.Sights.{sight_tree, form_of};
 use crate::described::Described;
 use crate::part::Part;
 use crate::sight::Sight;
-use lisa_meaning::names_instructions;
+use lisa_meaning::coded_names::names_instructions;
 use lisa_tree::{CodingItem, CodingPart, What};
 use lisa_words::Name;
 

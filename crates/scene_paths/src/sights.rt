@@ -10,7 +10,7 @@ ghost use Rattle.scene_paths.specs.Sights.{sight_tree, form_of};
 use crate::described::Described;
 use crate::part::Part;
 use crate::sight::Sight;
-use lisa_meaning::Occurrence;
+use lisa_meaning::lisa_forms::Occurrence;
 
 impl<'a> Sight<'a> {
     /// Where no word is.

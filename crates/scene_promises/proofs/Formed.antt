@@ -15,9 +15,9 @@ use Rattle.coding_tables.specs.Instructions.{instruction_choice, instruction_ite
 use Rattle.instruction_forms.specs.declared.form.Field.{Field}
 use Rattle.instruction_forms.specs.Trees.{FormTree}
 use Rattle.instruction_forms.specs.Described.{field, items_at, labels, labelled, children, operation_form, described, instruction_form}
-use Rattle.lisa_meaning.specs.lisa_forms.declared.coding.Coding.{Coding}
-use Rattle.lisa_meaning.specs.lisa_forms.Choosing.{child_place, tree_at, numbered_form}
-use Rattle.lisa_meaning.specs.lisa_forms.Codings.{IsCodingOf, IsOneTreeOf}
+use Rattle.lisa_forms.specs.declared.coding.Coding.{Coding}
+use Rattle.lisa_forms.specs.Choosing.{child_place, tree_at, numbered_form}
+use Rattle.lisa_forms.specs.Codings.{IsCodingOf, IsOneTreeOf}
 use Rattle.tree_fields.specs.Children.{own_children, IsRead, IsReadChild}
 use Rattle.lisa_meaning.specs.Scenes.{form_with, instruction_with}
 use Rattle.lisa_meaning.specs.Values.{field_value, label_value}

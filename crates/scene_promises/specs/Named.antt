@@ -7,7 +7,7 @@ use Rattle.instruction_trees.specs.Trees.{Tree, Done, Choose, form}
 use Rattle.instruction_trees.specs.Values.{own_values}
 use Rattle.coding_tables.specs.Codings.{coding_table}
 use Rattle.instruction_forms.specs.Described.{items_at, labels, described}
-use Rattle.lisa_meaning.specs.lisa_forms.Choosing.{child_place, child_at}
+use Rattle.lisa_forms.specs.Choosing.{child_place, child_at}
 use Rattle.tree_fields.specs.Children.{own_children, IsRead}
 use Rattle.lisa_meaning.specs.Scenes.{instruction_with}
 

@@ -1,15 +1,15 @@
 -- Loops of the bounded form `for (type i = A; i < B; i = i + C)`, with literals A, B and C, of which C is at least 1.
 use Rattle.std.specs.Prelude.{ℕ, ◌+◌, ◌-◌, ◌*◌, ◌^◌, Bool, true, List, Option, None, Some, cond, nat_eq, nat_lt, ◌||◌}
 use Rattle.std.specs.Int.{div_ceil}
-use Rattle.lisa_words.specs.declared.words.Kind.{Kind}
-use Rattle.lisa_words.specs.declared.words.Kind.TheVariants.{Unsigned, Signed}
-use Rattle.lisa_tree.specs.declared.tokens.Shape.{Shape}
-use Rattle.lisa_words.specs.declared.binary.Operator.{Operator}
-use Rattle.lisa_words.specs.declared.binary.Operator.TheVariants as operators
-use Rattle.lisa_tree.specs.Expressions as exprs
-use Rattle.lisa_tree.specs.Expressions.{ExprTree}
-use Rattle.lisa_tree.specs.Statements.{HeadTree}
-use Rattle.lisa_tree.specs.Same.{same_name}
+use Rattle.description_places.specs.lisa_words.declared.words.Kind.{Kind}
+use Rattle.description_places.specs.lisa_words.declared.words.Kind.TheVariants.{Unsigned, Signed}
+use Rattle.description_places.specs.lisa_tree.declared.tokens.Shape.{Shape}
+use Rattle.description_places.specs.lisa_words.declared.binary.Operator.{Operator}
+use Rattle.description_places.specs.lisa_words.declared.binary.Operator.TheVariants as operators
+use Rattle.description_places.specs.lisa_tree.Expressions as exprs
+use Rattle.description_places.specs.lisa_tree.Expressions.{ExprTree}
+use Rattle.description_places.specs.lisa_tree.Statements.{HeadTree}
+use Rattle.description_places.specs.lisa_tree.Same.{same_name}
 use Rattle.description_places.specs.Literals.{literal}
 use Rattle.shape_checks.specs.declared.bounds.Bounds.{Bounds}
 

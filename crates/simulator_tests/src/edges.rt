@@ -4,7 +4,8 @@ ghost use Rattle.lisa_engine.specs.PinValues.{IsFor};
 
 use instruction_samples::{PINS, machine};
 use lisa_engine::{Engine, Image, Schedule, read_schedule};
-use lisa_sim::{Coding, Forms, Seen, Simulator};
+use lisa_sim::lisa_forms::{Coding, Forms};
+use lisa_sim::{Seen, Simulator};
 use std::alloc::Global;
 use std::test::Fail;
 

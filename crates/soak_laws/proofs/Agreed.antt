@@ -19,7 +19,7 @@ use Rattle.lisa_object.specs.ObjectRules.{IsObject}
 use Rattle.lisa_machine.specs.Verdicts.{IsAccepted}
 use Rattle.generator_commands.specs.lisa_forms.Verdicts.{HasForms}
 use Rattle.machine_parts.specs.Parts.{arrays_of, pins_of}
-use Rattle.generator_commands.specs.description_sizes.Sizes.{items}
+use Rattle.description_sizes.specs.Sizes.{items}
 use Rattle.generator_commands.specs.lisa_meaning.States.{state_of}
 use Rattle.generator_commands.specs.lisa_assembler.Memories.{memory_items}
 use Rattle.generator_commands.specs.lisa_assembler.Objects.{IsObjectOf}

@@ -1,7 +1,8 @@
 //! What holds of soaks. The law is the contract of a function that does nothing.
 ghost use Rattle.soak_laws.specs.Agreement.{SoaksAgree};
 
-use generator_commands::{objects_of_sources_keep_rules, sizes_are_limited};
+use generator_commands::item_promises::sizes_are_limited;
+use generator_commands::source_promises::objects_of_sources_keep_rules;
 use use_promises::machines_show;
 
 /// Where the module is the one that `verilog` wrote of the description, what `soak` tells has the same digest for both states, whatever the

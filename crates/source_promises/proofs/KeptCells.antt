@@ -7,7 +7,7 @@ use Rattle.std.proofs.lemmas.Bool.{and_from, eq-eqb, ltb-true, ltb-false}
 use Rattle.std.proofs.lemmas.List.Elements.{recursion_from_All}
 use Rattle.std.proofs.lemmas.Nat.{pow_pos}
 use Rattle.lisa_tree.specs.Descriptions.{DescriptionTree}
-use Rattle.lisa_assembler.specs.lisa_machine.Verdicts.{IsAccepted}
+use Rattle.lisa_machine.specs.Verdicts.{IsAccepted}
 use Rattle.asm_source.specs.Plain.{PlainToken, Run, Sign, PlainValue, Number}
 use Rattle.asm_source.specs.Plain as sources
 use Rattle.instruction_trees.specs.Bits.{Has}
@@ -19,17 +19,17 @@ use Rattle.instruction_trees.proofs.Placing.{places_inside}
 use Rattle.instruction_trees.proofs.Relabelled.{bits_relabel}
 use Rattle.tree_fields.specs.Apart.{IsApart}
 use Rattle.tree_fields.specs.Placed.{places}
-use Rattle.lisa_assembler.specs.coding_tables.Codings.{coding_table}
-use Rattle.lisa_assembler.specs.coding_tables.Instructions.{instruction_items, forms_of}
+use Rattle.coding_tables.specs.Codings.{coding_table}
+use Rattle.coding_tables.specs.Instructions.{instruction_items, forms_of}
 use Rattle.pattern_tables.specs.Instructions.{form_at}
-use Rattle.lisa_assembler.specs.instruction_forms.declared.form.Field.{Field}
-use Rattle.lisa_assembler.specs.instruction_forms.Described.{instruction_form}
-use Rattle.lisa_assembler.specs.instruction_forms.Widths.{HasWidth}
-use Rattle.lisa_assembler.proofs.instruction_forms_proofs.Wide.{whole_width}
-use Rattle.lisa_assembler.specs.form_patterns.Filled.{AreValuesOf, IsInstruction}
-use Rattle.lisa_assembler.specs.form_patterns.Instructions.{field_places, tree_fields}
-use Rattle.lisa_assembler.proofs.form_patterns_proofs.Filling.{nth, filled_with, fit_at, instruction_of}
-use Rattle.lisa_assembler.proofs.form_patterns_proofs.Placing.{place_of, whole_places}
+use Rattle.instruction_forms.specs.declared.form.Field.{Field}
+use Rattle.instruction_forms.specs.Described.{instruction_form}
+use Rattle.instruction_forms.specs.Widths.{HasWidth}
+use Rattle.instruction_forms.proofs.Wide.{whole_width}
+use Rattle.form_patterns.specs.Filled.{AreValuesOf, IsInstruction}
+use Rattle.form_patterns.specs.Instructions.{field_places, tree_fields}
+use Rattle.form_patterns.proofs.Filling.{nth, filled_with, fit_at, instruction_of}
+use Rattle.form_patterns.proofs.Placing.{place_of, whole_places}
 use Rattle.instruction_texts.specs.declared.shapes.Shape.{Shape}
 use Rattle.instruction_texts.specs.Lines.{Plain, Value, Added, Matches, end, other, literal, unsigned, positive, negative, operand, signed_operand, sign_behind}
 use Rattle.lisa_assembler.specs.lisa_forms.Verdicts.{HasForms}

@@ -8,14 +8,14 @@ use Rattle.std.proofs.lemmas.Bool.{false≢true}
 use Rattle.std.proofs.lemmas.List.Elements.{recursion_from_All}
 use Rattle.lisa_tree.specs.Descriptions.{DescriptionTree}
 use Rattle.lisa_engine.specs.declared.parts.ArrayItem.{ArrayItem}
-use Rattle.lisa_assembler.specs.lisa_machine.Verdicts.{IsAccepted}
+use Rattle.lisa_machine.specs.Verdicts.{IsAccepted}
 use Rattle.asm_source.specs.Plain.{PlainValue, PlainPart, Nothing, Section, Global, Equ, Cells, Space, Instruction, PlainLine}
 use Rattle.asm_source.specs.Source.{source_of}
 use Rattle.instruction_trees.specs.Trees.{Table, Item, Form}
 use Rattle.tree_fields.specs.Apart.{IsApart}
 use Rattle.tree_fields.specs.Placed.{places}
-use Rattle.lisa_assembler.specs.coding_tables.Codings.{coding_table}
-use Rattle.lisa_assembler.specs.coding_tables.Instructions.{instruction_items, forms_of}
+use Rattle.coding_tables.specs.Codings.{coding_table}
+use Rattle.coding_tables.specs.Instructions.{instruction_items, forms_of}
 use Rattle.pattern_tables.specs.Instructions.{form_at}
 use Rattle.lisa_assembler.specs.lisa_forms.Verdicts.{HasForms}
 use Rattle.lisa_object.specs.Objects.{PlainObject, PlainObjectLine}

@@ -1,7 +1,7 @@
 -- The image of the objects of sources is the sources' image.
 use Rattle.std.proofs.Common.{◌≡◌, ℕ, List, [], ◌∷◌, ◌++◌, map, Option, None, Some, refl, sym, ap, ap₂, subst, ◌∙◌}
 use Rattle.lisa_tree.specs.Descriptions.{DescriptionTree}
-use Rattle.lisa_assembler.specs.lisa_machine.Verdicts.{IsAccepted}
+use Rattle.lisa_machine.specs.Verdicts.{IsAccepted}
 use Rattle.lisa_engine.specs.declared.parts.ArrayItem.{ArrayItem}
 use Rattle.asm_source.specs.Plain.{PlainLine, PlainValue, Number, PlainPart, Nothing, Section, Global, Equ, Cells, Space, Instruction}
 use Rattle.asm_source.specs.Plain as sources

@@ -14,7 +14,7 @@ use Rattle.asm_source.specs.Plain as sources
 use Rattle.asm_source.specs.declared.flaw.SourceFault.{SourceFault}
 use Rattle.lisa_tree.specs.Descriptions.{DescriptionTree}
 use Rattle.lisa_engine.specs.declared.parts.ArrayItem.{ArrayItem}
-use Rattle.lisa_assembler.specs.lisa_machine.Verdicts.{IsAccepted}
+use Rattle.lisa_machine.specs.Verdicts.{IsAccepted}
 use Rattle.lisa_assembler.specs.lisa_forms.Verdicts.{HasForms}
 use Rattle.lisa_object.specs.Objects.{PlainObject}
 use Rattle.instruction_texts.specs.declared.shapes.Shape.{Shape}

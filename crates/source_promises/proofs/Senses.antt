@@ -4,7 +4,7 @@ use Rattle.std.specs.Prelude.{nat_lt, slice_get, sum_by}
 use Rattle.std.proofs.lemmas.List.Sums.{sum_by-cons}
 use Rattle.std.proofs.lemmas.Nat.{pow_pos}
 use Rattle.lisa_tree.specs.Descriptions.{DescriptionTree}
-use Rattle.lisa_assembler.specs.lisa_machine.Verdicts.{IsAccepted}
+use Rattle.lisa_machine.specs.Verdicts.{IsAccepted}
 use Rattle.lisa_words.specs.Words.{reduced}
 use Rattle.asm_source.specs.Plain.{PlainToken, Number}
 use Rattle.asm_source.specs.Plain as sources
@@ -14,15 +14,15 @@ use Rattle.instruction_trees.specs.Values.{AreWithin, none, more, filled, values
 use Rattle.instruction_trees.specs.Words.{word_of}
 use Rattle.instruction_trees.proofs.Relabelled.{bits_relabel, placed_relabel}
 use Rattle.instruction_trees.proofs.Weighed.{word_of_values}
-use Rattle.lisa_assembler.specs.coding_tables.Codings.{coding_table}
-use Rattle.lisa_assembler.specs.coding_tables.Instructions.{instruction_items, forms_of, form_count}
+use Rattle.coding_tables.specs.Codings.{coding_table}
+use Rattle.coding_tables.specs.Instructions.{instruction_items, forms_of, form_count}
 use Rattle.pattern_tables.specs.Instructions.{form_at}
-use Rattle.lisa_assembler.specs.instruction_forms.declared.form.Field.{Field}
-use Rattle.lisa_assembler.specs.instruction_forms.Described.{instruction_form}
-use Rattle.lisa_assembler.specs.form_patterns.Filled.{AreValuesOf, IsInstruction}
-use Rattle.lisa_assembler.specs.form_patterns.Instructions.{field_places, tree_fields}
-use Rattle.lisa_assembler.proofs.form_patterns_proofs.Filling.{nth, filled_with, fit_at, instruction_of}
-use Rattle.lisa_assembler.proofs.form_patterns_proofs.Placing.{place_of, whole_places}
+use Rattle.instruction_forms.specs.declared.form.Field.{Field}
+use Rattle.instruction_forms.specs.Described.{instruction_form}
+use Rattle.form_patterns.specs.Filled.{AreValuesOf, IsInstruction}
+use Rattle.form_patterns.specs.Instructions.{field_places, tree_fields}
+use Rattle.form_patterns.proofs.Filling.{nth, filled_with, fit_at, instruction_of}
+use Rattle.form_patterns.proofs.Placing.{place_of, whole_places}
 use Rattle.instruction_texts.specs.Lines.{Plain, Value, Added}
 use Rattle.lisa_assembler.specs.lisa_forms.Verdicts.{HasForms}
 use Rattle.lisa_assembler.specs.lisa_syntax.Lines.{all_shapes, all_orders}

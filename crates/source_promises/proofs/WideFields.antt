@@ -6,18 +6,18 @@ use Rattle.lisa_tree.specs.declared.descriptions.CodingItem.TheVariants as items
 use Rattle.lisa_tree.specs.Descriptions as trees
 use Rattle.lisa_tree.specs.Descriptions.{CodingTree, DescriptionTree}
 use Rattle.lisa_tree.specs.Operations.{coding_in, sections_at}
-use Rattle.lisa_assembler.specs.lisa_machine.Verdicts.{IsAccepted}
+use Rattle.lisa_machine.specs.Verdicts.{IsAccepted}
 use Rattle.instruction_trees.specs.Trees.{Item, Fixed, Free, Field, Child, Table, coding, Tree, Done, Pass, Value, Choose, Form, Fits, AnyValue, placed, size}
 use Rattle.instruction_trees.specs.Values.{own_values, inner_values, values}
-use Rattle.lisa_assembler.specs.coding_tables.Codings.{digit_item, pattern_digits, items_of, coding_items, coding_table}
-use Rattle.lisa_assembler.specs.coding_tables.Instructions.{instruction_items}
-use Rattle.lisa_assembler.proofs.coding_tables_proofs.Levels as levels
-use Rattle.lisa_assembler.specs.form_patterns.Instructions.{field_places}
-use Rattle.lisa_assembler.specs.lisa_machine.Codings.{FitsItem}
-use Rattle.lisa_assembler.specs.lisa_machine.Soundness.{IsSound}
-use Rattle.lisa_assembler.proofs.lisa_machine_proofs.Fitting.{coding_fits}
-use Rattle.lisa_assembler.proofs.lisa_machine_proofs.Sound.{sound}
-use Rattle.lisa_assembler.proofs.lisa_machine_proofs.Standing.{coding_stand}
+use Rattle.coding_tables.specs.Codings.{digit_item, pattern_digits, items_of, coding_items, coding_table}
+use Rattle.coding_tables.specs.Instructions.{instruction_items}
+use Rattle.coding_tables.proofs.Levels as levels
+use Rattle.form_patterns.specs.Instructions.{field_places}
+use Rattle.lisa_machine.specs.Codings.{FitsItem}
+use Rattle.lisa_machine.specs.Soundness.{IsSound}
+use Rattle.lisa_machine.proofs.Fitting.{coding_fits}
+use Rattle.lisa_machine.proofs.Sound.{sound}
+use Rattle.lisa_machine.proofs.Standing.{coding_stand}
 
 -- each field has some bit
 abbrev HasBits : List Item → Type 0

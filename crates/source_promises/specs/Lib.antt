@@ -1,2 +1,3 @@
 pub mod Programs
-pub mod lisa_assembler
+pub use Rattle.lisa_assembler.specs as lisa_assembler
+pub use Rattle.lisa_machine.specs as lisa_machine

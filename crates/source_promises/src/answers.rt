@@ -1,7 +1,7 @@
 //! That a source has one answer.
 ghost use Rattle.std.specs.Prelude.{◌≡◌, List, [], None};
 ghost use Rattle.lisa_tree.specs.Descriptions.{DescriptionTree};
-ghost use Rattle.lisa_assembler.specs.lisa_machine.Verdicts.{IsAccepted};
+ghost use Rattle.lisa_machine.specs.Verdicts.{IsAccepted};
 ghost use Rattle.asm_source.specs.Plain.{PlainLine};
 ghost use Rattle.asm_source.specs.declared.flaw.SourceFault.{SourceFault};
 ghost use Rattle.lisa_assembler.specs.lisa_forms.Verdicts.{HasForms};

@@ -1,7 +1,7 @@
 //! The images of sources.
 ghost use Rattle.std.specs.Prelude.{◌≡◌, List};
 ghost use Rattle.lisa_tree.specs.Descriptions.{DescriptionTree};
-ghost use Rattle.lisa_assembler.specs.lisa_machine.Verdicts.{IsAccepted};
+ghost use Rattle.lisa_machine.specs.Verdicts.{IsAccepted};
 ghost use Rattle.asm_source.specs.Plain.{PlainLine};
 ghost use Rattle.lisa_assembler.specs.lisa_forms.Verdicts.{HasForms};
 ghost use Rattle.lisa_object.specs.Objects.{PlainObject};

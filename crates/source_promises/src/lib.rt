@@ -7,5 +7,6 @@ mod objects;
 
 pub use answers::sources_have_one_answer;
 pub use images::sources_link_to_their_image;
-pub use lisa_assembler::{Tools, assemble, assemble_bytes};
+pub use lisa_assembler;
+pub use lisa_machine;
 pub use objects::objects_of_sources_keep_rules;

@@ -1,7 +1,7 @@
 //! The objects of sources.
 ghost use Rattle.std.specs.Prelude.{◌≡◌, ℕ, List, All, Ok};
 ghost use Rattle.lisa_tree.specs.Descriptions.{DescriptionTree};
-ghost use Rattle.lisa_assembler.specs.lisa_machine.Verdicts.{IsAccepted};
+ghost use Rattle.lisa_machine.specs.Verdicts.{IsAccepted};
 ghost use Rattle.asm_source.specs.Plain.{PlainLine};
 ghost use Rattle.asm_source.specs.Source.{source_of};
 ghost use Rattle.lisa_assembler.specs.lisa_forms.Verdicts.{HasForms};

@@ -10,7 +10,7 @@ use Rattle.lisa_tree.specs.Activations as acts
 use Rattle.lisa_tree.specs.Activations.{ActTree, ActTrees}
 use Rattle.lisa_tree.specs.Descriptions as trees
 use Rattle.lisa_tree.specs.Descriptions.{CodingTree}
-use Rattle.lowered_behaviors.specs.typed_values.Laws.{HasNumbers}
+use Rattle.typed_values.specs.Laws.{HasNumbers}
 use Rattle.lowered_behaviors.specs.lisa_meaning.Cores.{item_conditions, items_conditions, conditions_in}
 use Rattle.lowered_behaviors.specs.meaning_promises.Fitting.{IsWordPlace}
 use Rattle.lowered_behaviors.specs.Agreement.{HasFirstNumbers, HasNumbersIn, HaveNumbersIn}

@@ -1,4 +1,4 @@
 pub mod Tests
-pub mod lowered_behaviors
-pub mod lowered_words
-pub mod meaning_promises
+pub use Rattle.lowered_behaviors.specs as lowered_behaviors
+pub use Rattle.lowered_behaviors.specs.lowered_words
+pub use Rattle.lowered_behaviors.specs.meaning_promises

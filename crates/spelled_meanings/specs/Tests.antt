@@ -3,7 +3,7 @@ use Rattle.std.specs.Prelude.{ℕ, ◌≡◌, Some, slice_get}
 use Rattle.lisa_tree.specs.Expressions.{ExprTree}
 use Rattle.lisa_tree.specs.Descriptions.{DescriptionTree}
 use Rattle.lisa_tree.specs.Operations.{sections_at, activation_in}
-use Rattle.lowered_behaviors.specs.typed_values.Laws.{HasNumbers}
+use Rattle.typed_values.specs.Laws.{HasNumbers}
 use Rattle.lowered_behaviors.specs.lisa_meaning.Cores.{conditions_in}
 
 -- each number in the condition of an `if` of an ACTIVATION is below 2 ^ 64

@@ -1,6 +1,6 @@
 -- Each token of a text is well formed.
 use Rattle.std.proofs.Common.{◌≡◌, ℕ, ◌<◌, ◌≤◌, ◌^◌, Bool, true, List, [], ◌∷◌, ◌++◌, length, arith}
-use Rattle.lisa_words.specs.Bytes.{front_is}
+use Rattle.lisa_tree.specs.lisa_words.Bytes.{front_is}
 use Rattle.lisa_tree.specs.declared.tokens.Token.{Token}
 use Rattle.lisa_tree.specs.declared.tokens.TokenPart.{TokenPart}
 use Rattle.lisa_tree.specs.declared.tokens.TokenPart.TheVariants as parts

@@ -1,7 +1,7 @@
 -- Names, numbers, types, patterns and strings, as tokens have them.
 use Rattle.std.specs.Prelude.{◌≡◌, ◌≢◌, ℕ, ◌≤◌, ◌<◌, ◌^◌, true, List, length, IfSome}
 use Rattle.std.specs.List.{list_all}
-use Rattle.lisa_words.specs.Bytes.{is_letter, is_word, front_is}
+use Rattle.lisa_tree.specs.lisa_words.Bytes.{is_letter, is_word, front_is}
 use Rattle.lisa_tree.specs.declared.tokens.Keyword.{Keyword}
 use Rattle.lisa_tree.specs.declared.tokens.Shape.{Shape}
 use Rattle.lisa_tree.specs.declared.descriptions.Pattern.{Pattern}

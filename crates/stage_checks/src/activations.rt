@@ -11,8 +11,8 @@ ghost use Rattle.stage_checks.specs.Running.{started, choice_of, act_names, acts
 ghost use Rattle.stage_checks.specs.Graphs.{node_count, nodes_of, row_at, IsGraph, names_in};
 
 use crate::look_ups::{operation_at, operation_count};
+use lisa_tree::lisa_words::Name;
 use lisa_tree::{Act, Names, Operation, What, activation};
-use lisa_words::Name;
 use std::alloc::{AllocError, Global};
 
 /// The number of the group or instance that an operation declares by a name.

@@ -10,8 +10,8 @@ use crate::activations::started;
 use crate::controls::is_before;
 use crate::look_ups::name_at;
 use description_places::{Condition, Region, Scope, Site};
+use lisa_tree::lisa_words::NoMemory;
 use lisa_tree::{DescFault, Names};
-use lisa_words::NoMemory;
 use std::alloc::{AllocError, Global};
 
 // The earlier one of two stages.

@@ -6,8 +6,8 @@ ghost use Rattle.stage_checks.specs.Controls.{is_before, may_control, refusal, c
 
 use crate::look_ups::{is_named_main, name_at};
 use description_places::{Condition, Region, Scope, Site};
+use lisa_tree::lisa_words::{Name, NoMemory};
 use lisa_tree::{DescFault, Names};
-use lisa_words::{Name, NoMemory};
 use std::alloc::Global;
 
 // Whether one stage stands before another.

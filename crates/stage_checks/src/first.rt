@@ -15,8 +15,8 @@ use crate::mains::{Skipping, late_choices, main_fits};
 use crate::resets::Resets;
 use crate::running::{free_operations, latest_stages, main_at};
 use description_places::first_fault;
+use lisa_tree::lisa_words::NoMemory;
 use lisa_tree::{DescFault, Names};
-use lisa_words::NoMemory;
 use std::alloc::Global;
 
 /// The first activation of an operation of an earlier stage by one that runs in a stage.

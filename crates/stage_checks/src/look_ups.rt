@@ -6,8 +6,8 @@ ghost use Rattle.lisa_tree.specs.Same.{same_name};
 ghost use Rattle.lisa_tree.specs.Operations.{name_at, operation_at};
 ghost use Rattle.stage_checks.specs.Controls.{main_name, reset_name};
 
+use lisa_tree::lisa_words::{Name, NoMemory};
 use lisa_tree::{Names, Operation, Resource};
-use lisa_words::{Name, NoMemory};
 use std::alloc::Global;
 
 /// How many operations there are.

@@ -11,8 +11,8 @@ use crate::controls::is_before;
 use crate::look_ups::operation_at;
 use crate::running::is_reached;
 use description_places::{Condition, Region, Scope, Site};
+use lisa_tree::lisa_words::NoMemory;
 use lisa_tree::{DescFault, Names, Operation, coding};
-use lisa_words::NoMemory;
 use std::alloc::{AllocError, Global};
 
 // Whether one of these operations has a stage of its own behind the first one.

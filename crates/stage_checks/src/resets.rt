@@ -7,8 +7,8 @@ ghost use Rattle.stage_checks.specs.Resets.{is_scalar, may_use, is_behavior, has
 
 use crate::look_ups::{is_named_reset, resource_at};
 use description_places::{Condition, Region, Scope, Site};
+use lisa_tree::lisa_words::{Name, NoMemory};
 use lisa_tree::{DescFault, Meaning, Names, Operation, Resource, Section};
-use lisa_words::{Name, NoMemory};
 
 // Whether a resource is a register that is no array.
 fn is_scalar<N: Names>(names: &N, resource: usize) -> bool

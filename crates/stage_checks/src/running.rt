@@ -13,8 +13,8 @@ ghost use Rattle.stage_checks.specs.Graphs.{AreInner, IsFrom, is_stage};
 use crate::activations::graph;
 use crate::spreading::greatest;
 use graph_paths::{reached_from, row};
+use lisa_tree::lisa_words::{Name, NoMemory};
 use lisa_tree::{Names, Resource};
-use lisa_words::{Name, NoMemory};
 use std::alloc::{AllocError, Global};
 
 // Adds a node that has no stage of its own.

@@ -1,3 +1,2 @@
 pub mod Limits
-pub mod lisa_machine_proofs
-pub mod lisa_meaning_proofs
+pub use Rattle.lisa_meaning.proofs as lisa_meaning_proofs

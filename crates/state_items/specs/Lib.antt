@@ -1,6 +1,5 @@
 pub mod Laws
-pub mod activation_trees
-pub mod description_sizes
-pub mod lisa_forms
-pub mod lisa_machine
-pub mod lisa_meaning
+pub use Rattle.lisa_meaning.specs.activation_trees
+pub use Rattle.lisa_meaning.specs.description_sizes
+pub use Rattle.lisa_meaning.specs.lisa_forms
+pub use Rattle.lisa_meaning.specs as lisa_meaning

@@ -3,7 +3,7 @@
 ghost use Rattle.std.specs.Prelude.{◌≡◌, ◌<◌, ◌^◌, length, IfOk};
 ghost use Rattle.lisa_tree.specs.Descriptions.{description_tree};
 ghost use Rattle.lisa_tree.specs.Resources.{stages, fields};
-ghost use Rattle.machine_parts.specs.Parts.{registers_of};
+ghost use Rattle.lisa_meaning.specs.machine_parts.Parts.{registers_of};
 ghost use Rattle.lisa_meaning.specs.activation_trees.Unfolding.{occurrences};
 ghost use Rattle.lisa_meaning.specs.activation_trees.Items.{root_stage, has_bit};
 ghost use Rattle.lisa_meaning.specs.coding_tables.Instructions.{instruction_choice};
@@ -13,7 +13,9 @@ ghost use Rattle.lisa_meaning.specs.States.{first_word as first_word_behind, lay
 use crate::counting::{count_fields, count_registers, count_stages, root_stage};
 use description_tables::Tables;
 use item_layouts::Arrangement;
-use lisa_meaning::{Forms, Machine, Occurrence, instruction_choice};
+use lisa_meaning::coding_tables::instruction_choice;
+use lisa_meaning::lisa_forms::{Forms, Occurrence};
+use lisa_meaning::lisa_machine::Machine;
 use lisa_words::NoMemory;
 use std::alloc::Global;
 

@@ -8,7 +8,8 @@ ghost use Rattle.lisa_meaning.specs.States.{layout_of};
 
 use crate::described::Described;
 use item_layouts::{ItemPlace, item_places};
-use lisa_meaning::{Forms, Machine};
+use lisa_meaning::lisa_forms::Forms;
+use lisa_meaning::lisa_machine::Machine;
 use lisa_words::NoMemory;
 use std::alloc::Global;
 

@@ -4,8 +4,8 @@ ghost use Rattle.step_program.specs.Programs.{ToTemp, aim_of, expr_tree, move_of
 ghost use Rattle.step_pieces.specs.Pieces.{always, behind, held, nothing, top};
 ghost use Rattle.step_pieces.specs.Drafts.{move, one_step, one_temp, piece_of};
 
-use lisa_words::{NoMemory, Word};
 use std::alloc::Global;
+use step_program::lisa_words::{NoMemory, Word};
 use step_program::{Step, StepExpr, Target};
 
 /// The widths of temps, from the first one on, and steps.

@@ -3,8 +3,8 @@ ghost use Rattle.std.specs.Prelude.{◌≡◌};
 ghost use Rattle.step_program.specs.Programs.{expr_tree};
 ghost use Rattle.step_pieces.specs.Drafts.{leaf_tree};
 
-use lisa_words::Word;
 use step_program::StepExpr;
+use step_program::lisa_words::Word;
 
 /// An expression without parts, which can be read as often as is wanted. Items, pins and temps are named by their places.
 #[derive(Clone, Copy, Debug, PartialEq, Eq)]

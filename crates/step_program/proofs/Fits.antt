@@ -16,9 +16,9 @@ use Rattle.lisa_engine.specs.declared.parts.Item.{Item}
 use Rattle.lisa_engine.specs.declared.parts.ArrayItem.{ArrayItem}
 use Rattle.lisa_engine.proofs.Loading as loading
 use Rattle.std.specs.Int.{int_div_euclid}
-use Rattle.lisa_words.specs.Words.{meant}
-use Rattle.lisa_words.specs.declared.words.Kind.TheVariants.{Unsigned}
-use Rattle.lisa_words.proofs.WordLaws.{reduced-lt}
+use Rattle.lisa_engine.specs.lisa_words.Words.{meant}
+use Rattle.lisa_engine.specs.lisa_words.declared.words.Kind.TheVariants.{Unsigned}
+use Rattle.lisa_engine.proofs.lisa_words_proofs.WordLaws.{reduced-lt}
 use Rattle.step_program.specs.declared.expressions.OneOp.{OneOp}
 use Rattle.step_program.specs.declared.expressions.OneOp.TheVariants.{Not, Cut, Widen}
 use Rattle.step_program.specs.declared.expressions.TwoOp.{TwoOp}

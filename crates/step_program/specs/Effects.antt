@@ -1,7 +1,7 @@
 -- The effect of a step program: an edge takes its steps in order, each on what the steps before have left.
 use Rattle.std.specs.Prelude.{ℕ, List, [], map, fold, slice_index, slice_index_or, slice_set, nat_eq, nat_lt, bit_and, bit_or, bit_xor, if◌then◌else◌}
-use Rattle.lisa_words.specs.Words.{word_cut, word_widen, word_add, word_sub, word_mul, word_not, word_shl, word_shr}
-use Rattle.lisa_words.specs.declared.words.Kind.TheVariants.{Unsigned}
+use Rattle.lisa_engine.specs.lisa_words.Words.{word_cut, word_widen, word_add, word_sub, word_mul, word_not, word_shl, word_shr}
+use Rattle.lisa_engine.specs.lisa_words.declared.words.Kind.TheVariants.{Unsigned}
 use Rattle.lisa_engine.specs.State.{State}
 use Rattle.lisa_engine.specs.Memory.{Memory}
 use Rattle.lisa_engine.specs.Images.{first_cells}

@@ -1,5 +1,5 @@
 // Expressions of a step program.
-use lisa_words::Word;
+use lisa_engine::lisa_words::Word;
 
 /// An operator with one operand.
 #[derive(Clone, Copy, Debug, PartialEq, Eq, Hash)]

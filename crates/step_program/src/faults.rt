@@ -2,7 +2,7 @@
 ghost use Rattle.std.specs.Prelude.{◌≡◌};
 ghost use Rattle.step_program.specs.declared.faults.LowerFault.TheVariants.{NoMemory as OutOfMemory};
 
-use lisa_words::{Name, NoMemory};
+use lisa_engine::lisa_words::{Name, NoMemory};
 
 /// What stands against the step program of a description.
 #[derive(Debug, PartialEq, Eq, Drop)]

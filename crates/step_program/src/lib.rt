@@ -12,4 +12,5 @@ mod programs;
 pub use expressions::{OneOp, StepExpr, TwoOp};
 pub use faults::LowerFault;
 pub use forming::well_formed;
+pub use lisa_engine::lisa_words;
 pub use programs::{Step, StepProgram, Target};

@@ -4,7 +4,7 @@ ghost use Rattle.std.specs.List.{list_all};
 ghost use Rattle.std.specs.Str.{bytes_eq};
 ghost use Rattle.step_program.specs.Decided.{is_graphic, is_digit, is_wire_name, is_free_name};
 
-use lisa_words::Name;
+use lisa_engine::lisa_words::Name;
 
 fn is_graphic(byte: u8) -> bool
     ensures { result ≡ is_graphic byte }

@@ -6,3 +6,4 @@ pub mod Order
 pub mod Visits
 pub mod Entries
 pub mod Along
+pub use Rattle.description_graph.proofs as description_graph_proofs

@@ -17,8 +17,8 @@ use crate::references::Meanings;
 use crate::steps::{Count, counts};
 use crate::sums::{one_more, plus, sum_of, times};
 use description_types::sections;
+use lisa_tree::lisa_words::NoMemory;
 use lisa_tree::{Expr, ForHead, Names, Stmt, behavior};
-use lisa_words::NoMemory;
 use shape_checks::bounds_of;
 use std::alloc::Global;
 

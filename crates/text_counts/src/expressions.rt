@@ -15,8 +15,8 @@ use crate::references::Meanings;
 use crate::steps::{Count, counts};
 use crate::sums::{one_more, plus, sum_of};
 use description_types::{known_choice, known_entry, sections};
+use lisa_tree::lisa_words::{Name, NoMemory};
 use lisa_tree::{Expr, Names, What, expression};
-use lisa_words::{Name, NoMemory};
 use std::alloc::Global;
 
 /// What is known of all that a name in an operation may choose, or a count for what chooses nothing.

@@ -12,5 +12,7 @@ mod steps;
 mod sums;
 mod tables;
 
+pub use description_types;
+pub use description_types::coded_names;
 pub use references::Meanings;
 pub use tables::TextCounts;

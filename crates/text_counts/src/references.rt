@@ -13,7 +13,7 @@ ghost use Rattle.text_counts.specs.Gathering.{IsGathered};
 
 use crate::gathering::{Graph, Numbers, list_at, visit};
 use lisa_tree::Names;
-use lisa_words::NoMemory;
+use lisa_tree::lisa_words::NoMemory;
 use std::alloc::{AllocError, Global};
 use std::marker::Model;
 use std::rc::Rc;

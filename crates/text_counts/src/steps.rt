@@ -15,8 +15,8 @@ ghost use Rattle.text_counts.specs.Tables.{AreCounts};
 use crate::references::Meanings;
 use description_types::{known_entry, operation_count};
 use least_fixed_points::{Rule, settle_along};
+use lisa_tree::lisa_words::NoMemory;
 use lisa_tree::{Names, What};
-use lisa_words::NoMemory;
 use std::alloc::Global;
 
 /// How a count of an operation, and of what may be chosen, follows from those of others.

@@ -16,7 +16,7 @@ use description_graph::edges;
 use description_types::{known_operation, operation_count};
 use graph_paths::order;
 use lisa_tree::Names;
-use lisa_words::NoMemory;
+use lisa_tree::lisa_words::NoMemory;
 use std::alloc::{AllocError, Global};
 use std::marker::Model;
 

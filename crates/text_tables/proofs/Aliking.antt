@@ -4,7 +4,7 @@ use Rattle.std.specs.Prelude.{is_some, IfSome}
 use Rattle.std.proofs.lemmas.Bool.{cases_eq}
 use Rattle.std.proofs.lemmas.Grind.{get_or_default_zero}
 use Rattle.std.proofs.lemmas.List.{take-take, take_more_same, get_or_append_left, get_or-append-add, length-append}
-use Rattle.asm_source.specs.Plain.{PlainToken}
+use Rattle.instruction_texts.specs.asm_source.Plain.{PlainToken}
 use Rattle.instruction_texts.specs.declared.shapes.Shape.{Shape}
 use Rattle.instruction_texts.specs.Lines.{Plain}
 use Rattle.instruction_texts.specs.Misfits.{NoneBegins}

@@ -6,9 +6,9 @@ use Rattle.std.proofs.lemmas.Bool.{cases_eq}
 use Rattle.std.proofs.lemmas.List.{take_all}
 use Rattle.std.proofs.lemmas.List.Folds.{flat_map-map}
 use Rattle.std.proofs.lemmas.Slice.Eq.{bytes_eq-Decides}
-use Rattle.asm_source.specs.Plain.{PlainToken}
-use Rattle.instruction_trees.specs.Trees.{In, here, there}
-use Rattle.instruction_trees.proofs.Listing.{in_left, in_right, in_append, in_flat, from_flat}
+use Rattle.instruction_texts.specs.asm_source.Plain.{PlainToken}
+use Rattle.instruction_texts.specs.instruction_trees.Trees.{In, here, there}
+use Rattle.instruction_texts.proofs.instruction_trees_proofs.Listing.{in_left, in_right, in_append, in_flat, from_flat}
 use Rattle.instruction_texts.specs.declared.shapes.Shape.{Shape}
 use Rattle.instruction_texts.specs.declared.starts.Start.{Start}
 use Rattle.instruction_texts.specs.Lines.{Plain}

@@ -1,7 +1,7 @@
 -- One form more among those that were tried.
 use Rattle.std.proofs.Common.{◌≡◌, ℕ, ◌<◌, List, [], ◌∷◌, ◌++◌, map, Vec, Global, refl, subst, ◌∙◌, arith, inl, inr, ◌⊎◌}
-use Rattle.asm_source.specs.Plain.{PlainToken}
-use Rattle.instruction_trees.specs.Trees.{In, here, there}
+use Rattle.instruction_texts.specs.asm_source.Plain.{PlainToken}
+use Rattle.instruction_texts.specs.instruction_trees.Trees.{In, here, there}
 use Rattle.instruction_texts.specs.declared.shapes.Shape.{Shape}
 use Rattle.instruction_texts.specs.declared.operands.Operand.{Operand}
 use Rattle.instruction_texts.specs.Lines.{Plain, given}

@@ -2,8 +2,8 @@
 use Rattle.std.proofs.Common.{◌≡◌, ◌↔◌, ℕ, ◌+◌, ◌<◌, ◌≤◌, List, [], ◌∷◌, ◌++◌, length, map, take, get_or, Vec, Global, Option, Some, None, option_map, sym, ap, ◌∙◌, subst, arith}
 use Rattle.std.specs.List.{All}
 use Rattle.std.proofs.lemmas.List.{take_all, take_more}
-use Rattle.asm_source.specs.Plain.{PlainToken}
-use Rattle.instruction_trees.specs.Trees.{In}
+use Rattle.instruction_texts.specs.asm_source.Plain.{PlainToken}
+use Rattle.instruction_texts.specs.instruction_trees.Trees.{In}
 use Rattle.instruction_texts.specs.declared.shapes.Shape.{Shape}
 use Rattle.instruction_texts.specs.declared.operands.Operand.{Operand}
 use Rattle.instruction_texts.specs.Lines.{Plain, Matches, given}

@@ -1,6 +1,6 @@
 -- Forms that a line isn't of.
 use Rattle.std.specs.Prelude.{◌<◌, List, length}
-use Rattle.asm_source.specs.Plain.{PlainToken}
+use Rattle.instruction_texts.specs.asm_source.Plain.{PlainToken}
 use Rattle.instruction_texts.specs.declared.shapes.Shape.{Shape}
 use Rattle.instruction_texts.specs.Misfits.{NoneBegins}
 use Rattle.text_tables.specs.Shared.{shapes_at}

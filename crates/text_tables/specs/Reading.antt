@@ -1,7 +1,7 @@
 -- Which of some forms a line matches.
 use Rattle.std.specs.Prelude.{ℕ, ◌≡◌, ◌<◌, List, [], ◌∷◌, ◌++◌, length, map, Option, Some}
-use Rattle.asm_source.specs.Plain.{PlainToken}
-use Rattle.instruction_trees.specs.Trees.{In}
+use Rattle.instruction_texts.specs.asm_source.Plain.{PlainToken}
+use Rattle.instruction_texts.specs.instruction_trees.Trees.{In}
 use Rattle.instruction_texts.specs.declared.shapes.Shape.{Shape}
 use Rattle.instruction_texts.specs.Lines.{Plain, Matches, given}
 use Rattle.instruction_texts.specs.Starts.{first_start, negative_start}

@@ -6,7 +6,7 @@ ghost use Rattle.text_tables.specs.Parts.{all_pieces, text_pieces};
 
 use crate::texts::{Part, Texts, only_part};
 use instruction_texts::Shape;
-use lisa_words::NoMemory;
+use instruction_texts::lisa_words::NoMemory;
 use std::alloc::Global;
 
 // Whether two pieces are the same.

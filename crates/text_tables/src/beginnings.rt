@@ -1,14 +1,14 @@
 //! Forms by how their texts begin.
 
 ghost use Rattle.std.specs.Prelude.{◌≡◌, List, [], Option, Some, IfOk, OnOk, map, option_map};
-ghost use Rattle.asm_source.specs.Plain.{token_tree};
+ghost use Rattle.instruction_texts.specs.asm_source.Plain.{token_tree};
 ghost use Rattle.instruction_texts.specs.Starts.{Beginning, start_of, line_starts};
 ghost use Rattle.text_tables.specs.Beginnings.{with_if, kept_at, numbers_of, same, begun, items_of, Enters};
 
-use asm_source::LineToken;
 use indexmap::IndexMap;
+use instruction_texts::asm_source::LineToken;
+use instruction_texts::lisa_words::{Name, NoMemory};
 use instruction_texts::{Shape, Start, first_start, negative_start, starts_of};
-use lisa_words::{Name, NoMemory};
 use std::alloc::Global;
 use std::hash::Hash;
 

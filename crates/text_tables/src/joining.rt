@@ -1,7 +1,7 @@
 //! The least two of the forms that match.
 
 ghost use Rattle.std.specs.Prelude.{ℕ, List, [], ◌∷◌, ◌++◌, map};
-ghost use Rattle.asm_source.specs.Plain.{PlainToken};
+ghost use Rattle.instruction_texts.specs.asm_source.Plain.{PlainToken};
 ghost use Rattle.instruction_texts.specs.declared.shapes.Shape.{Shape};
 ghost use Rattle.instruction_texts.specs.Lines.{given};
 ghost use Rattle.text_tables.specs.Reading.{IsMatch, IsFoundAmong, TakesIn};

@@ -10,8 +10,8 @@ ghost use Rattle.text_tables.specs.Shared.{AnswersShared, AnswersWith};
 
 use crate::openings::may_share_text;
 use crate::texts::{Part, Texts, only_part, whole_text};
+use instruction_texts::lisa_words::NoMemory;
 use instruction_texts::{Shape, common_text};
-use lisa_words::NoMemory;
 use std::alloc::Global;
 
 /// Two forms by their numbers, and the bytes of a text of both.

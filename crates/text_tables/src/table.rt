@@ -2,7 +2,7 @@
 
 ghost use Rattle.std.specs.Prelude.{◌≡◌, ◌<◌, ◌++◌, ◌↔◌, ℕ, List, [], ◌∷◌, Some, IfOk, IfSome, IfNone, length, map, option_map};
 ghost use Rattle.std.specs.List.{All};
-ghost use Rattle.asm_source.specs.Plain.{token_tree};
+ghost use Rattle.instruction_texts.specs.asm_source.Plain.{token_tree};
 ghost use Rattle.instruction_texts.specs.declared.shapes.Token.{Token};
 ghost use Rattle.instruction_texts.specs.Lines.{Plain, Matches, given};
 ghost use Rattle.instruction_texts.specs.Misfits.{NoneBegins};
@@ -19,9 +19,9 @@ use crate::beginnings::Beginnings;
 use crate::joining::joined;
 use crate::misfits::Misfit;
 use crate::texts::{Part, Texts, first_pieces, only_part, whole_text};
-use asm_source::LineToken;
+use instruction_texts::asm_source::LineToken;
+use instruction_texts::lisa_words::NoMemory;
 use instruction_texts::{Operand, Shape, matches, misfit, text_of};
-use lisa_words::NoMemory;
 use std::alloc::Global;
 use std::marker::Model;
 

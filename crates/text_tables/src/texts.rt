@@ -6,7 +6,7 @@ ghost use Rattle.text_tables.specs.Parts.{part_pieces, text_pieces};
 ghost use Rattle.text_tables.specs.Shared.{shapes_at};
 
 use instruction_texts::Shape;
-use lisa_words::NoMemory;
+use instruction_texts::lisa_words::NoMemory;
 use std::alloc::Global;
 
 /// A part of a text.

@@ -14,11 +14,11 @@ use Rattle.description_graph.proofs.Nodes.{at_choice, at_entry}
 use Rattle.description_graph.proofs.Numbered.{chosen_within}
 use Rattle.description_graph.proofs.Meant.{meant_below}
 use Rattle.description_graph.proofs.Hits.{Found, found}
-use Rattle.item_promises.specs.lisa_machine.Ranks.{Ranks}
-use Rattle.item_promises.specs.lisa_machine.Soundness.{IsSound}
-use Rattle.item_promises.specs.lisa_machine.Declaring.{Chooses}
-use Rattle.item_promises.proofs.lisa_machine_proofs.Entries.{entry_chooses}
-use Rattle.item_promises.proofs.lisa_machine_proofs.Named.{what_is}
+use Rattle.lisa_machine.specs.Ranks.{Ranks}
+use Rattle.lisa_machine.specs.Soundness.{IsSound}
+use Rattle.lisa_machine.specs.Declaring.{Chooses}
+use Rattle.lisa_machine.proofs.Entries.{entry_chooses}
+use Rattle.lisa_machine.proofs.Named.{what_is}
 use Rattle.meant_declarations.specs.Meant as meant
 use Rattle.meant_declarations.specs.Meant.{itself, higher}
 use Rattle.lisa_meaning.specs.use_promises.Meant.{ChoosesFrom}

@@ -14,11 +14,11 @@ use Rattle.description_places.specs.Scopes.{Scope}
 use Rattle.description_graph.proofs.Nodes.{at_operation}
 use Rattle.stage_checks.specs.Controls.{main_name}
 use Rattle.stage_checks.proofs.Nodes.{plain_within}
-use Rattle.item_promises.specs.machine_parts.Parts.{reset_count}
-use Rattle.item_promises.specs.lisa_machine.Running.{FitsMain}
-use Rattle.item_promises.specs.lisa_machine.Soundness.{IsSound}
-use Rattle.item_promises.proofs.lisa_machine_proofs.Falling.{node_ranks}
-use Rattle.item_promises.proofs.lisa_machine_proofs.Standing.{behavior_stand}
+use Rattle.lisa_machine.specs.machine_parts.Parts.{reset_count}
+use Rattle.lisa_machine.specs.Running.{FitsMain}
+use Rattle.lisa_machine.specs.Soundness.{IsSound}
+use Rattle.lisa_machine.proofs.Falling.{node_ranks}
+use Rattle.lisa_machine.proofs.Standing.{behavior_stand}
 use Rattle.lisa_meaning.specs.use_promises.Using.{IsCallable}
 use Rattle.lisa_meaning.proofs.use_promises_proofs.Used.{call_fits}
 use Rattle.item_promises.specs.activation_trees.declared.parts.Occurrence.{Occurrence}

@@ -16,8 +16,8 @@ use Rattle.shape_checks.specs.Bounds.{bounds_of, turns}
 use Rattle.typed_values.specs.Words.{TypedWord, is_zero}
 use Rattle.typed_values.specs.Expressions.{value}
 use Rattle.typed_values.specs.Effects.{Locals, Doing, local_put, counter_value, leave, turned, loop_turn, all_turns, looped, effect, effects}
-use Rattle.item_promises.specs.lisa_machine.Freedom.{Stands, AllStand}
-use Rattle.item_promises.proofs.lisa_machine_proofs.Among.{stand_both}
+use Rattle.lisa_machine.specs.Freedom.{Stands, AllStand}
+use Rattle.lisa_machine.proofs.Among.{stand_both}
 use Rattle.text_counts.specs.Sums.{plus, one_more, times, capped}
 use Rattle.text_counts.specs.Behaviors.{weight, turns_of, statement_count, statements_count}
 use Rattle.lisa_meaning.specs.Moments.{Moment}

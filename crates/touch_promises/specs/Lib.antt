@@ -1,3 +1,3 @@
 pub mod Writes
-pub mod lisa_meaning
-pub mod use_promises
+pub use Rattle.lisa_meaning.specs as lisa_meaning
+pub use Rattle.lisa_meaning.specs.use_promises

@@ -4,6 +4,6 @@
 
 mod writing;
 
-pub use item_promises::sizes_are_limited;
-pub use lisa_meaning::laws;
+pub use item_promises;
+pub use lisa_meaning;
 pub use writing::behaviors_write_few_cells;

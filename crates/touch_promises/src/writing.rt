@@ -2,7 +2,7 @@
 
 ghost use Rattle.std.specs.Prelude.{◌≡◌, ℕ, Some, slice_get};
 ghost use Rattle.lisa_tree.specs.Descriptions.{DescriptionTree};
-ghost use Rattle.item_promises.specs.lisa_machine.Verdicts.{IsAccepted};
+ghost use Rattle.lisa_machine.specs.Verdicts.{IsAccepted};
 ghost use Rattle.item_promises.specs.activation_trees.declared.parts.Occurrence.{Occurrence};
 ghost use Rattle.item_promises.specs.activation_trees.Unfolding.{occurrences};
 ghost use Rattle.item_promises.specs.description_sizes.Texts.{statements_at};

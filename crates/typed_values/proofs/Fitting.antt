@@ -14,7 +14,7 @@ use Rattle.lisa_words.specs.declared.binary.Operator.{Operator}
 use Rattle.lisa_words.specs.declared.binary.Operator.TheVariants as operators
 use Rattle.lisa_tree.specs.Expressions as exprs
 use Rattle.lisa_tree.specs.Expressions.{ExprTree}
-use Rattle.description_places.specs.Literals.{literal}
+use Rattle.description_types.specs.description_places.Literals.{literal}
 use Rattle.typed_values.specs.Words.{TypedWord, typed, word_width, fitted, as_shape, zero_of, truth, number_value}
 use Rattle.typed_values.specs.Operators.{both, two_value, operand, chosen}
 use Rattle.typed_values.specs.Expressions.{Reader, made_of, value}

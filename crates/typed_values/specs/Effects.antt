@@ -8,7 +8,7 @@ use Rattle.lisa_tree.specs.declared.tokens.Shape.{Shape}
 use Rattle.lisa_tree.specs.Expressions.{ExprTree}
 use Rattle.lisa_tree.specs.Statements as stmts
 use Rattle.lisa_tree.specs.Statements.{HeadTree, StmtTree, StmtTrees}
-use Rattle.description_places.specs.Literals.{literal}
+use Rattle.description_types.specs.description_places.Literals.{literal}
 use Rattle.shape_checks.specs.declared.bounds.Bounds.{Bounds}
 use Rattle.shape_checks.specs.Bounds.{bounds_of, turns}
 use Rattle.typed_values.specs.declared.wholes.Whole.{Whole}

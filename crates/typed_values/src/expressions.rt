@@ -2,7 +2,7 @@
 
 ghost use Rattle.std.specs.Prelude.{◌≡◌, Option};
 ghost use Rattle.lisa_tree.specs.Expressions.{expr_tree};
-ghost use Rattle.description_places.specs.Literals.{literal};
+ghost use Rattle.description_types.specs.description_places.Literals.{literal};
 ghost use Rattle.typed_values.specs.Words.{typed_word};
 ghost use Rattle.typed_values.specs.Expressions.{Reader, made_of, complement, value};
 

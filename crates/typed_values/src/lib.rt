@@ -15,11 +15,14 @@ mod values;
 mod wholes;
 
 pub use counts::{count_nodes, count_statement, count_statements};
+pub use description_types;
 pub use effects::{Does, perform};
 pub use expressions::{Reads, evaluate};
 pub use laws::{values_fit, whole_literals};
+pub use lisa_tree;
 pub use operations::{chosen, two};
 pub use resets::reset_keeps_types;
 pub use running::reset_values;
+pub use shape_checks;
 pub use values::Value;
 pub use wholes::Whole;

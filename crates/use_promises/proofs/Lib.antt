@@ -7,6 +7,7 @@ pub mod Given
 pub mod Counted
 pub mod Held
 pub mod Shown
-pub mod description_graph_proofs
-pub mod lisa_machine_proofs
-pub mod machine_parts_proofs
+pub use Rattle.lisa_machine.proofs.description_graph_proofs
+pub use Rattle.lisa_machine.proofs as lisa_machine_proofs
+pub use Rattle.lisa_machine.proofs.machine_parts_proofs
+pub use Rattle.lisa_machine.proofs.typed_values_proofs

@@ -5,10 +5,8 @@ pub mod Valued
 pub mod Counting
 pub mod Resetting
 pub mod Showing
-pub mod coded_names
-pub mod description_places
-pub mod kind_checks
-pub mod lisa_machine
-pub mod machine_parts
-pub mod meant_declarations
-pub mod shape_checks
+pub use Rattle.description_places.specs as description_places
+pub use Rattle.lisa_machine.specs as lisa_machine
+pub use Rattle.lisa_machine.specs.machine_parts
+pub use Rattle.lisa_machine.specs.stage_checks
+pub use Rattle.lisa_machine.specs.typed_values

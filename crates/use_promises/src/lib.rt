@@ -9,10 +9,8 @@ mod stages;
 mod using;
 mod valued;
 
-pub use lisa_machine::{
-    Machine, first_values, first_values_fit, is_root, names_instructions, operation_count,
-    resource, sections,
-};
+pub use lisa_machine;
+pub use lisa_machine::{machine_parts, typed_values};
 pub use meant::references_resolve;
 pub use resetting::{counters_hold, resets_hold};
 pub use showing::machines_show;

@@ -13,8 +13,8 @@ use Rattle.pattern_tables.specs.Overlaps.{IsOverlap, IsFirstOverlap, IsFirstUnco
 use Rattle.pattern_tables.specs.declared.overlaps.Overlap.{Overlap}
 use Rattle.form_patterns.specs.Instructions.{instruction_frames, instruction_plain}
 use Rattle.instruction_texts.specs.Written.{text_bytes}
-use Rattle.checked_descriptions.specs.lisa_forms.Verdicts.{form_name_at}
-use Rattle.checked_descriptions.specs.lisa_forms.Coverage.{overlap, not_an_alias, IsJoined, IsOverlapVerdict, IsUncoveredVerdict}
+use Rattle.lisa_forms.specs.Verdicts.{form_name_at}
+use Rattle.lisa_forms.specs.Coverage.{overlap, not_an_alias, IsJoined, IsOverlapVerdict, IsUncoveredVerdict}
 use Rattle.checked_descriptions.specs.lisa_syntax.Texts.{IsAmbiguity, IsAmbiguityVerdict}
 use Rattle.checked_descriptions.specs.Instructions.{from_aliases, from_ambiguities, from_overlaps}
 use Rattle.verdict_promises.specs.Firsts.{IsSameFirst}

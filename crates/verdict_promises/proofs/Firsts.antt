@@ -6,7 +6,7 @@ use Rattle.lisa_tree.specs.Descriptions.{DescriptionTree}
 use Rattle.lisa_reader.proofs.ByteLaws.{one_description, spelled_unbroken, one_fault}
 use Rattle.lisa_machine.specs.Verdicts.{IsFirstFault, IsAccepted}
 use Rattle.lisa_machine.proofs.Verdicts.{one_verdict, no_fault_in_accepted}
-use Rattle.checked_descriptions.specs.lisa_forms.Verdicts.{HasForms, IsFirstFormFault}
+use Rattle.lisa_forms.specs.Verdicts.{HasForms, IsFirstFormFault}
 use Rattle.checked_descriptions.specs.Checked.{Checked, IsChecked}
 use Rattle.checked_descriptions.specs.Conditions.{IsFirstOfAll}
 use Rattle.checked_descriptions.specs.Instructions.{from_overlaps, HasInstructions, IsFirstInstructionFault}

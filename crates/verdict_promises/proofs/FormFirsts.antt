@@ -12,11 +12,11 @@ use Rattle.coding_checks.specs.Steady.{widths_monotone}
 use Rattle.coding_checks.specs.Uneven.{group_width, IsFirstGroupWidth}
 use Rattle.coding_checks.specs.Written.{not_written}
 use Rattle.coding_tables.specs.Instructions.{form_count}
-use Rattle.checked_descriptions.specs.description_sizes.Sizes.{size_fault}
+use Rattle.description_sizes.specs.Sizes.{size_fault}
 use Rattle.instruction_forms.specs.Widths.{HasWidth, IsInstructionWidth}
 use Rattle.lisa_machine.proofs.Steps.{IsOne, before_is_one}
 use Rattle.lisa_machine.proofs.Unique.{places_one, nothing_one}
-use Rattle.checked_descriptions.specs.lisa_forms.Verdicts.{IsRootVerdict, IsSizeVerdict, IsTextVerdict, form_conditions, HasForms, IsFirstFormFault}
+use Rattle.lisa_forms.specs.Verdicts.{IsRootVerdict, IsSizeVerdict, IsTextVerdict, form_conditions, HasForms, IsFirstFormFault}
 
 none_is_no_some : {T : Type 0} (t : T) → None ≡ Some t → ⊥
 none_is_no_some t e = cc

@@ -10,8 +10,8 @@ use Rattle.coding_checks.specs.Steady.{width_count, widths_monotone, widths_end}
 use Rattle.coding_checks.specs.Uneven.{group_width, IsFirstGroupWidth}
 use Rattle.coding_checks.specs.Written.{not_written}
 use Rattle.coding_tables.specs.Instructions.{instruction_choice, form_count}
-use Rattle.checked_descriptions.specs.description_sizes.Sizes.{size_fault}
-use Rattle.checked_descriptions.specs.activation_trees.Twice.{first_root_twice}
+use Rattle.description_sizes.specs.Sizes.{size_fault}
+use Rattle.activation_trees.specs.Twice.{first_root_twice}
 use Rattle.instruction_trees.specs.Bits.{Frame, pattern}
 use Rattle.instruction_forms.specs.Widths.{HasWidth}
 use Rattle.instruction_texts.specs.declared.shapes.Token.{Token}
@@ -24,14 +24,14 @@ use Rattle.pattern_tables.specs.Overlaps.{IsOverlap, IsFirstOverlap, IsCovered, 
 use Rattle.pattern_tables.proofs.Clashing.{overlap_clash, clash_overlap}
 use Rattle.form_patterns.specs.Instructions.{instruction_frames, instruction_plain}
 use Rattle.form_patterns.proofs.Standing.{StandForAll, are_patterns}
-use Rattle.checked_descriptions.proofs.form_promises_proofs.Rooted.{the_root}
-use Rattle.checked_descriptions.proofs.form_promises_proofs.Wide.{group_wide}
+use Rattle.lisa_forms.proofs.form_promises_proofs.Rooted.{the_root}
+use Rattle.lisa_forms.proofs.form_promises_proofs.Wide.{group_wide}
 use Rattle.lisa_machine.specs.Freedom.{IsFree}
 use Rattle.lisa_machine.specs.Verdicts.{IsAccepted}
 use Rattle.lisa_machine.proofs.Sound.{sound}
-use Rattle.checked_descriptions.specs.lisa_forms.Rows.{frame_pattern}
-use Rattle.checked_descriptions.specs.lisa_forms.Verdicts.{form_name_at, root_twice, bad_text, IsRootVerdict, IsSizeVerdict, IsTextVerdict, form_conditions}
-use Rattle.checked_descriptions.specs.lisa_forms.Coverage.{overlap, not_an_alias, IsOverlapVerdict, IsUncoveredVerdict}
+use Rattle.lisa_forms.specs.Rows.{frame_pattern}
+use Rattle.lisa_forms.specs.Verdicts.{form_name_at, root_twice, bad_text, IsRootVerdict, IsSizeVerdict, IsTextVerdict, form_conditions}
+use Rattle.lisa_forms.specs.Coverage.{overlap, not_an_alias, IsOverlapVerdict, IsUncoveredVerdict}
 use Rattle.checked_descriptions.specs.lisa_syntax.Texts.{IsAmbiguity, IsAmbiguityVerdict}
 use Rattle.checked_descriptions.specs.Instructions.{from_overlaps}
 use Rattle.verdict_promises.proofs.Undenied.{Undenied, surely, then, either, IsFirstBad, first_bad, least, not_past}

@@ -21,13 +21,13 @@ use Rattle.stage_checks.specs.Backward.{backward, IsBackwardVerdict}
 use Rattle.coding_checks.specs.Uneven.{group_width, IsFirstGroupWidth}
 use Rattle.coding_checks.specs.Written.{not_written}
 use Rattle.coding_tables.specs.Instructions.{form_count}
-use Rattle.checked_descriptions.specs.activation_trees.Twice.{first_root_twice}
-use Rattle.checked_descriptions.specs.description_sizes.Sizes.{first_too_many}
-use Rattle.checked_descriptions.specs.description_sizes.Limits.{fault}
+use Rattle.activation_trees.specs.Twice.{first_root_twice}
+use Rattle.description_sizes.specs.Sizes.{first_too_many}
+use Rattle.description_sizes.specs.Limits.{fault}
 use Rattle.form_texts.specs.Instructions.{first_bad_text}
 use Rattle.lisa_machine.specs.Verdicts.{Broken, before, nothing, at_places, circular, IsCircleVerdict, IsBadMainVerdict, from_resets, from_mains, from_controls, from_backwards, from_circles, from_long_loops, from_loops, from_narrowings, from_depths, from_widths, from_kinds, from_unknowns, conditions, IsFirstFault, IsAccepted}
-use Rattle.checked_descriptions.specs.lisa_forms.Verdicts.{root_twice, bad_text, IsRootVerdict, IsSizeVerdict, IsTextVerdict, from_texts, from_sizes, from_roots, from_writings, form_conditions, HasForms, IsFirstFormFault}
-use Rattle.checked_descriptions.specs.lisa_forms.Coverage.{overlap, not_an_alias, IsOverlapVerdict, IsUncoveredVerdict}
+use Rattle.lisa_forms.specs.Verdicts.{root_twice, bad_text, IsRootVerdict, IsSizeVerdict, IsTextVerdict, from_texts, from_sizes, from_roots, from_writings, form_conditions, HasForms, IsFirstFormFault}
+use Rattle.lisa_forms.specs.Coverage.{overlap, not_an_alias, IsOverlapVerdict, IsUncoveredVerdict}
 use Rattle.checked_descriptions.specs.lisa_syntax.Texts.{IsAmbiguityVerdict}
 use Rattle.checked_descriptions.specs.Instructions.{from_aliases, from_ambiguities, from_overlaps, IsFirstInstructionFault}
 use Rattle.checked_descriptions.specs.Conditions.{IsFirstOfAll}

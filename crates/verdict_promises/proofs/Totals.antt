@@ -8,7 +8,7 @@ use Rattle.lisa_reader.proofs.ByteLaws.{has_outcome}
 use Rattle.coding_checks.specs.Uneven.{IsFirstGroupWidth}
 use Rattle.instruction_forms.specs.Widths.{HasWidth}
 use Rattle.lisa_machine.specs.Verdicts.{before, IsAccepted, conditions}
-use Rattle.checked_descriptions.specs.lisa_forms.Verdicts.{HasForms, from_writings, form_conditions}
+use Rattle.lisa_forms.specs.Verdicts.{HasForms, from_writings, form_conditions}
 use Rattle.checked_descriptions.specs.Checked.{Checked, IsChecked}
 use Rattle.checked_descriptions.specs.Conditions.{IsFirstOfAll}
 use Rattle.checked_descriptions.specs.Instructions.{from_overlaps}

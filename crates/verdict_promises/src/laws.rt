@@ -4,7 +4,7 @@ ghost use Rattle.std.specs.Prelude.{ℕ, ◌≡◌, ◌≤◌, ◌⊎◌, ◌↔
 ghost use Rattle.lisa_tree.specs.declared.faults.DescFault.{DescFault};
 ghost use Rattle.lisa_tree.specs.Descriptions.{DescriptionTree};
 ghost use Rattle.lisa_machine.specs.Verdicts.{IsFirstFault};
-ghost use Rattle.checked_descriptions.specs.lisa_forms.Verdicts.{IsFirstFormFault};
+ghost use Rattle.lisa_forms.specs.Verdicts.{IsFirstFormFault};
 ghost use Rattle.lisa_reader.specs.Answers.{IsBroken};
 ghost use Rattle.lisa_tree.specs.Texts.{SpellsText};
 ghost use Rattle.lisa_outcomes.specs.declared.status.Refusal.{Refusal};

@@ -1,3 +1,3 @@
 pub mod Replying
 pub mod Texts
-pub mod checked_descriptions_proofs
+pub use Rattle.checked_descriptions.proofs as checked_descriptions_proofs

@@ -4,11 +4,11 @@ use Rattle.lisa_engine.specs.Images.{missing_memory}
 use Rattle.lisa_engine.specs.Shape.{AreEntries}
 use Rattle.lisa_engine.specs.declared.parts.Item.{Item}
 use Rattle.lisa_engine.specs.declared.parts.ArrayItem.{ArrayItem}
-use Rattle.lisa_lower.specs.machine_parts.Parts.{arrays_of, pins_of}
-use Rattle.checked_descriptions.specs.description_sizes.Sizes.{items}
+use Rattle.machine_parts.specs.Parts.{arrays_of, pins_of}
+use Rattle.lisa_lower.specs.description_sizes.Sizes.{items}
 use Rattle.lisa_lower.specs.description_weight.Weights.{weight}
 use Rattle.step_program.specs.Programs.{Program}
-use Rattle.lisa_lower.specs.netlist_rules.Sizes.{module_most}
+use Rattle.netlist_build.specs.netlist_rules.Sizes.{module_most}
 use Rattle.netlist_build.specs.Carried.{IsTextOf}
 use Rattle.lisa_lower.specs.Lowered.{IsLowered}
 use Rattle.checked_descriptions.specs.Checked.{Checked}

@@ -1,2 +1,2 @@
 pub mod Modules
-pub mod checked_descriptions
+pub use Rattle.checked_descriptions.specs as checked_descriptions

@@ -4,8 +4,8 @@ use Rattle.lisa_tree.specs.Descriptions.{DescriptionTree}
 use Rattle.lisa_engine.specs.Images.{IsImage, missing_memory}
 use Rattle.lisa_engine.specs.Memory.{Memory}
 use Rattle.lisa_engine.specs.Shape.{AreEntries}
-use Rattle.lisa_lower.specs.machine_parts.Parts.{arrays_of, pins_of}
-use Rattle.checked_descriptions.specs.description_sizes.Sizes.{items}
+use Rattle.machine_parts.specs.Parts.{arrays_of, pins_of}
+use Rattle.lisa_lower.specs.description_sizes.Sizes.{items}
 use Rattle.lisa_lower.specs.lisa_meaning.States.{state_of}
 use Rattle.lisa_lower.specs.description_weight.Weights.{weight}
 use Rattle.verilog_text.specs.Trees.{ModuleTree}

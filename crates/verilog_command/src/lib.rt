@@ -3,5 +3,4 @@
 
 mod writing;
 
-pub use checked_descriptions::checks_are_unique;
 pub use writing::write_verilog;

@@ -24,7 +24,7 @@ use Rattle.verilog_places.specs.Trees.{PlacedModuleTree, bare_module}
 use Rattle.verilog_places.specs.WidePlaces.{first_wide}
 use Rattle.verilog_places.proofs.BareSpellings.{module_bare}
 use Rattle.verilog_places.proofs.PlacedSpellings.{placed_module}
-use Rattle.verilog_expression_reader.specs.Past.{placed_toks}
+use Rattle.verilog_module_reader.specs.verilog_expression_reader.Past.{placed_toks}
 use Rattle.verilog_module_reader.specs.Answers.{IsModule, IsMiss, IsPlace}
 use Rattle.verilog_module_reader.proofs.ModuleLaws.{one_module, lexed_fit}
 use Rattle.verilog_reader.specs.Answers.{IsFault, IsRead, IsSameFault, IsRefused}

@@ -3,8 +3,8 @@ use Rattle.std.proofs.Common.{◌≡◌, ℕ, ◌+◌, ◌<◌, ◌≤◌, List,
 use Rattle.std.specs.Prelude.{flat_map}
 use Rattle.std.proofs.lemmas.Bool.{cases_lt}
 use Rattle.std.proofs.lemmas.List.{map-append}
-use Rattle.lisa_engine.specs.declared.parts.Item.{Item}
-use Rattle.lisa_engine.specs.declared.parts.ArrayItem.{ArrayItem}
+use Rattle.verilog_text.specs.lisa_engine.declared.parts.Item.{Item}
+use Rattle.verilog_text.specs.lisa_engine.declared.parts.ArrayItem.{ArrayItem}
 use Rattle.verilog_text.specs.Tokens.{VToks}
 use Rattle.verilog_text.specs.Trees as trees
 use Rattle.verilog_text.specs.Trees.{MemberTree, ModuleTree}

@@ -1,7 +1,7 @@
 -- Where nothing is the first that is too wide, everything is narrow.
 use Rattle.std.proofs.Common.{◌≡◌, ℕ, zero, suc, ◌+◌, ◌<◌, ◌≤◌, Bool, true, false, List, [], ◌∷◌, ◌++◌, length, map, get_or, refl, sym, subst, arith, Option, Some, None, nat_lt, if◌then◌else◌}
-use Rattle.lisa_engine.specs.declared.parts.Item.{Item}
-use Rattle.lisa_engine.specs.declared.parts.ArrayItem.{ArrayItem}
+use Rattle.verilog_text.specs.lisa_engine.declared.parts.Item.{Item}
+use Rattle.verilog_text.specs.lisa_engine.declared.parts.ArrayItem.{ArrayItem}
 use Rattle.verilog_text.specs.Tokens.{VToks}
 use Rattle.verilog_text.specs.Trees as trees
 use Rattle.verilog_text.specs.Trees.{VTree, VTrees, ActionTrees, MemberTree, joined}

@@ -11,3 +11,4 @@ pub mod Pieces
 pub mod WidePlaces
 pub mod Conditions
 pub mod Faults
+pub use Rattle.lisa_engine.specs as lisa_engine

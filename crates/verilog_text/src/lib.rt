@@ -11,6 +11,7 @@ mod tokens;
 
 pub use expressions::{VExpr, VOne};
 pub use faults::VerilogFault;
+pub use lisa_engine;
 pub use modules::{Action, Member, Module};
 pub use printer::print_module;
 pub use tokens::{VKeyword, VSign, VToken, VTokenPart};

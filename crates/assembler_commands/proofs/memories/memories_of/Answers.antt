@@ -3,8 +3,8 @@ use Rattle.std.specs.Prelude.{slice_index_or}
 use Rattle.std.proofs.lemmas.List.{take_all}
 use Rattle.lisa_engine.specs.declared.parts.ArrayItem.{ArrayItem}
 use Rattle.lisa_tree.specs.Descriptions.{description_tree}
-use Rattle.item_promises.specs.machine_parts.Parts.{arrays_of, memories_of}
-use Rattle.item_promises.proofs.machine_parts_proofs.Lengths.{arrays_told}
+use Rattle.machine_parts.specs.Parts.{arrays_of, memories_of}
+use Rattle.machine_parts.proofs.Lengths.{arrays_told}
 use Rattle.source_promises.specs.lisa_assembler.Memories.{marked, memory_items}
 use Rattle.lisa_linker.specs.Memories.{AreMemories}
 use Rattle.assembler_commands.proofs.MemoryRules.{memories_are, marked_more, all_marked}

@@ -1,6 +1,6 @@
 use Rattle.std.proofs.Common.{◌≡◌, take}
 use Rattle.lisa_tree.specs.Descriptions.{description_tree}
-use Rattle.item_promises.specs.machine_parts.Parts.{arrays_of, memories_of}
+use Rattle.machine_parts.specs.Parts.{arrays_of, memories_of}
 use Rattle.source_promises.specs.lisa_assembler.Memories.{marked}
 use Rattle.assembler_commands.proofs.memories.memories_of.Given as goal
 

@@ -1,6 +1,6 @@
 use Rattle.std.proofs.Common.{◌≡◌, drop}
 use Rattle.std.specs.List.{list_any}
-use Rattle.least_fixed_points.specs.Settles.{entry}
+use Rattle.description_types.specs.least_fixed_points.Settles.{entry}
 use Rattle.coding_checks.specs.Uneven.{is_too_wide}
 use Rattle.coding_checks.proofs.choices.any_too_wide.Given as goal
 

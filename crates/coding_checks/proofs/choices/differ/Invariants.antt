@@ -1,5 +1,5 @@
 use Rattle.std.proofs.Common.{◌≡◌, drop}
-use Rattle.least_fixed_points.specs.Settles.{entry}
+use Rattle.description_types.specs.least_fixed_points.Settles.{entry}
 use Rattle.coding_checks.specs.Uneven.{known_widths, differ}
 use Rattle.coding_checks.proofs.Differing.{differ_from}
 use Rattle.coding_checks.proofs.choices.differ.Given as goal

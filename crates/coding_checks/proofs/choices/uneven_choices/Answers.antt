@@ -1,7 +1,7 @@
 use Rattle.std.proofs.Common.{◌≡◌, ◌+◌, ℕ, Bool, false, List, length, get_or, ap, ◌∙◌, arith}
 use Rattle.std.proofs.lemmas.List.{length_push}
 use Rattle.lisa_tree.specs.Declarations.{choices, alternatives_at}
-use Rattle.least_fixed_points.specs.Settles.{entry}
+use Rattle.description_types.specs.least_fixed_points.Settles.{entry}
 use Rattle.coding_checks.specs.Uneven.{is_uneven}
 use Rattle.coding_checks.proofs.Tabled.{one_more, all_of, uneven_past}
 use Rattle.coding_checks.proofs.choices.uneven_choices.Goals as goal

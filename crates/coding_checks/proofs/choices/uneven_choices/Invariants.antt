@@ -1,6 +1,6 @@
 use Rattle.std.proofs.Common.{◌≡◌, ◌<◌, ℕ, false, length, get_or}
 use Rattle.lisa_tree.specs.Declarations.{alternatives_at}
-use Rattle.least_fixed_points.specs.Settles.{entry}
+use Rattle.description_types.specs.least_fixed_points.Settles.{entry}
 use Rattle.coding_checks.specs.Uneven.{is_uneven}
 use Rattle.coding_checks.proofs.choices.uneven_choices.Given as goal
 

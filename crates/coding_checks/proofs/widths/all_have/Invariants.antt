@@ -1,6 +1,6 @@
 use Rattle.std.proofs.Common.{◌≡◌, drop}
 use Rattle.std.specs.List.{list_all}
-use Rattle.least_fixed_points.specs.Settles.{entry}
+use Rattle.description_types.specs.least_fixed_points.Settles.{entry}
 use Rattle.coding_checks.specs.Widths.{has_width}
 use Rattle.coding_checks.proofs.widths.all_have.Given as goal
 

@@ -1,5 +1,5 @@
 use Rattle.std.proofs.Common.{◌≡◌, Some, drop}
-use Rattle.least_fixed_points.specs.Settles.{entry}
+use Rattle.description_types.specs.least_fixed_points.Settles.{entry}
 use Rattle.coding_checks.specs.Widths.{items_width}
 use Rattle.coding_checks.proofs.widths.items_width.Given as goal
 

@@ -1,5 +1,5 @@
 use Rattle.std.proofs.Common.{◌≡◌, ◌∙◌, Some, sym}
-use Rattle.least_fixed_points.specs.Settles.{entry}
+use Rattle.coding_checks.specs.least_fixed_points.Settles.{entry}
 use Rattle.coding_tables.specs.Instructions.{instruction_choice}
 use Rattle.coding_tables.proofs.Counted.{forms_told}
 use Rattle.coding_tables.proofs.counts.count_forms.Goals as goal

@@ -1,5 +1,5 @@
 use Rattle.std.proofs.Common.{◌≡◌, Some, drop}
-use Rattle.least_fixed_points.specs.Settles.{entry}
+use Rattle.coding_checks.specs.least_fixed_points.Settles.{entry}
 use Rattle.coding_tables.specs.Products.{items_forms}
 use Rattle.coding_tables.proofs.counts.items_forms.Given as goal
 

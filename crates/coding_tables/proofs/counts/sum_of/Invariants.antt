@@ -1,5 +1,5 @@
 use Rattle.std.proofs.Common.{◌≡◌, drop, Some}
-use Rattle.least_fixed_points.specs.Settles.{entry}
+use Rattle.coding_checks.specs.least_fixed_points.Settles.{entry}
 use Rattle.coding_tables.specs.Products.{summed}
 use Rattle.coding_tables.proofs.counts.sum_of.Given as goal
 

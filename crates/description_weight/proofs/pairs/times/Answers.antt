@@ -1,7 +1,7 @@
 use Rattle.std.proofs.Common.{◌≡◌, ◌<◌, ◌+◌, ◌∙◌, ℕ, get_or, length, drop, ap, sym, subst, arith}
 use Rattle.std.specs.Prelude.{sum_by}
 use Rattle.std.proofs.lemmas.List.{length-set}
-use Rattle.description_sizes.specs.activation_trees.declared.parts.Occurrence.{Occurrence}
+use Rattle.activation_trees.specs.declared.parts.Occurrence.{Occurrence}
 use Rattle.access_counts.specs.Ledgers.{capped, worth}
 use Rattle.access_counts.proofs.Worth.{starts, any_default}
 use Rattle.description_weight.proofs.Counting.{passed}

@@ -2,9 +2,9 @@ use Rattle.std.proofs.Common.{◌≡◌, ◌+◌, ◌*◌, ◌∙◌, ℕ, List,
 use Rattle.lisa_tree.specs.Descriptions.{DescriptionTree, description_tree}
 use Rattle.lisa_tree.specs.Resources.{stages}
 use Rattle.description_graph.specs.Circles.{IsFirstCircularOperation}
-use Rattle.lisa_forms.proofs.lisa_machine_proofs.Sound.{sound}
-use Rattle.description_sizes.specs.activation_trees.declared.parts.Occurrence.{Occurrence}
-use Rattle.description_sizes.specs.activation_trees.Unfolding.{occurrences}
+use Rattle.activation_trees.proofs.lisa_machine_proofs.Sound.{sound}
+use Rattle.activation_trees.specs.declared.parts.Occurrence.{Occurrence}
+use Rattle.activation_trees.specs.Unfolding.{occurrences}
 use Rattle.access_counts.specs.Ledgers.{capped}
 use Rattle.description_weight.specs.Weights.{unfolded_nodes, pairs}
 use Rattle.description_weight.proofs.Parts.{weighed}

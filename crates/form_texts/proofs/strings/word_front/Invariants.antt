@@ -1,6 +1,6 @@
 use Rattle.std.proofs.Common.{◌≡◌, true, take}
 use Rattle.std.specs.List.{list_all}
-use Rattle.asm_source.specs.Bytes.{is_word}
+use Rattle.instruction_texts.specs.asm_source.Bytes.{is_word}
 use Rattle.form_texts.proofs.strings.word_front.Given as goal
 
 abbrev pub invariant-loop-place : goal.invariant-loop-place

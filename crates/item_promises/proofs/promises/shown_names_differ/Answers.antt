@@ -1,6 +1,6 @@
 use Rattle.use_promises.proofs.lisa_machine_proofs.Sound.{sound}
 use Rattle.use_promises.proofs.lisa_machine_proofs.Distinct.{stages_distinct, fields_distinct}
-use Rattle.lisa_forms.proofs.spelled_promises_proofs.Outer.{well_formed}
+use Rattle.spelled_promises.proofs.Outer.{well_formed}
 use Rattle.use_promises.proofs.Shown.{shown_fits}
 use Rattle.item_promises.proofs.Named.{names_differ}
 use Rattle.item_promises.proofs.Wide.{limited}

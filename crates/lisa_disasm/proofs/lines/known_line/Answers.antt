@@ -2,8 +2,8 @@ use Rattle.std.proofs.Common.{◌≡◌, ◌∙◌, ◌++◌, ◌∷◌, [], ℕ
 use Rattle.std.specs.Global.{Vec}
 use Rattle.lisa_tree.specs.Descriptions.{DescriptionTree}
 use Rattle.instruction_trees.specs.Trees.{Tree}
-use Rattle.lisa_syntax.specs.form_patterns.Filled.{IsInstruction}
-use Rattle.lisa_syntax.proofs.form_patterns_proofs.Filling.{its_values}
+use Rattle.form_patterns.specs.Filled.{IsInstruction}
+use Rattle.form_patterns.proofs.Filling.{its_values}
 use Rattle.lisa_syntax.specs.lisa_forms.Codings.{IsCodingOf, IsOneTreeOf}
 use Rattle.lisa_syntax.specs.Parts.{IsSyntaxOf}
 use Rattle.lisa_disasm.specs.Listings.{instruction_line, IsInstructionLine, known}

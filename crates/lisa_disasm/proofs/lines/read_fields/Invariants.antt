@@ -1,9 +1,9 @@
 use Rattle.std.proofs.Common.{◌≡◌, ◌<◌, take, map}
 use Rattle.lisa_tree.specs.Descriptions.{DescriptionTree}
 use Rattle.instruction_trees.specs.Trees.{slice}
-use Rattle.lisa_syntax.specs.coding_tables.Instructions.{forms_of, form_count}
+use Rattle.coding_tables.specs.Instructions.{forms_of, form_count}
 use Rattle.pattern_tables.specs.Instructions.{form_at}
-use Rattle.lisa_syntax.specs.form_patterns.Instructions.{field_places}
+use Rattle.form_patterns.specs.Instructions.{field_places}
 use Rattle.lisa_syntax.specs.lisa_forms.Codings.{IsCodingOf}
 use Rattle.lisa_disasm.proofs.lines.read_fields.Given as goal
 

@@ -1,6 +1,6 @@
 use Rattle.std.proofs.Common.{◌∙◌, ℕ, List, Option, ap, sym, subst}
 use Rattle.std.specs.List.{flat_map}
-use Rattle.lisa_syntax.specs.instruction_forms.Widths.{HasWidth}
+use Rattle.form_patterns.specs.instruction_forms.Widths.{HasWidth}
 use Rattle.lisa_engine.specs.Memory.{Memory}
 use Rattle.lisa_engine.proofs.TraceTexts.{unless_over}
 use Rattle.lisa_object.specs.Texts.{text_of}

@@ -2,7 +2,7 @@ use Rattle.std.proofs.Common.{◌≡◌, ◌∙◌, ap, false}
 use Rattle.std.specs.Option.{is_some}
 use Rattle.lisa_tree.specs.Descriptions.{DescriptionTree}
 use Rattle.description_places.specs.Places.{first, description_places}
-use Rattle.shape_checks.specs.Shapes.{bad_width}
+use Rattle.machine_parts.specs.shape_checks.Shapes.{bad_width}
 use Rattle.lisa_machine.specs.Verdicts.{at_places, from_depths}
 use Rattle.lisa_machine.proofs.Steps.{past}
 use Rattle.lisa_machine.proofs.firsts.from_widths.Goals as goal

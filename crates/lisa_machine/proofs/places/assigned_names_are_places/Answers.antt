@@ -1,9 +1,9 @@
 use Rattle.std.proofs.Common.{subst}
-use Rattle.description_types.specs.Tables.{Known}
+use Rattle.kind_checks.specs.description_types.Tables.{Known}
 use Rattle.kind_checks.specs.WrongKinds.{wrong_kind}
 use Rattle.lisa_machine.specs.Freedom.{IsFree}
 use Rattle.lisa_machine.proofs.Sound.{sound}
-use Rattle.description_types.proofs.OneKnown.{one_known}
+use Rattle.kind_checks.proofs.description_types_proofs.OneKnown.{one_known}
 use Rattle.lisa_machine.proofs.Falling.{node_ranks}
 use Rattle.lisa_machine.proofs.Assigned.{written, child_yes, reference_yes, operation_yes}
 use Rattle.lisa_machine.proofs.places.assigned_names_are_places.Goals as goal

@@ -1,9 +1,9 @@
 use Rattle.std.proofs.Common.{subst}
-use Rattle.description_types.specs.Tables.{Known}
+use Rattle.kind_checks.specs.description_types.Tables.{Known}
 use Rattle.kind_checks.specs.WrongKinds.{wrong_kind}
 use Rattle.lisa_machine.specs.Freedom.{IsFree}
 use Rattle.lisa_machine.proofs.Sound.{sound}
-use Rattle.description_types.proofs.OneKnown.{one_known}
+use Rattle.kind_checks.proofs.description_types_proofs.OneKnown.{one_known}
 use Rattle.lisa_machine.proofs.Falling.{node_ranks}
 use Rattle.lisa_machine.proofs.Resolved.{readable, writable, read_element, written_element, executes_pipe, shifts_pipe}
 use Rattle.lisa_machine.proofs.resolving.names_resolve.Goals as goal

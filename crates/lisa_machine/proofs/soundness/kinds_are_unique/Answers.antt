@@ -1,4 +1,4 @@
-use Rattle.description_types.proofs.OneKnown.{one_known}
+use Rattle.kind_checks.proofs.description_types_proofs.OneKnown.{one_known}
 use Rattle.lisa_machine.proofs.soundness.kinds_are_unique.Goals as goal
 
 pub returns : goal.returns

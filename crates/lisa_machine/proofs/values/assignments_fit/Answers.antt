@@ -1,9 +1,9 @@
 use Rattle.std.proofs.Common.{subst}
-use Rattle.description_types.specs.Tables.{Known}
+use Rattle.kind_checks.specs.description_types.Tables.{Known}
 use Rattle.kind_checks.specs.Narrowings.{narrowing}
 use Rattle.lisa_machine.specs.Freedom.{IsFree}
 use Rattle.lisa_machine.proofs.Sound.{sound}
-use Rattle.description_types.proofs.OneKnown.{one_known}
+use Rattle.kind_checks.proofs.description_types_proofs.OneKnown.{one_known}
 use Rattle.lisa_machine.proofs.Narrowed.{assigned_fits, local_fits}
 use Rattle.lisa_machine.proofs.values.assignments_fit.Goals as goal
 

@@ -1,9 +1,9 @@
 use Rattle.std.proofs.Common.{subst}
-use Rattle.description_types.specs.Tables.{Known}
+use Rattle.kind_checks.specs.description_types.Tables.{Known}
 use Rattle.kind_checks.specs.WrongKinds.{wrong_kind}
 use Rattle.lisa_machine.specs.Freedom.{IsFree}
 use Rattle.lisa_machine.proofs.Sound.{sound}
-use Rattle.description_types.proofs.OneKnown.{one_known}
+use Rattle.kind_checks.proofs.description_types_proofs.OneKnown.{one_known}
 use Rattle.lisa_machine.proofs.Falling.{node_ranks}
 use Rattle.lisa_machine.proofs.Typing.{all_declared, expression_typed, target_typed, operation_typed}
 use Rattle.lisa_machine.proofs.values.expressions_have_types.Goals as goal

@@ -1,5 +1,5 @@
 use Rattle.std.proofs.Common.{[]}
-use Rattle.scene_paths.specs.description_sizes.Texts.{levels}
+use Rattle.lowered_resources.specs.description_sizes.Texts.{levels}
 use Rattle.lowered_behaviors.proofs.Doing.{behavior_formed}
 use Rattle.lowered_behaviors.proofs.laws.behaviors_are_formed.Goals as goal
 

@@ -1,4 +1,4 @@
-use Rattle.scene_paths.specs.description_sizes.Texts.{levels}
+use Rattle.lowered_resources.specs.description_sizes.Texts.{levels}
 use Rattle.lowered_behaviors.proofs.Resting.{behavior_rests}
 use Rattle.lowered_behaviors.proofs.Doing.{behavior_does}
 use Rattle.lowered_behaviors.proofs.laws.behaviors_do.Goals as goal

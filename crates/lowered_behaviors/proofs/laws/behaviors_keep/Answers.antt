@@ -1,4 +1,4 @@
-use Rattle.scene_paths.specs.description_sizes.Texts.{levels}
+use Rattle.lowered_resources.specs.description_sizes.Texts.{levels}
 use Rattle.lowered_behaviors.proofs.Keeping.{behavior_keeps}
 use Rattle.lowered_behaviors.proofs.laws.behaviors_keep.Goals as goal
 

@@ -2,7 +2,7 @@ use Rattle.std.proofs.Common.{◌∙◌, refl, ap}
 use Rattle.step_program.specs.Programs.{Expr, Temp}
 use Rattle.step_pieces.specs.Pieces.{held}
 use Rattle.step_pieces.specs.Drafts.{piece_of}
-use Rattle.lowered_behaviors.specs.coding_tables.Instructions.{first_root}
+use Rattle.coding_tables.specs.Instructions.{first_root}
 use Rattle.lowered_behaviors.specs.scene_paths.Lookups.{tree_of}
 use Rattle.lowered_values.specs.Code.{plain}
 use Rattle.lowered_layouts.specs.Code.{positions_tree}

@@ -1,5 +1,5 @@
-use Rattle.state_items.proofs.lisa_machine_proofs.Sound.{sound}
-use Rattle.state_items.proofs.lisa_machine_proofs.Forward.{onward, main_is}
+use Rattle.lisa_machine.proofs.Sound.{sound}
+use Rattle.lisa_machine.proofs.Forward.{onward, main_is}
 use Rattle.pipeline_time.proofs.Tree.{level_within}
 use Rattle.state_items.specs.lisa_meaning.Cores.{core_of}
 use Rattle.state_items.proofs.lisa_meaning_proofs.Back.{controls_back}

@@ -1,7 +1,7 @@
 use Rattle.std.proofs.Common.{rules, ◌≡◌, sym, ap, ◌∙◌}
 use Rattle.lisa_tree.specs.Expressions as exprs
 use Rattle.lisa_tree.specs.Expressions.{ExprTree, expr_tree}
-use Rattle.description_places.specs.Literals.{literal}
+use Rattle.typed_values.specs.description_places.Literals.{literal}
 use Rattle.step_pieces.specs.Pieces.{behind, top}
 use Rattle.lowered_values.specs.Templates.{made_by, chosen_by}
 use Rattle.lowered_values.specs.Computed.{computed}

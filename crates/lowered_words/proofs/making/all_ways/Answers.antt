@@ -1,5 +1,5 @@
 use Rattle.std.proofs.Common.{◌≡◌, ◌<◌, ◌∙◌, ◌+◌, List, length, true, false, refl, sym, ap, subst, arith}
-use Rattle.instruction_forms.specs.coding_tables.Instructions.{forms_of}
+use Rattle.coding_tables.specs.Instructions.{forms_of}
 use Rattle.instruction_forms.specs.declared.form.Form.{Form}
 use Rattle.instruction_forms.specs.declared.form.Form.TheViews.{out-Form}
 use Rattle.instruction_forms.specs.Described.{AreForms}

@@ -2,7 +2,7 @@ use Rattle.std.proofs.Common.{suc, subst}
 use Rattle.description_types.specs.Tables.{Known}
 use Rattle.description_types.specs.Types.{type_of}
 use Rattle.description_types.proofs.OneKnown.{one_known}
-use Rattle.lisa_meaning.proofs.lisa_machine_proofs.Sound.{sound}
+use Rattle.lisa_machine.proofs.Sound.{sound}
 use Rattle.lisa_meaning.specs.description_sizes.Texts.{levels}
 use Rattle.lisa_meaning.specs.Effects.{Given, put_within}
 use Rattle.lisa_meaning.specs.Scenes.{running}

@@ -3,7 +3,7 @@ use Rattle.description_places.specs.declared.sites.Region.TheVariants as regions
 use Rattle.description_types.specs.Tables.{Known}
 use Rattle.description_types.specs.Types.{type_of}
 use Rattle.description_types.proofs.OneKnown.{one_known}
-use Rattle.lisa_meaning.proofs.lisa_machine_proofs.Sound.{sound}
+use Rattle.lisa_machine.proofs.Sound.{sound}
 use Rattle.lisa_meaning.specs.Scenes.{running}
 use Rattle.lisa_meaning.specs.Values.{reader_of}
 use Rattle.meaning_promises.proofs.Cutting.{assigned_low, local_low}

@@ -1,4 +1,4 @@
-use Rattle.lisa_meaning.proofs.lisa_machine_proofs.Sound.{sound}
+use Rattle.lisa_machine.proofs.Sound.{sound}
 use Rattle.lisa_meaning.proofs.use_promises_proofs.Shown.{shown_fits}
 use Rattle.lisa_meaning.specs.States.{first_contents, after_edges}
 use Rattle.lisa_meaning.proofs.Shaped.{first_stored, stored_after}

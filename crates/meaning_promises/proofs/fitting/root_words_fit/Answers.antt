@@ -1,4 +1,4 @@
-use Rattle.lisa_meaning.proofs.lisa_machine_proofs.Sound.{sound}
+use Rattle.lisa_machine.proofs.Sound.{sound}
 use Rattle.meaning_promises.proofs.RootWords.{fetched_low}
 use Rattle.meaning_promises.proofs.fitting.root_words_fit.Goals as goal
 

@@ -1,4 +1,4 @@
-use Rattle.lisa_meaning.proofs.lisa_machine_proofs.Sound.{sound}
+use Rattle.lisa_machine.proofs.Sound.{sound}
 use Rattle.meaning_promises.proofs.Meant.{called_child, read_child, written_child}
 use Rattle.meaning_promises.proofs.scenes.children_are_chosen.Goals as goal
 

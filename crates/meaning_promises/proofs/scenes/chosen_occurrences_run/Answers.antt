@@ -1,5 +1,5 @@
-use Rattle.lisa_meaning.proofs.lisa_machine_proofs.Forward.{onward, main_is}
-use Rattle.lisa_meaning.proofs.lisa_machine_proofs.Sound.{sound}
+use Rattle.lisa_machine.proofs.Forward.{onward, main_is}
+use Rattle.lisa_machine.proofs.Sound.{sound}
 use Rattle.lisa_meaning.proofs.Nodes.{listed, no_stage}
 use Rattle.lisa_meaning.proofs.Roots.{root_one}
 use Rattle.meaning_promises.proofs.Occurring.{occurrence_runs, one_root}

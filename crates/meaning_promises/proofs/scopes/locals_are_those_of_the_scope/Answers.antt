@@ -1,4 +1,4 @@
-use Rattle.lisa_meaning.proofs.lisa_machine_proofs.Sound.{sound}
+use Rattle.lisa_machine.proofs.Sound.{sound}
 use Rattle.lisa_meaning.specs.Scenes.{running}
 use Rattle.meaning_promises.proofs.Stepping.{locals_behind, locals_behind_all}
 use Rattle.meaning_promises.proofs.scopes.locals_are_those_of_the_scope.Goals as goal

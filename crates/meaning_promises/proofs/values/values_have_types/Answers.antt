@@ -2,8 +2,8 @@ use Rattle.std.proofs.Common.{subst}
 use Rattle.description_types.specs.Tables.{Known}
 use Rattle.description_types.specs.Types.{type_of}
 use Rattle.description_types.proofs.OneKnown.{one_known}
-use Rattle.lisa_meaning.proofs.lisa_machine_proofs.Resolved.{cast_fits}
-use Rattle.lisa_meaning.proofs.lisa_machine_proofs.Sound.{sound}
+use Rattle.lisa_machine.proofs.Resolved.{cast_fits}
+use Rattle.lisa_machine.proofs.Sound.{sound}
 use Rattle.lisa_meaning.specs.Scenes.{running}
 use Rattle.lisa_meaning.specs.Values.{reader_of, value_of}
 use Rattle.meaning_promises.specs.Typing.{IsTypedBy, ReadsTyped}

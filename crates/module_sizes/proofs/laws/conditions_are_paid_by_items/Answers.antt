@@ -1,5 +1,5 @@
 use Rattle.lisa_machine.proofs.Sound.{sound}
-use Rattle.description_weight.specs.coding_tables.Instructions.{form_count}
+use Rattle.coding_tables.specs.Instructions.{form_count}
 use Rattle.module_sizes.proofs.Owning.{spares_low}
 use Rattle.module_sizes.proofs.Paid.{tests_paid}
 use Rattle.module_sizes.proofs.laws.conditions_are_paid_by_items.Goals as goal

@@ -1,5 +1,5 @@
 use Rattle.std.proofs.Common.{arith}
-use Rattle.description_weight.specs.description_sizes.Texts.{levels}
+use Rattle.description_sizes.specs.Texts.{levels}
 use Rattle.lisa_machine.proofs.Sound.{sound}
 use Rattle.lowered_edges.specs.lowered_behaviors.Standpoints.{running}
 use Rattle.module_sizes.specs.Standing.{IsStood}

@@ -1,6 +1,6 @@
 use Rattle.std.proofs.Common.{arith}
 use Rattle.std.proofs.lemmas.List.Elements.{recursion_from_All}
-use Rattle.description_weight.specs.coding_tables.Instructions.{form_count}
+use Rattle.coding_tables.specs.Instructions.{form_count}
 use Rattle.lisa_machine.proofs.Sound.{sound}
 use Rattle.spelled_promises.proofs.Outer.{well_formed}
 use Rattle.step_program.specs.WellFormed.{IsMove}

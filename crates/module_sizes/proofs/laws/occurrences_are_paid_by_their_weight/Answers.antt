@@ -1,5 +1,5 @@
 use Rattle.lisa_machine.proofs.Sound.{sound}
-use Rattle.description_weight.specs.coding_tables.Instructions.{form_count}
+use Rattle.coding_tables.specs.Instructions.{form_count}
 use Rattle.module_sizes.proofs.Paid.{nodes_summed, behaviors_paid, accesses_summed}
 use Rattle.module_sizes.proofs.laws.occurrences_are_paid_by_their_weight.Goals as goal
 

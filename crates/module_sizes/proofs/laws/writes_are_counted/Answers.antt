@@ -1,5 +1,5 @@
 use Rattle.lisa_machine.proofs.Sound.{sound}
-use Rattle.description_weight.specs.coding_tables.Instructions.{form_count}
+use Rattle.coding_tables.specs.Instructions.{form_count}
 use Rattle.lowered_edges.specs.Programs.{word_width, edge_program}
 use Rattle.module_sizes.proofs.Written.{writes_low}
 use Rattle.module_sizes.proofs.laws.writes_are_counted.Goals as goal

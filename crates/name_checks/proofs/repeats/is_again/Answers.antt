@@ -1,5 +1,5 @@
 use Rattle.std.proofs.Common.{◌≡◌, ◌∙◌, Bool, true, false, not, refl, sym, ap, Bor, [], ◌∷◌, ◌++◌, map, if◌then◌else◌}
-use Rattle.lisa_words.specs.declared.names.Name.{Name}
+use Rattle.lisa_tree.specs.lisa_words.declared.names.Name.{Name}
 use Rattle.std.specs.List.{list_any}
 use Rattle.std.proofs.lemmas.List.{map-append}
 use Rattle.lisa_tree.specs.Same.{same_name}

@@ -1,5 +1,5 @@
 use Rattle.std.proofs.Common.{◌≡◌, ◌+◌, ◌∙◌, Some, length, sym, ap, subst, arith}
-use Rattle.scene_paths.specs.coding_tables.Instructions.{form_count}
+use Rattle.coding_tables.specs.Instructions.{form_count}
 use Rattle.scene_paths.specs.Lookups.{tree_of}
 use Rattle.scene_paths.proofs.Decoding.{forms_counted}
 use Rattle.occurrence_choices.specs.Standings.{HasStandings}

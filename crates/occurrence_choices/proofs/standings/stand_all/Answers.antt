@@ -1,6 +1,6 @@
 use Rattle.std.proofs.Common.{◌≤◌, ◌∙◌, List, length, sym, ap, subst, arith}
-use Rattle.scene_paths.specs.activation_trees.declared.parts.Occurrence.{Occurrence}
-use Rattle.scene_paths.specs.activation_trees.Unfolding.{occurrences}
+use Rattle.activation_trees.specs.declared.parts.Occurrence.{Occurrence}
+use Rattle.activation_trees.specs.Unfolding.{occurrences}
 use Rattle.scene_paths.specs.instruction_forms.Trees.{FormTree}
 use Rattle.scene_paths.specs.lisa_forms.Choosing.{numbered_form}
 use Rattle.scene_paths.specs.lisa_meaning.Standings.{standing}

@@ -1,5 +1,5 @@
 use Rattle.std.proofs.Common.{◌∙◌, None, false, get_or, ap}
-use Rattle.scene_paths.specs.activation_trees.declared.parts.Occurrence.{Occurrence}
+use Rattle.activation_trees.specs.declared.parts.Occurrence.{Occurrence}
 use Rattle.scene_paths.specs.Parts.{part_tree}
 use Rattle.occurrence_choices.specs.Standings.{activation, told, way_in}
 use Rattle.occurrence_choices.proofs.Activating.{listed}

@@ -1,9 +1,9 @@
 use Rattle.std.proofs.Common.{rules, ◌<◌, ◌∙◌, List, None, Some, false, length, get_or, sym, ap, subst, arith}
 use Rattle.std.specs.Prelude.{slice_get}
 use Rattle.std.proofs.lemmas.Option.{slice_get-get_or}
-use Rattle.scene_paths.specs.activation_trees.declared.parts.Occurrence.{Occurrence}
-use Rattle.scene_paths.specs.activation_trees.Unfolding.{occurrences}
-use Rattle.scene_paths.specs.activation_trees.Places.{ArePlaces}
+use Rattle.activation_trees.specs.declared.parts.Occurrence.{Occurrence}
+use Rattle.activation_trees.specs.Unfolding.{occurrences}
+use Rattle.activation_trees.specs.Places.{ArePlaces}
 use Rattle.scene_paths.specs.Lookups.{tree_of}
 use Rattle.scene_paths.specs.lisa_forms.Ways.{by_name}
 use Rattle.occurrence_choices.specs.Standings.{all_rows}

@@ -1,4 +1,4 @@
-use Rattle.item_promises.proofs.lisa_machine_proofs.Sound.{sound}
+use Rattle.lisa_machine.proofs.Sound.{sound}
 use Rattle.item_promises.specs.coding_tables.Instructions.{form_count}
 use Rattle.touch_promises.proofs.Limited.{behaves_few}
 use Rattle.touch_promises.proofs.writing.behaviors_write_few_cells.Goals as goal

@@ -5,7 +5,7 @@ use Rattle.verilog_text.specs.Faults.{VAccepts, too_deep}
 use Rattle.verilog_text.specs.Lexing.{Lexes}
 use Rattle.verilog_text.specs.Trees.{ModuleTree}
 use Rattle.verilog_places.specs.Trees.{bare_module, placed_module}
-use Rattle.verilog_expression_reader.specs.Past.{placed_toks}
+use Rattle.verilog_module_reader.specs.verilog_expression_reader.Past.{placed_toks}
 use Rattle.verilog_module_reader.proofs.ModuleLaws.{lexed_fit}
 use Rattle.verilog_reader.proofs.ClockLaws.{has_one_clock}
 use Rattle.verilog_reader.proofs.TextLaws.{token_fault, missed_fault, names_fault, sizes_fault, accepted}

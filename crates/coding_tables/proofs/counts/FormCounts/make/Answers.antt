@@ -1,4 +1,4 @@
-use Rattle.least_fixed_points.specs.Settles.{entry}
+use Rattle.coding_checks.specs.least_fixed_points.Settles.{entry}
 use Rattle.coding_tables.proofs.Counted.{are_counts}
 use Rattle.coding_tables.proofs.counts.FormCounts.make.Goals as goal
 

@@ -1,8 +1,8 @@
 use Rattle.std.proofs.Common.{◌<◌, ◌++◌, ◌∷◌, [], ℕ, List, length, sym, ap, ◌∙◌, subst, arith}
 use Rattle.std.proofs.lemmas.List.{append_assoc}
 use Rattle.lisa_tree.specs.Descriptions.{description_tree}
-use Rattle.lisa_syntax.specs.form_patterns.Filled.{AreValuesOf, IsInstruction}
-use Rattle.lisa_syntax.proofs.form_patterns_proofs.Rowed.{rows_counted}
+use Rattle.form_patterns.specs.Filled.{AreValuesOf, IsInstruction}
+use Rattle.form_patterns.proofs.Rowed.{rows_counted}
 use Rattle.generated_programs.specs.Draws.{next_tree}
 use Rattle.generated_programs.proofs.Drawn.{row_of, line_behind, line_is, line_are}
 use Rattle.generated_programs.proofs.choices.Choices.put_line.Goals as goal

@@ -1,7 +1,7 @@
 use Rattle.std.proofs.Common.{◌≡◌, ℕ, suc, List, ap, subst, ◌∙◌}
 use Rattle.std.specs.Prelude.{IfOk, OnOk}
 use Rattle.lisa_tree.specs.Expressions.{expr_tree}
-use Rattle.scene_paths.specs.description_sizes.Texts.{levels}
+use Rattle.lowered_resources.specs.description_sizes.Texts.{levels}
 use Rattle.lowered_values.specs.Code.{plain}
 use Rattle.lowered_statements.specs.Code.{Adds, base, scope_of}
 use Rattle.lowered_behaviors.specs.declared.positions.Position.{Position}

@@ -1,5 +1,5 @@
 use Rattle.std.proofs.Common.{◌≡◌, ◌<◌, ◌∙◌, ◌+◌, length, true, false, sym, subst, arith}
-use Rattle.instruction_forms.specs.coding_tables.Instructions.{forms_of}
+use Rattle.coding_tables.specs.Instructions.{forms_of}
 use Rattle.scene_paths.specs.form_patterns.Instructions.{instruction_plain}
 use Rattle.step_pieces.specs.declared.drafts.Draft.{Draft}
 use Rattle.lowered_time.specs.Pieces.{steps}

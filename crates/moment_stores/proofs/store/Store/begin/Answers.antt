@@ -1,6 +1,6 @@
 use Rattle.std.proofs.Common.{◌∙◌, ℕ, List, subst, sym, ap}
 use Rattle.lisa_engine.specs.Shape.{IsFitting}
-use Rattle.lisa_meaning.specs.machine_parts.Parts.{pins_of, registers_of}
+use Rattle.machine_parts.specs.Parts.{pins_of, registers_of}
 use Rattle.lisa_meaning.specs.Moments.{Outs}
 use Rattle.moment_stores.specs.Rows.{rows}
 use Rattle.moment_stores.specs.Fitting.{FieldsFit, OutsFit}

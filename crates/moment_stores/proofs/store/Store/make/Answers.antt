@@ -4,7 +4,7 @@ use Rattle.lisa_engine.specs.Images.{first_cells}
 use Rattle.lisa_engine.specs.declared.parts.ArrayItem.{ArrayItem}
 use Rattle.lisa_tree.specs.Descriptions.{description_tree}
 use Rattle.lisa_engine.specs.Shape.{AreCells, IsFitting}
-use Rattle.lisa_meaning.specs.machine_parts.Parts.{first_values, pins_of, registers_of}
+use Rattle.machine_parts.specs.Parts.{first_values, pins_of, registers_of}
 use Rattle.lisa_meaning.specs.Moments.{Outs, by_boundaries}
 use Rattle.lisa_meaning.proofs.Shown.{arrays_distinct, registers_fit}
 use Rattle.moment_stores.specs.Rows.{rows}

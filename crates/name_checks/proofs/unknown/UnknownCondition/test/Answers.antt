@@ -1,5 +1,5 @@
 use Rattle.std.proofs.Common.{◌≡◌, inl, inr, subst, Bor}
-use Rattle.lisa_words.specs.declared.names.Name.{Name}
+use Rattle.lisa_tree.specs.lisa_words.declared.names.Name.{Name}
 use Rattle.description_places.specs.declared.sites.Site.{Site}
 use Rattle.description_places.specs.Places.{place_of}
 use Rattle.name_checks.specs.Unknown.{name_unknown, part_unknown, control_unknown, unknown}

@@ -1,7 +1,7 @@
 use Rattle.std.proofs.Common.{List, length, ap, subst, ◌∙◌}
 use Rattle.lisa_tree.specs.Descriptions.{DescriptionTree, description_tree}
-use Rattle.scene_paths.specs.activation_trees.declared.parts.Occurrence.{Occurrence}
-use Rattle.scene_paths.specs.activation_trees.Unfolding.{occurrences}
+use Rattle.activation_trees.specs.declared.parts.Occurrence.{Occurrence}
+use Rattle.activation_trees.specs.Unfolding.{occurrences}
 use Rattle.scene_paths.specs.lisa_forms.Parts.{AreFormsOf}
 use Rattle.scene_paths.proofs.Decoding.{found_is, decoded_within}
 use Rattle.occurrence_choices.specs.Choices.{AreRows}

@@ -1,6 +1,6 @@
 use Rattle.std.proofs.Common.{map, subst, ap₂}
 use Rattle.std.specs.Prelude.{IfSome}
-use Rattle.asm_source.specs.Plain.{token_tree}
+use Rattle.instruction_texts.specs.asm_source.Plain.{token_tree}
 use Rattle.text_tables.specs.Misfits.{IsMisfit}
 use Rattle.text_tables.specs.Parts.{all_pieces, text_pieces}
 use Rattle.text_tables.proofs.Aliking.{shared_misfit}

@@ -1,5 +1,5 @@
 use Rattle.std.proofs.Common.{map, ◌∙◌, arith}
-use Rattle.asm_source.specs.Plain.{token_tree}
+use Rattle.instruction_texts.specs.asm_source.Plain.{token_tree}
 use Rattle.text_tables.proofs.Tried.{goes_on, is_form, all_looked_at}
 use Rattle.text_tables.proofs.table.TextTable.read.Goals as goal
 

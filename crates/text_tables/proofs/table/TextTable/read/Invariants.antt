@@ -1,5 +1,5 @@
 use Rattle.std.specs.Prelude.{map, take, IfSome}
-use Rattle.asm_source.specs.Plain.{token_tree}
+use Rattle.instruction_texts.specs.asm_source.Plain.{token_tree}
 use Rattle.text_tables.specs.Misfits.{IsMisfit}
 use Rattle.text_tables.specs.Reading.{IsFoundAmong}
 use Rattle.text_tables.proofs.table.TextTable.read.Given as goal

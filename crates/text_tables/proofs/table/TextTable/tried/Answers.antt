@@ -1,5 +1,5 @@
 use Rattle.std.proofs.Common.{map, sym, ap₂, ◌∙◌}
-use Rattle.asm_source.specs.Plain.{token_tree}
+use Rattle.instruction_texts.specs.asm_source.Plain.{token_tree}
 use Rattle.text_tables.specs.Parts.{text_pieces}
 use Rattle.text_tables.proofs.Aliking.{misfit_is_none}
 use Rattle.text_tables.proofs.OneMore.{passed}

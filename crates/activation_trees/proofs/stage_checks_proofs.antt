@@ -1,1 +1,0 @@
-pub use Rattle.stage_checks.proofs.Nodes

@@ -1,1 +1,0 @@
-pub use Rattle.checked_descriptions.proofs.Listed

@@ -1,1 +1,0 @@
-pub use Rattle.item_promises.specs.description_sizes.Sizes

@@ -1,2 +1,0 @@
-pub use Rattle.item_promises.specs.lisa_machine.Machines
-pub use Rattle.item_promises.specs.lisa_machine.Verdicts

@@ -1,1 +1,0 @@
-pub use Rattle.object_links.specs.LineNames

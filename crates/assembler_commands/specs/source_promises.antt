@@ -1,1 +1,0 @@
-pub use Rattle.source_promises.specs.Programs

@@ -1,1 +1,0 @@
-pub use Rattle.lisa_syntax.specs.coding_tables.Instructions

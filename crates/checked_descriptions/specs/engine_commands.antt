@@ -1,1 +1,0 @@
-pub use Rattle.engine_commands.specs.Images

@@ -1,1 +1,0 @@
-pub use Rattle.lisa_syntax.specs.Texts

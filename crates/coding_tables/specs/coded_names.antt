@@ -1,1 +1,0 @@
-pub use Rattle.coded_names.specs.Codings

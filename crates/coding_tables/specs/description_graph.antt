@@ -1,1 +1,0 @@
-pub use Rattle.description_graph.specs.Circles

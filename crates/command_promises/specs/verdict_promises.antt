@@ -1,1 +1,0 @@
-pub use Rattle.verdict_promises.specs.Firsts

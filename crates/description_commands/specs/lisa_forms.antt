@@ -1,1 +1,0 @@
-pub use Rattle.lisa_sim.specs.lisa_forms.Verdicts

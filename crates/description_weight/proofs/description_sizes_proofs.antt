@@ -1,4 +1,0 @@
-pub use Rattle.description_sizes.proofs.Chosen
-pub use Rattle.description_sizes.proofs.Rising
-pub use Rattle.description_sizes.proofs.Sums
-pub use Rattle.description_sizes.proofs.Within

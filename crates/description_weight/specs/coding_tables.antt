@@ -1,1 +1,0 @@
-pub use Rattle.instruction_forms.specs.coding_tables.Instructions

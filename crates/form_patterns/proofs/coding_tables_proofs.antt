@@ -1,1 +1,0 @@
-pub use Rattle.instruction_forms.proofs.coding_tables_proofs.Heights

@@ -1,2 +1,0 @@
-pub use Rattle.instruction_forms.proofs.Whole
-pub use Rattle.instruction_forms.proofs.Wide

@@ -1,1 +1,0 @@
-pub use Rattle.form_texts.specs.instruction_texts.Symbols

@@ -1,1 +1,0 @@
-pub use Rattle.lisa_machine.specs.least_fixed_points.Settles

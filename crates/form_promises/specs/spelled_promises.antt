@@ -1,2 +1,0 @@
-pub use Rattle.spelled_promises.specs.Trees
-pub use Rattle.spelled_promises.specs.Words

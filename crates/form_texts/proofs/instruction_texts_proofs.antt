@@ -1,1 +1,0 @@
-pub use Rattle.instruction_texts.proofs.Tiles

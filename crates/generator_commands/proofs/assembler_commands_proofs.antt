@@ -1,1 +1,0 @@
-pub use Rattle.assembler_commands.proofs.MemoryRules

@@ -1,1 +1,0 @@
-pub use Rattle.generated_programs.proofs.Widths

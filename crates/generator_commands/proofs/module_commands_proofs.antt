@@ -1,1 +1,0 @@
-pub use Rattle.module_commands.proofs.Stopped

@@ -1,3 +1,0 @@
-pub use Rattle.description_commands.specs.Checks
-pub use Rattle.description_commands.specs.Formats
-pub use Rattle.description_commands.specs.Runs

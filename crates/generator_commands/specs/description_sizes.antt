@@ -1,1 +1,0 @@
-pub use Rattle.assembler_commands.specs.description_sizes.Sizes

@@ -1,1 +1,0 @@
-pub use Rattle.description_commands.specs.lisa_meaning.States

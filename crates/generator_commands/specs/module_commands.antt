@@ -1,2 +1,0 @@
-pub use Rattle.module_commands.specs.Clocks
-pub use Rattle.module_commands.specs.Designs

@@ -1,3 +1,0 @@
-pub use Rattle.coding_tables.proofs.Heights
-pub use Rattle.coding_tables.proofs.Levels
-pub use Rattle.coding_tables.proofs.Owning

@@ -1,1 +1,0 @@
-pub use Rattle.coding_tables.specs.coded_names.Codings

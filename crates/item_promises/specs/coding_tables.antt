@@ -1,1 +1,0 @@
-pub use Rattle.lisa_forms.specs.coding_tables.Instructions

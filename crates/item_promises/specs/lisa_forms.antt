@@ -1,4 +1,0 @@
-pub use Rattle.lisa_forms.specs.Codings
-pub use Rattle.lisa_forms.specs.Coverage
-pub use Rattle.lisa_forms.specs.Parts
-pub use Rattle.lisa_forms.specs.Verdicts

@@ -1,1 +1,0 @@
-pub use Rattle.use_promises.specs.machine_parts.Parts

@@ -1,2 +1,0 @@
-pub use Rattle.form_patterns.specs.Filled
-pub use Rattle.form_patterns.specs.Instructions

@@ -1,3 +1,0 @@
-pub use Rattle.lisa_syntax.specs.Lines
-pub use Rattle.lisa_syntax.specs.Orders
-pub use Rattle.lisa_syntax.specs.declared

@@ -1,3 +1,0 @@
-pub use Rattle.description_sizes.proofs.activation_trees_proofs.Levels
-pub use Rattle.description_sizes.proofs.activation_trees_proofs.Lying
-pub use Rattle.description_sizes.proofs.activation_trees_proofs.Ordered

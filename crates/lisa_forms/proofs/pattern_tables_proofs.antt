@@ -1,1 +1,0 @@
-pub use Rattle.pattern_tables.proofs.Masks

@@ -1,2 +1,0 @@
-pub use Rattle.description_sizes.proofs.typed_values_proofs.Fitting
-pub use Rattle.description_sizes.proofs.typed_values_proofs.Preserved

@@ -1,1 +1,0 @@
-pub use Rattle.description_sizes.specs.machine_parts.Parts

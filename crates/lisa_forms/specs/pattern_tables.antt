@@ -1,2 +1,0 @@
-pub use Rattle.pattern_tables.specs.Instructions
-pub use Rattle.pattern_tables.specs.Tables

@@ -1,2 +1,0 @@
-pub use Rattle.stage_checks.specs.Controls
-pub use Rattle.stage_checks.specs.Running

@@ -1,1 +1,0 @@
-pub use Rattle.module_sizes.specs.machine_parts.Parts

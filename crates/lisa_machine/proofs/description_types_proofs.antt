@@ -1,1 +1,0 @@
-pub use Rattle.description_types.proofs.OneKnown

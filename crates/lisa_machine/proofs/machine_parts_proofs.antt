@@ -1,2 +1,0 @@
-pub use Rattle.machine_parts.proofs.Fitting
-pub use Rattle.machine_parts.proofs.Lengths

@@ -1,1 +1,0 @@
-pub use Rattle.graph_paths.specs.Paths

@@ -1,1 +1,0 @@
-pub use Rattle.least_fixed_points.specs.Settles

@@ -1,2 +1,0 @@
-pub use Rattle.machine_parts.specs.Laws
-pub use Rattle.machine_parts.specs.Parts

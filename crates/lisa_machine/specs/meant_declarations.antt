@@ -1,1 +1,0 @@
-pub use Rattle.meant_declarations.specs.Meant

@@ -1,2 +1,0 @@
-pub use Rattle.name_checks.specs.Doubled
-pub use Rattle.name_checks.specs.Unknown

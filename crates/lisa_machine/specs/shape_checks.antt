@@ -1,3 +1,0 @@
-pub use Rattle.shape_checks.specs.Bounds
-pub use Rattle.shape_checks.specs.Shapes
-pub use Rattle.shape_checks.specs.declared

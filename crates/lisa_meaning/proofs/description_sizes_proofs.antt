@@ -1,1 +1,0 @@
-pub use Rattle.lisa_forms.proofs.description_sizes_proofs.Limited

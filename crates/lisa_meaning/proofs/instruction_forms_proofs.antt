@@ -1,1 +1,0 @@
-pub use Rattle.lisa_forms.proofs.instruction_forms_proofs.Whole

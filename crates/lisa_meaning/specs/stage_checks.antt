@@ -1,1 +1,0 @@
-pub use Rattle.lisa_forms.specs.stage_checks.Running

@@ -1,1 +1,0 @@
-pub use Rattle.item_promises.specs.lisa_machine.Machines

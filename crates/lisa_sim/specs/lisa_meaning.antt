@@ -1,1 +1,0 @@
-pub use Rattle.activation_plans.specs.lisa_meaning.States

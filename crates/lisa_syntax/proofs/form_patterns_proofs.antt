@@ -1,2 +1,0 @@
-pub use Rattle.lisa_forms.proofs.form_patterns_proofs.Filling
-pub use Rattle.lisa_forms.proofs.form_patterns_proofs.Rowed

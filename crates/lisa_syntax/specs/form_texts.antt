@@ -1,2 +1,0 @@
-pub use Rattle.lisa_forms.specs.form_texts.Instructions
-pub use Rattle.lisa_forms.specs.form_texts.Syntaxes

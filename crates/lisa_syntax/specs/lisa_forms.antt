@@ -1,6 +1,0 @@
-pub use Rattle.lisa_forms.specs.Codings
-pub use Rattle.lisa_forms.specs.Coverage
-pub use Rattle.lisa_forms.specs.Parts
-pub use Rattle.lisa_forms.specs.Rows
-pub use Rattle.lisa_forms.specs.Verdicts
-pub use Rattle.lisa_forms.specs.declared

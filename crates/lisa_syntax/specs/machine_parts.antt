@@ -1,1 +1,0 @@
-pub use Rattle.lisa_forms.specs.machine_parts.Parts

@@ -1,3 +1,0 @@
-pub use Rattle.lowered_resources.proofs.meaning_promises_proofs.Kept
-pub use Rattle.lowered_resources.proofs.meaning_promises_proofs.Occurring
-pub use Rattle.lowered_resources.proofs.meaning_promises_proofs.RootWords

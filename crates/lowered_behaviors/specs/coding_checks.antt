@@ -1,2 +1,0 @@
-pub use Rattle.lowered_words.specs.coding_checks.Uneven
-pub use Rattle.lowered_words.specs.coding_checks.Widths

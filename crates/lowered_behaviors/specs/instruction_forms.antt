@@ -1,2 +1,0 @@
-pub use Rattle.lowered_words.specs.instruction_forms.Trees
-pub use Rattle.lowered_words.specs.instruction_forms.Widths

@@ -1,1 +1,0 @@
-pub use Rattle.lowered_words.specs.Laws

@@ -1,2 +1,0 @@
-pub use Rattle.lowered_resources.specs.meaning_promises.Fitting
-pub use Rattle.lowered_resources.specs.meaning_promises.Running

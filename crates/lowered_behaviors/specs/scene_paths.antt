@@ -1,1 +1,0 @@
-pub use Rattle.scene_paths.specs.Lookups

@@ -1,1 +1,0 @@
-pub use Rattle.typed_values.specs.Laws

@@ -1,3 +1,0 @@
-pub use Rattle.lowered_behaviors.proofs.Choosing
-pub use Rattle.lowered_behaviors.proofs.Once
-pub use Rattle.lowered_behaviors.proofs.Sources

@@ -1,2 +1,0 @@
-pub use Rattle.lowered_layouts.proofs.Items
-pub use Rattle.lowered_layouts.proofs.Widths

@@ -1,3 +1,0 @@
-pub use Rattle.lowered_layouts.specs.Ends
-pub use Rattle.lowered_layouts.specs.Items
-pub use Rattle.lowered_layouts.specs.Temps

@@ -1,3 +1,0 @@
-pub use Rattle.instruction_forms.specs.Trees
-pub use Rattle.instruction_forms.specs.Widths
-pub use Rattle.instruction_forms.specs.declared

@@ -1,1 +1,0 @@
-pub use Rattle.lisa_meaning.specs.machine_parts.Parts

@@ -1,1 +1,0 @@
-pub use Rattle.verilog_reader.proofs.TextLaws

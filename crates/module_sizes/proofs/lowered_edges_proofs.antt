@@ -1,1 +1,0 @@
-pub use Rattle.lowered_edges.proofs.Worded

@@ -1,1 +1,0 @@
-pub use Rattle.access_counts.specs.Ledgers

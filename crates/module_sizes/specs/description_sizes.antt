@@ -1,1 +1,0 @@
-pub use Rattle.description_weight.specs.description_sizes.Sizes

@@ -1,1 +1,0 @@
-pub use Rattle.description_weight.specs.instruction_forms.Widths

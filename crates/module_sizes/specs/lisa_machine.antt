@@ -1,2 +1,0 @@
-pub use Rattle.lisa_machine.specs.Machines
-pub use Rattle.lisa_machine.specs.Verdicts

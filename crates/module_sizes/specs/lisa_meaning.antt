@@ -1,1 +1,0 @@
-pub use Rattle.touch_promises.specs.lisa_meaning.States

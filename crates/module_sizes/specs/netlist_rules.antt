@@ -1,1 +1,0 @@
-pub use Rattle.netlist_rules.specs.Sizes

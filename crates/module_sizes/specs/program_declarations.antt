@@ -1,1 +1,0 @@
-pub use Rattle.lowered_edges.specs.program_declarations.Laws

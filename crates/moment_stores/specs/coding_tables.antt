@@ -1,1 +1,0 @@
-pub use Rattle.lisa_meaning.specs.coding_tables.Instructions

@@ -1,1 +1,0 @@
-pub use Rattle.lisa_meaning.specs.instruction_forms.Trees

@@ -1,1 +1,0 @@
-pub use Rattle.lisa_meaning.proofs.activation_trees_proofs.Lying

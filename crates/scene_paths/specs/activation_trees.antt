@@ -1,5 +1,0 @@
-pub use Rattle.lisa_meaning.specs.activation_trees.Activators
-pub use Rattle.lisa_meaning.specs.activation_trees.Places
-pub use Rattle.lisa_meaning.specs.activation_trees.Starting
-pub use Rattle.lisa_meaning.specs.activation_trees.Unfolding
-pub use Rattle.lisa_meaning.specs.activation_trees.declared

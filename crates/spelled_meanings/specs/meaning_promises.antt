@@ -1,1 +1,0 @@
-pub use Rattle.lowered_behaviors.specs.meaning_promises.Fitting

@@ -1,2 +1,0 @@
-pub use Rattle.lisa_meaning.specs.lisa_forms.Parts
-pub use Rattle.lisa_meaning.specs.lisa_forms.Verdicts

@@ -1,1 +1,0 @@
-pub use Rattle.lisa_meaning.proofs.use_promises_proofs.Traits

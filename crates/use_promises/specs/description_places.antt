@@ -1,3 +1,0 @@
-pub use Rattle.description_places.specs.Places
-pub use Rattle.description_places.specs.Scopes
-pub use Rattle.description_places.specs.declared

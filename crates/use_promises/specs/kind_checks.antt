@@ -1,1 +1,0 @@
-pub use Rattle.lisa_machine.specs.kind_checks.Narrowings

@@ -1,1 +1,0 @@
-pub use Rattle.lisa_machine.specs.meant_declarations.Meant
