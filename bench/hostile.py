@@ -8,6 +8,7 @@ much of one part of `check`, or of `clock` for the module. Each is answered once
 and 1 GiB for each but `chain`, whose forms have 52 million operations. The exit status is 0 where all that were tried keep that."""
 
 import argparse
+import itertools
 import os
 import resource
 import string
@@ -23,6 +24,8 @@ SECONDS = 5.0
 MEMORY_MIB = 1024
 FREE = ("chain",)
 PAIR = ['OPERATION p { CODING { 0b0 } SYNTAX { "P" } }', 'OPERATION q { CODING { 0b1 } SYNTAX { "Q" } }']
+
+MULTIPLIER = 0x9E3779B97F4A7C15
 
 
 def numbered(letter, count):
@@ -106,13 +109,44 @@ def reset(levels=17):
             f"for (uint16 i = 0; i < 256; i = i + 1) for (uint16 j = 0; j < 14; j = j + 1) a = {total}; }} }}"]
 
 
+def folded(state, multiplier):
+    """A step of the hash of the kit's hashed tables, whose start is fixed."""
+    product = state * multiplier
+    return (product ^ product >> 64) & (2**64 - 1)
+
+
+def near(count):
+    """Names of six letters that a hashed table of up to 16,384 groups would have in its first 256."""
+    found = []
+    for front in itertools.product(string.ascii_letters, repeat=4):
+        state = folded(0x243F6A8885A308D3 ^ 6, MULTIPLIER ^ 16)
+        for letter in front:
+            state = folded(state ^ ord(letter), MULTIPLIER ^ 2)
+        for fifth in string.ascii_letters:
+            last = folded(state ^ ord(fifth), MULTIPLIER ^ 2)
+            for sixth in string.ascii_letters:
+                value = folded(last ^ ord(sixth), MULTIPLIER ^ 2)
+                if (value ^ value >> 32) & 0x3F00 == 0:
+                    found.append("".join(front) + fifth + sixth)
+        if len(found) >= count:
+            return found[:count]
+
+
+def names(count=80_000):
+    """Names that would collide in tables that hash them: half are declared, and half are locals."""
+    all_names = near(count)
+    declared, local = all_names[:count // 2], all_names[count // 2:]
+    return ["RESOURCE { REGISTER uint1 r; } OPERATION leaf { EXPRESSION { r } }",
+            f"OPERATION main {{ DECLARE {{ GROUP {','.join(declared)} = {{ leaf }}; }} BEHAVIOR {{ {' '.join(f'uint1 {one};' for one in local)} }} }}"]
+
+
 def sums(lines=4000, terms=126):
     """A module of left chains of sums."""
     return ["module t (input clk, input [7:0] a);", " reg [7:0] s;", " initial s = 8'd1;", " always @(posedge clk) begin",
             *(["  s <= a" + "+a" * terms + ";"] * lines), " end", "endmodule"]
 
 
-KINDS = {one.__name__: one for one in (meetings, texts, leaves, references, cascade, chain, open_types, reset, sums)}
+KINDS = {one.__name__: one for one in (meetings, texts, leaves, references, cascade, chain, open_types, reset, names, sums)}
 
 
 def answered(words, seconds):

@@ -5,7 +5,7 @@ use Rattle.std.specs.List.{AllZip}
 use Rattle.std.proofs.lemmas.Bool.{eqb-true}
 use Rattle.std.proofs.lemmas.Bool.Decides.{nat_tests}
 use Rattle.std.proofs.lemmas.List.{append-nil, append_assoc}
-use Rattle.indexmap.specs.IndexMap.{insert_entry}
+use Rattle.name_tables.specs.NamedValues.{with_value}
 use Rattle.lisa_words.specs.declared.words.Kind.{Kind}
 use Rattle.lisa_words.specs.declared.words.Kind.TheVariants as kinds
 use Rattle.lisa_tree.specs.declared.tokens.Shape.{Shape}
@@ -156,7 +156,7 @@ module _ {M : Type 0} (doing : Doing M) (ways : Ways) (rules : Rules) (p : Progr
   -- a local more
   enters : (scope : Scope) (n : List ℕ) (l : Local) (v : TypedWord) (m : M) (now : Moment) → IsNew (names_of scope) n → AgreesIn scope m now → Stands now (local_operand l) v → AgreesIn (entered scope n l) (local_given doing n v m) now
   enters scope n l v m now new h stands =
-      let more = insert_entry same_name (doing.locals m) n v in
+      let more = with_value (doing.locals m) n v in
       record {
         holds = does.others more m now h.holds;
         has = h.has;
