@@ -6,7 +6,7 @@ use Rattle.lisa_tree.specs.Descriptions.{DescriptionTree}
 use Rattle.lisa_tree.specs.Declarations.{plain_at}
 use Rattle.lisa_tree.specs.Operations.{number_of}
 use Rattle.lisa_tree.specs.Paths.{choice_node}
-use Rattle.lisa_machine.specs.stage_checks.Controls.{main_name}
+use Rattle.stage_checks.specs.Controls.{main_name}
 use Rattle.activation_trees.specs.declared.parts.Occurrence.{Occurrence}
 use Rattle.activation_trees.specs.declared.parts.Start.{Start}
 use Rattle.activation_trees.specs.Starting.{Activated, activation, alternatives, activated_by}

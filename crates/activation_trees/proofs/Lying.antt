@@ -10,8 +10,8 @@ use Rattle.lisa_tree.specs.Operations.{number_of, own_stage, sections_at, coding
 use Rattle.lisa_tree.specs.Declarations.{plain_at}
 use Rattle.lisa_tree.specs.Paths.{node_count}
 use Rattle.lisa_machine.specs.graph_paths.Paths.{is_in}
-use Rattle.lisa_machine.specs.stage_checks.Controls.{main_name}
-use Rattle.lisa_machine.specs.stage_checks.Running.{started, choices_named, named_choices, activation_names, Activates, RunsIn, begins, goes}
+use Rattle.stage_checks.specs.Controls.{main_name}
+use Rattle.stage_checks.specs.Running.{started, choices_named, named_choices, activation_names, Activates, RunsIn, begins, goes}
 use Rattle.lisa_machine.proofs.Entries.{get_left, get_right, Split, in_first, in_second, split}
 use Rattle.activation_trees.specs.declared.parts.Occurrence.{Occurrence}
 use Rattle.activation_trees.specs.declared.parts.Start.{Start}

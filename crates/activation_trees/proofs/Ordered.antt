@@ -13,8 +13,8 @@ use Rattle.lisa_tree.specs.Declarations.{plain_at}
 use Rattle.lisa_machine.specs.description_graph.Circles.{IsFirstCircularOperation}
 use Rattle.lisa_machine.specs.coded_names.Codings.{names_instructions}
 use Rattle.lisa_machine.specs.graph_paths.Paths.{is_in}
-use Rattle.lisa_machine.specs.stage_checks.Controls.{main_name}
-use Rattle.lisa_machine.specs.stage_checks.Running.{started, activation_names}
+use Rattle.stage_checks.specs.Controls.{main_name}
+use Rattle.stage_checks.specs.Running.{started, activation_names}
 use Rattle.lisa_machine.proofs.Entries.{get_left, get_right, Split, in_first, in_second, split}
 use Rattle.activation_trees.specs.declared.parts.Occurrence.{Occurrence}
 use Rattle.activation_trees.specs.Starting.{Activated, activation, activated_by, activated, start, starts_named, plain_of, names_by}

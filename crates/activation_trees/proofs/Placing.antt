@@ -10,8 +10,8 @@ use Rattle.std.proofs.lemmas.List.{get_or-set_same, get_or-set_other, length-set
 use Rattle.std.proofs.lemmas.List.Filters.{length-filter_more}
 use Rattle.std.proofs.lemmas.Option.{slice_get_within, get_or_from_slice_get, same_Some}
 use Rattle.lisa_tree.specs.Descriptions.{DescriptionTree}
-use Rattle.lisa_machine.specs.stage_checks.Graphs.{names_in}
-use Rattle.lisa_machine.proofs.stage_checks_proofs.Rows.{names_push, regroup}
+use Rattle.stage_checks.specs.Graphs.{names_in}
+use Rattle.stage_checks.proofs.Rows.{names_push, regroup}
 use Rattle.lisa_machine.proofs.Entries.{get_left, get_right}
 use Rattle.activation_trees.specs.declared.parts.Occurrence.{Occurrence}
 use Rattle.activation_trees.specs.Starting.{plain_named, names_by}

@@ -14,8 +14,8 @@ use Rattle.lisa_tree.specs.Operations.{is_alias, sections_at, coding_in, activat
 use Rattle.lisa_tree.specs.Declarations.{Entry, Choice, choice, choices, entries, declared_at, what_at, alternatives_at, plain_at}
 use Rattle.lisa_machine.specs.graph_paths.Paths.{is_in}
 use Rattle.lisa_machine.specs.description_graph.Circles.{IsFirstCircularOperation}
-use Rattle.lisa_machine.specs.stage_checks.Running.{choice_of, choice_at, started, activation_names}
-use Rattle.lisa_machine.proofs.stage_checks_proofs.Nodes.{plain_within}
+use Rattle.stage_checks.specs.Running.{choice_of, choice_at, started, activation_names}
+use Rattle.stage_checks.proofs.Nodes.{plain_within}
 use Rattle.lisa_machine.specs.Ranks.{OperationRanks}
 use Rattle.lisa_machine.specs.Declaring.{Chooses}
 use Rattle.lisa_machine.proofs.Entries.{entry_chooses}

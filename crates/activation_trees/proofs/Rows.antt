@@ -2,7 +2,7 @@
 use Rattle.std.proofs.Common.{◌≡◌, ◌≢◌, ◌<◌, ◌≤◌, ◌+◌, ◌++◌, ℕ, zero, suc, List, [], ◌∷◌, Option, None, Some, Bool, cond, nat_eq, nat_lt, length, get_or, drop, drop-cons, refl, ap, sym, ◌∙◌, arith, add-one, append_assoc, ⊎_elim}
 use Rattle.std.specs.Global.{Vec}
 use Rattle.std.specs.Borrow.{Bor}
-use Rattle.lisa_machine.specs.stage_checks.Graphs.{names_in}
+use Rattle.stage_checks.specs.Graphs.{names_in}
 use Rattle.std.specs.Prelude.{slice_get, option_map}
 use Rattle.std.specs.Option.{option_to_list}
 use Rattle.std.proofs.lemmas.Bool.{cases_lt}

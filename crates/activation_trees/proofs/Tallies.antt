@@ -8,7 +8,7 @@ use Rattle.lisa_tree.specs.Operations.{number_of}
 use Rattle.lisa_tree.specs.Declarations.{choices, plain_at}
 use Rattle.lisa_tree.specs.Paths.{Operation, Choosing, node_at, node_count, choice_node}
 use Rattle.lisa_machine.proofs.description_graph_proofs.Nodes.{at_operation, at_choice}
-use Rattle.lisa_machine.specs.stage_checks.Controls.{main_name}
+use Rattle.stage_checks.specs.Controls.{main_name}
 use Rattle.least_fixed_points.specs.Settles.{Settles, settled}
 use Rattle.activation_trees.specs.declared.parts.Occurrence.{Occurrence}
 use Rattle.activation_trees.specs.declared.parts.Start.{Start}

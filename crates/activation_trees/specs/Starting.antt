@@ -6,7 +6,7 @@ use Rattle.lisa_tree.specs.Descriptions.{CodingTree, DescriptionTree}
 use Rattle.lisa_tree.specs.Operations.{sections_at, coding_in, activation_in}
 use Rattle.lisa_tree.specs.Declarations.{plain_at}
 use Rattle.lisa_machine.specs.coded_names.Codings.{names_instructions}
-use Rattle.lisa_machine.specs.stage_checks.Running.{started, activation_names}
+use Rattle.stage_checks.specs.Running.{started, activation_names}
 use Rattle.activation_trees.specs.declared.parts.Start.{Start}
 
 -- an item that names a group or an instance, and whether it names the root's group

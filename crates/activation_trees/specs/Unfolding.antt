@@ -4,7 +4,7 @@ use Rattle.std.specs.Option.{option_or}
 use Rattle.lisa_tree.specs.Descriptions.{DescriptionTree}
 use Rattle.lisa_tree.specs.Operations.{number_of, own_stage}
 use Rattle.lisa_tree.specs.Paths.{node_count}
-use Rattle.lisa_machine.specs.stage_checks.Controls.{main_name}
+use Rattle.stage_checks.specs.Controls.{main_name}
 use Rattle.activation_trees.specs.declared.parts.Occurrence.{Occurrence}
 use Rattle.activation_trees.specs.Starting.{Activated, activated}
 

@@ -2,7 +2,7 @@
 #![tactic(auto, using(crate::proofs::Rows::regroup, crate::proofs::Placing::one_by))]
 
 ghost use Rattle.std.specs.Prelude.{◌≡◌, ◌<◌, ◌+◌, ◌++◌, ◌-◌, ◌^◌, ℕ, Some, IfOk, OnOk, length, map};
-ghost use Rattle.lisa_machine.specs.stage_checks.Graphs.{names_in};
+ghost use Rattle.stage_checks.specs.Graphs.{names_in};
 ghost use Rattle.activation_trees.specs.Starting.{plain_named, activating_names};
 ghost use Rattle.activation_trees.specs.Places.{AreParentsBefore, ArePlaces, count_at, count_more};
 

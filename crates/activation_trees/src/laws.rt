@@ -5,7 +5,7 @@ ghost use Rattle.lisa_tree.specs.Descriptions.{DescriptionTree};
 ghost use Rattle.lisa_tree.specs.Paths.{node_count};
 ghost use Rattle.lisa_machine.specs.description_graph.Circles.{IsFirstCircularOperation};
 ghost use Rattle.activation_trees.specs.declared.parts.Occurrence.{Occurrence};
-ghost use Rattle.lisa_machine.specs.stage_checks.Running.{RunsIn};
+ghost use Rattle.stage_checks.specs.Running.{RunsIn};
 ghost use Rattle.activation_trees.specs.Unfolding.{children, unfolded, whole, occurrences};
 ghost use Rattle.activation_trees.specs.Activators.{HasActivator};
 ghost use Rattle.activation_trees.specs.Starting.{Activated, activated};

@@ -14,7 +14,7 @@ use lisa_tree::{Names, Resource, Shape};
 use std::alloc::Global;
 
 // The stages of the pipeline.
-#[tactic(auto, using(lisa_machine::proofs::description_tables_proofs::Lists::one_resource))]
+#[tactic(auto, using(description_tables::proofs::Lists::one_resource))]
 fn stages<N: Names>(names: &N) -> &[Name]
     ensures { result.now ≡ stages (N.tree names.now) }
 {
@@ -28,7 +28,7 @@ fn stages<N: Names>(names: &N) -> &[Name]
 }
 
 // The fields of the pipeline's boundaries.
-#[tactic(auto, using(lisa_machine::proofs::description_tables_proofs::Lists::one_resource))]
+#[tactic(auto, using(description_tables::proofs::Lists::one_resource))]
 fn fields<N: Names>(names: &N) -> &[(Shape, Name)]
     ensures { result.now ≡ fields (N.tree names.now) }
 {

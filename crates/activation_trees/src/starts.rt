@@ -1,13 +1,13 @@
 //! What each operation activates, found out once.
-#![tactic(auto, using(lisa_machine::proofs::stage_checks_proofs::Rows::one_act, lisa_machine::proofs::stage_checks_proofs::Rows::names_push, crate::proofs::Rows::one_name, crate::proofs::Rows::regroup))]
+#![tactic(auto, using(stage_checks::proofs::Rows::one_act, stage_checks::proofs::Rows::names_push, crate::proofs::Rows::one_name, crate::proofs::Rows::regroup))]
 
 ghost use Rattle.std.specs.Prelude.{◌≡◌, ◌++◌, ◌∷◌, [], ℕ, map, IfOk, OnOk};
 ghost use Rattle.std.specs.Option.{option_to_list};
 ghost use Rattle.lisa_tree.specs.Activations.{act_tree, act_trees};
 ghost use Rattle.lisa_tree.specs.Descriptions.{section_tree};
 ghost use Rattle.lisa_tree.specs.Operations.{activation_in};
-ghost use Rattle.lisa_machine.specs.stage_checks.Running.{started, choice_of, act_names, acts_names, activation_names};
-ghost use Rattle.lisa_machine.specs.stage_checks.Graphs.{names_in};
+ghost use Rattle.stage_checks.specs.Running.{started, choice_of, act_names, acts_names, activation_names};
+ghost use Rattle.stage_checks.specs.Graphs.{names_in};
 ghost use Rattle.activation_trees.specs.Starting.{start_of, starts_named, starts, row_at, AreStarts};
 
 use crate::parts::Start;

@@ -5,7 +5,7 @@ ghost use Rattle.std.specs.Option.{option_or};
 ghost use Rattle.lisa_tree.specs.Descriptions.{DescriptionTree};
 ghost use Rattle.lisa_tree.specs.Operations.{number_of, own_stage};
 ghost use Rattle.lisa_machine.specs.description_graph.Circles.{IsFirstCircularOperation};
-ghost use Rattle.lisa_machine.specs.stage_checks.Controls.{main_name};
+ghost use Rattle.stage_checks.specs.Controls.{main_name};
 ghost use Rattle.activation_trees.specs.Starting.{activation, activated_by, AreStarts};
 ghost use Rattle.activation_trees.specs.Unfolding.{occurrence, child, firsts, occurrences, occurrence_count, IsUnfolding};
 

@@ -15,7 +15,8 @@ use Rattle.checked_descriptions.specs.DescriptionImages.{IsImageFor, IsNoImageFo
 use Rattle.generator_commands.specs.description_commands.Runs.{described_machine, GivesChecked, GivesRun}
 use Rattle.module_commands.specs.Designs.{IsDesign, IsNoDesign, clock_machine}
 use Rattle.module_commands.specs.Clocks.{GivesClock}
-use Rattle.command_promises.specs.Runs.{IsSimulated, IsClocked, task_outcome}
+use Rattle.command_promises.specs.Runs.{IsSimulated, IsClocked}
+use Rattle.engine_commands.specs.Tasks.{task_outcome}
 use Rattle.command_promises.proofs.Afters.{found_by}
 use Rattle.command_promises.proofs.Tasks.{made_given, made_finished}
 

@@ -5,6 +5,7 @@ ghost use Rattle.lisa_engine.specs.ScheduleLine.{Line};
 ghost use Rattle.lisa_outcomes.specs.Outcomes.{Finished};
 ghost use Rattle.lisa_outcomes.specs.RunFiles.{RunBytes};
 ghost use Rattle.engine_commands.specs.declared.tasks.Task.{Task};
+ghost use Rattle.engine_commands.specs.Tasks.{task_outcome};
 ghost use Rattle.lisa_engine.specs.Machines.{Machine};
 ghost use Rattle.checked_descriptions.specs.Descriptions.{AfterSpelling};
 ghost use Rattle.generator_commands.specs.description_commands.Formats.{Formats};
@@ -17,7 +18,7 @@ ghost use Rattle.generator_commands.specs.assembler_commands.Listed.{GivesListin
 ghost use Rattle.verilog_command.specs.Modules.{WritesVerilog};
 ghost use Rattle.generator_commands.specs.Generates.{GivesProgram};
 ghost use Rattle.generator_commands.specs.Soaks.{GivesSoak};
-ghost use Rattle.command_promises.specs.Runs.{IsSimulated, IsClocked, task_outcome};
+ghost use Rattle.command_promises.specs.Runs.{IsSimulated, IsClocked};
 ghost use Rattle.command_promises.specs.Refusals.{RefusesWith, RefusesFirsts, RefusesUnread, RefusesModules};
 
 /// What `run`, `trace` and `debug` give over an accepted description is the text of the states that it means, with its image's cells first and

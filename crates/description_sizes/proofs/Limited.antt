@@ -5,7 +5,7 @@ use Rattle.std.specs.List.{AllByRecursion}
 use Rattle.lisa_tree.specs.declared.faults.DescFault.{DescFault}
 use Rattle.lisa_tree.specs.Descriptions.{DescriptionTree}
 use Rattle.text_counts.specs.description_graph.Circles.{IsFirstCircularOperation}
-use Rattle.activation_trees.specs.machine_parts.Parts.{reset_count, reset_node_count}
+use Rattle.machine_parts.specs.Parts.{reset_count, reset_node_count}
 use Rattle.activation_trees.specs.lisa_machine.Machines.{IsResetShort}
 use Rattle.description_sizes.specs.declared.sizes.Measure.TheVariants as measures
 use Rattle.description_sizes.specs.declared.sizes.Size.{Size}

@@ -22,7 +22,7 @@ use Rattle.activation_trees.proofs.stage_checks_proofs.Nodes.{number_within}
 use Rattle.activation_trees.specs.lisa_machine.Ranks.{Ranks}
 use Rattle.activation_trees.proofs.lisa_machine_proofs.Falling.{node_ranks}
 use Rattle.activation_trees.specs.typed_values.Counts as typed
-use Rattle.activation_trees.specs.machine_parts.Parts.{behavior_of, nodes_in, reset_node_count}
+use Rattle.machine_parts.specs.Parts.{behavior_of, nodes_in, reset_node_count}
 use Rattle.text_counts.specs.Sums.{Counts, capped, plus, one_more, times, sum_of}
 use Rattle.text_counts.specs.Expressions.{counted_of, known_or, read_nodes, expression_nodes}
 use Rattle.text_counts.specs.Behaviors.{weight, called, turns_in, turns_of, initial, statement_count, statements_count, behavior_count}

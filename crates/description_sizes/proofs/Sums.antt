@@ -10,7 +10,7 @@ use Rattle.text_counts.specs.description_graph.Circles.{IsFirstCircularOperation
 use Rattle.activation_trees.proofs.stage_checks_proofs.Nodes.{number_within}
 use Rattle.activation_trees.proofs.lisa_machine_proofs.Falling.{node_ranks}
 use Rattle.activation_trees.specs.declared.parts.Occurrence.{Occurrence}
-use Rattle.activation_trees.specs.machine_parts.Parts.{reset_count}
+use Rattle.machine_parts.specs.Parts.{reset_count}
 use Rattle.activation_trees.specs.Unfolding.{occurrences}
 use Rattle.text_counts.specs.Sums.{plus}
 use Rattle.text_counts.specs.Tables.{TextTable, AreTextCounts, nodes_of}

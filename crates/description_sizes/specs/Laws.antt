@@ -2,7 +2,7 @@
 use Rattle.std.specs.Prelude.{ℕ, ◌≡◌, ◌≤◌, Option, Some, length}
 use Rattle.lisa_tree.specs.Descriptions.{DescriptionTree}
 use Rattle.lisa_tree.specs.Resources.{stages}
-use Rattle.activation_trees.specs.machine_parts.Parts.{arrays_of, pins_of}
+use Rattle.machine_parts.specs.Parts.{arrays_of, pins_of}
 use Rattle.activation_trees.specs.Unfolding.{occurrences}
 use Rattle.text_counts.specs.Tables.{nodes_of}
 use Rattle.description_sizes.specs.Texts.{texts, statements_at, nodes_at}

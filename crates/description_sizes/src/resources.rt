@@ -1,10 +1,10 @@
 //! What is counted of the resources.
-#![tactic(auto, using(activation_trees::proofs::machine_parts_proofs::Steps::one_resource))]
+#![tactic(auto, using(machine_parts::proofs::Steps::one_resource))]
 
 ghost use Rattle.std.specs.Prelude.{◌≡◌, ◌-◌, ◌^◌, filter_map, is_some, length, map, min, sum_by, IfOk};
 ghost use Rattle.lisa_tree.specs.Descriptions.{resource_tree, description_tree};
 ghost use Rattle.lisa_tree.specs.Resources.{stages_in};
-ghost use Rattle.activation_trees.specs.machine_parts.Parts.{item, array_in, pin_in, register_in, registers_of};
+ghost use Rattle.machine_parts.specs.Parts.{item, array_in, pin_in, register_in, registers_of};
 ghost use Rattle.description_sizes.specs.Cells.{depth_in};
 
 use activation_trees::lisa_engine::Item;

@@ -8,9 +8,9 @@ ghost use Rattle.description_sizes.specs.Sums.{statements_by, nodes_by};
 ghost use Rattle.description_sizes.specs.Sizes.{text_statements, reset_nodes, text_nodes};
 
 use activation_trees::Occurrence;
-use activation_trees::machine_parts::count_reset;
 use lisa_tree::Names;
 use lisa_tree::lisa_words::{Name, NoMemory};
+use machine_parts::count_reset;
 use std::alloc::Global;
 use text_counts::TextCounts;
 

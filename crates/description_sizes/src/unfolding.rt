@@ -2,7 +2,7 @@
 
 ghost use Rattle.std.specs.Prelude.{◌≡◌, ◌∷◌, ◌++◌, [], None, Some, find, length, map, option_map, IfOk, MatchResult};
 ghost use Rattle.text_counts.specs.description_graph.Circles.{IsFirstCircularOperation};
-ghost use Rattle.activation_trees.specs.machine_parts.Parts.{registers_of};
+ghost use Rattle.machine_parts.specs.Parts.{registers_of};
 ghost use Rattle.activation_trees.specs.Unfolding.{occurrences};
 ghost use Rattle.description_sizes.specs.Limits.{exceeds, told};
 ghost use Rattle.description_sizes.specs.Sizes.{counted_sizes, written_sizes, unfolded_sizes, size_fault};

@@ -1,6 +1,6 @@
 -- Three alternatives make the same, whichever two are put together first.
 use Rattle.std.proofs.Common.{◌≡◌, Bool, true, false, cond, refl, ap, sym, ◌∙◌}
-use Rattle.description_places.specs.lisa_tree.declared.tokens.Shape.{Shape}
+use Rattle.lisa_tree.specs.declared.tokens.Shape.{Shape}
 use Rattle.description_types.specs.declared.values.TypeOf.{TypeOf}
 use Rattle.description_types.specs.declared.values.TypeOf.TheVariants as types
 use Rattle.description_types.specs.declared.values.Assignable.{Assignable}

@@ -4,10 +4,10 @@ use Rattle.std.proofs.lemmas.Bool.{cases_lt}
 use Rattle.std.proofs.lemmas.List.{get_or_past}
 use Rattle.std.proofs.lemmas.Option.{slice_get_past}
 use Rattle.std.proofs.lemmas.Grind.{common_steps}
-use Rattle.description_places.specs.lisa_tree.Descriptions.{DescriptionTree}
-use Rattle.description_places.specs.lisa_tree.Operations.{sections_at}
-use Rattle.description_places.specs.lisa_tree.Declarations.{entries, owner_at, entry_name_at, what_at}
-use Rattle.meant_declarations.specs.least_fixed_points.Settles.{entry}
+use Rattle.lisa_tree.specs.Descriptions.{DescriptionTree}
+use Rattle.lisa_tree.specs.Operations.{sections_at}
+use Rattle.lisa_tree.specs.Declarations.{entries, owner_at, entry_name_at, what_at}
+use Rattle.least_fixed_points.specs.Settles.{entry}
 use Rattle.description_types.specs.Codings.{no_coding, name_coding, coding_at}
 use Rattle.description_types.specs.Uses.{no_traits, what_traits, own_traits}
 

@@ -2,9 +2,9 @@
 use Rattle.std.proofs.Common.{◌≡◌, ◌<◌, ◌↔◌, ◌&&◌, ℕ, Option, None, Some, Bool, true, false, length, refl, sym, ap, ap₂, ◌∙◌, arith}
 use Rattle.std.specs.Option.{is_some}
 use Rattle.std.proofs.lemmas.Bool.{and_parts}
-use Rattle.description_places.specs.lisa_tree.Descriptions.{DescriptionTree}
-use Rattle.description_places.specs.lisa_tree.Declarations.{entries}
-use Rattle.description_places.specs.lisa_tree.Paths.{entry_node}
+use Rattle.lisa_tree.specs.Descriptions.{DescriptionTree}
+use Rattle.lisa_tree.specs.Declarations.{entries}
+use Rattle.lisa_tree.specs.Paths.{entry_node}
 use Rattle.description_types.specs.declared.values.TypeOf.{TypeOf}
 use Rattle.description_types.specs.declared.values.TypeOf.TheVariants as types
 use Rattle.description_types.specs.declared.values.Assignable.{Assignable}

@@ -3,11 +3,11 @@ use Rattle.std.proofs.Common.{◌≡◌, ◌≢◌, ◌⊎◌, ◌<◌, ◌&&◌
 use Rattle.std.proofs.lemmas.Bool.{and_from, eq-eqb}
 use Rattle.coded_names.specs.lisa_words.declared.words.Kind.{Kind}
 use Rattle.coded_names.specs.lisa_words.declared.words.Kind.TheVariants as kinds
-use Rattle.description_places.specs.lisa_tree.declared.tokens.Shape.{Shape}
-use Rattle.description_places.specs.lisa_tree.Descriptions.{DescriptionTree}
-use Rattle.description_places.specs.lisa_tree.Declarations.{entries}
-use Rattle.description_places.specs.lisa_tree.Paths.{entry_node}
-use Rattle.meant_declarations.specs.least_fixed_points.Settles.{entry}
+use Rattle.lisa_tree.specs.declared.tokens.Shape.{Shape}
+use Rattle.lisa_tree.specs.Descriptions.{DescriptionTree}
+use Rattle.lisa_tree.specs.Declarations.{entries}
+use Rattle.lisa_tree.specs.Paths.{entry_node}
+use Rattle.least_fixed_points.specs.Settles.{entry}
 use Rattle.meant_declarations.specs.Meant.{Differ}
 use Rattle.description_types.specs.declared.values.TypeOf.{TypeOf}
 use Rattle.description_types.specs.declared.values.TypeOf.TheVariants as types

@@ -2,10 +2,10 @@
 use Rattle.std.proofs.Common.{◌≡◌, ◌<◌, ◌↔◌, ℕ, zero, suc, List, [], ◌∷◌, Option, None, Some, Bool, true, length, map, refl, sym, ap, ◌∙◌, subst}
 use Rattle.std.specs.Option.{is_some}
 use Rattle.std.proofs.lemmas.Option.{slice_get_within}
-use Rattle.description_places.specs.lisa_tree.Descriptions.{DescriptionTree}
-use Rattle.description_places.specs.lisa_tree.Declarations.{entries}
-use Rattle.meant_declarations.specs.graph_paths.Paths.{saw}
-use Rattle.meant_declarations.specs.least_fixed_points.Settles.{entry}
+use Rattle.lisa_tree.specs.Descriptions.{DescriptionTree}
+use Rattle.lisa_tree.specs.Declarations.{entries}
+use Rattle.graph_paths.specs.Paths.{saw}
+use Rattle.least_fixed_points.specs.Settles.{entry}
 use Rattle.meant_declarations.specs.Meant.{MayMean, itself, higher, SomeMeant, IsFound}
 use Rattle.description_types.specs.declared.values.Trait.{Trait}
 use Rattle.description_types.specs.declared.values.Trait.TheVariants as which

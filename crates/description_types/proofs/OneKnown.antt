@@ -1,7 +1,7 @@
 -- What is known of a description is determined.
 use Rattle.std.proofs.Common.{◌≡◌, ◌↔◌, ℕ, Bool, true, false, Option, None, Some, refl, sym, subst}
 use Rattle.std.proofs.Math.Path.{fun_ext}
-use Rattle.description_places.specs.lisa_tree.Descriptions.{DescriptionTree}
+use Rattle.lisa_tree.specs.Descriptions.{DescriptionTree}
 use Rattle.description_types.specs.declared.values.Trait.{Trait}
 use Rattle.description_types.specs.declared.values.Trait.TheVariants as which
 use Rattle.description_types.specs.declared.values.Traits.{Traits}

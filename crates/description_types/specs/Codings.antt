@@ -2,9 +2,9 @@
 use Rattle.std.specs.Prelude.{◌≡◌, ℕ, false, List, Option, None, Some, get_or}
 use Rattle.coded_names.specs.lisa_words.declared.words.Kind.{Kind}
 use Rattle.coded_names.specs.lisa_words.declared.words.Kind.TheVariants as kinds
-use Rattle.description_places.specs.lisa_tree.Descriptions.{SectionTree, DescriptionTree}
-use Rattle.description_places.specs.lisa_tree.Operations.{coding_in, syntax_in, sections_at}
-use Rattle.description_places.specs.lisa_tree.Declarations.{owner_at, entry_name_at}
+use Rattle.lisa_tree.specs.Descriptions.{SectionTree, DescriptionTree}
+use Rattle.lisa_tree.specs.Operations.{coding_in, syntax_in, sections_at}
+use Rattle.lisa_tree.specs.Declarations.{owner_at, entry_name_at}
 use Rattle.coded_names.specs.Codings.{field_width, number_kind, in_coding, names_instructions}
 use Rattle.description_types.specs.declared.values.TypeOf.{TypeOf}
 use Rattle.description_types.specs.declared.values.TypeOf.TheVariants as types

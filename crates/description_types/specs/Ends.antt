@@ -1,9 +1,9 @@
 -- Past the last node nothing follows.
 use Rattle.std.proofs.Common.{◌≡◌, ℕ, ◌-◌, ◌≤◌, Option, None, Bool, false, cond, nat_lt, length, refl, ap, ◌∙◌, arith}
 use Rattle.std.proofs.lemmas.Option.{slice_get_past}
-use Rattle.description_places.specs.lisa_tree.Descriptions.{DescriptionTree}
-use Rattle.description_places.specs.lisa_tree.Declarations.{entries, choices, what_at}
-use Rattle.description_places.specs.lisa_tree.Paths.{Operation, Choosing, Declaring, node_count}
+use Rattle.lisa_tree.specs.Descriptions.{DescriptionTree}
+use Rattle.lisa_tree.specs.Declarations.{entries, choices, what_at}
+use Rattle.lisa_tree.specs.Paths.{Operation, Choosing, Declaring, node_count}
 use Rattle.description_types.specs.Facts.{Fact, entry_value, node_value, follows}
 
 what_past : (d : DescriptionTree) (i : ℕ) → length (entries d) ≤ i → what_at d i ≡ None

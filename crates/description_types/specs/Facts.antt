@@ -2,12 +2,12 @@
 use Rattle.std.specs.Prelude.{ℕ, Bool, ◌≡◌, List, [], ◌∷◌, Option, None, Some, option_map}
 use Rattle.std.specs.Option.{is_none}
 use Rattle.std.specs.List.{list_any}
-use Rattle.description_places.specs.lisa_tree.Descriptions.{DescriptionTree}
-use Rattle.description_places.specs.lisa_tree.declared.declared.What.{What}
-use Rattle.description_places.specs.lisa_tree.declared.declared.What.TheVariants as whats
-use Rattle.description_places.specs.lisa_tree.Declarations.{declared_at, what_at, owner_at, entry_name_at, above}
-use Rattle.description_places.specs.lisa_tree.Paths.{Node, Operation, Choosing, Declaring, node_at, choice_node, entry_node}
-use Rattle.meant_declarations.specs.least_fixed_points.Settles.{IsWithin}
+use Rattle.lisa_tree.specs.Descriptions.{DescriptionTree}
+use Rattle.lisa_tree.specs.declared.declared.What.{What}
+use Rattle.lisa_tree.specs.declared.declared.What.TheVariants as whats
+use Rattle.lisa_tree.specs.Declarations.{declared_at, what_at, owner_at, entry_name_at, above}
+use Rattle.lisa_tree.specs.Paths.{Node, Operation, Choosing, Declaring, node_at, choice_node, entry_node}
+use Rattle.least_fixed_points.specs.Settles.{IsWithin}
 
 -- A fact of each operation, choice and declared name, by what is known of others.
 pub record Fact (T : Type 0) : Type 0 where

@@ -3,17 +3,17 @@
 use Rattle.std.specs.Prelude.{ℕ, Bool, true, false, List, [], Option, None, Some, cond, slice_get}
 use Rattle.std.specs.Option.{is_none}
 use Rattle.std.specs.List.{list_any}
-use Rattle.description_places.specs.lisa_tree.declared.tokens.Shape.{Shape}
-use Rattle.description_places.specs.lisa_tree.Expressions as exprs
-use Rattle.description_places.specs.lisa_tree.Expressions.{ExprTree}
-use Rattle.description_places.specs.lisa_tree.Descriptions as trees
-use Rattle.description_places.specs.lisa_tree.Descriptions.{ResourceTree, DescriptionTree}
-use Rattle.description_places.specs.lisa_tree.declared.declared.Meaning.{Meaning}
-use Rattle.description_places.specs.lisa_tree.declared.declared.Meaning.TheVariants as meanings
-use Rattle.description_places.specs.lisa_tree.Operations.{expression_in, sections_at}
-use Rattle.description_places.specs.lisa_tree.Declarations.{plain_at}
-use Rattle.description_places.specs.lisa_tree.Meanings.{meaning}
-use Rattle.description_places.specs.lisa_tree.Paths.{entry_node}
+use Rattle.lisa_tree.specs.declared.tokens.Shape.{Shape}
+use Rattle.lisa_tree.specs.Expressions as exprs
+use Rattle.lisa_tree.specs.Expressions.{ExprTree}
+use Rattle.lisa_tree.specs.Descriptions as trees
+use Rattle.lisa_tree.specs.Descriptions.{ResourceTree, DescriptionTree}
+use Rattle.lisa_tree.specs.declared.declared.Meaning.{Meaning}
+use Rattle.lisa_tree.specs.declared.declared.Meaning.TheVariants as meanings
+use Rattle.lisa_tree.specs.Operations.{expression_in, sections_at}
+use Rattle.lisa_tree.specs.Declarations.{plain_at}
+use Rattle.lisa_tree.specs.Meanings.{meaning}
+use Rattle.lisa_tree.specs.Paths.{entry_node}
 use Rattle.description_types.specs.declared.values.TypeOf.{TypeOf}
 use Rattle.description_types.specs.declared.values.TypeOf.TheVariants as types
 use Rattle.description_types.specs.declared.values.Assignable.{Assignable}

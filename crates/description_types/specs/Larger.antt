@@ -4,12 +4,12 @@ use Rattle.std.specs.Prelude.{option_map}
 use Rattle.std.specs.Option.{is_none}
 use Rattle.std.specs.List.{list_any}
 use Rattle.std.proofs.lemmas.Bool.{or_parts}
-use Rattle.description_places.specs.lisa_tree.Descriptions.{DescriptionTree}
-use Rattle.description_places.specs.lisa_tree.declared.declared.What.{What}
-use Rattle.description_places.specs.lisa_tree.declared.declared.What.TheVariants as whats
-use Rattle.description_places.specs.lisa_tree.Declarations.{declared_at, what_at, above}
-use Rattle.description_places.specs.lisa_tree.Paths.{Node, Operation, Choosing, Declaring, node_at, choice_node, entry_node}
-use Rattle.meant_declarations.specs.least_fixed_points.Settles.{IsWithin, IsMonotone}
+use Rattle.lisa_tree.specs.Descriptions.{DescriptionTree}
+use Rattle.lisa_tree.specs.declared.declared.What.{What}
+use Rattle.lisa_tree.specs.declared.declared.What.TheVariants as whats
+use Rattle.lisa_tree.specs.Declarations.{declared_at, what_at, above}
+use Rattle.lisa_tree.specs.Paths.{Node, Operation, Choosing, Declaring, node_at, choice_node, entry_node}
+use Rattle.least_fixed_points.specs.Settles.{IsWithin, IsMonotone}
 use Rattle.description_types.specs.Facts.{Fact, together, merged_from, merged, added, known_together, any_open, at_entry, declared_value, reference_value, entry_value, node_value, follows, IsSteady}
 
 -- one has all that another has

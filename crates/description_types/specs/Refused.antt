@@ -4,15 +4,15 @@ use Rattle.std.specs.Prelude.{ℕ, ◌+◌, Bool, true, false, List, Option, Non
 use Rattle.std.specs.Option.{is_none}
 use Rattle.coded_names.specs.lisa_words.declared.binary.Operator.{Operator}
 use Rattle.coded_names.specs.lisa_words.declared.binary.Operator.TheVariants as operators
-use Rattle.description_places.specs.lisa_tree.Expressions as exprs
-use Rattle.description_places.specs.lisa_tree.Expressions.{ExprTree}
-use Rattle.description_places.specs.lisa_tree.Descriptions.{DescriptionTree}
-use Rattle.description_places.specs.lisa_tree.declared.declared.Meaning.{Meaning}
-use Rattle.description_places.specs.lisa_tree.declared.declared.Meaning.TheVariants as meanings
-use Rattle.description_places.specs.lisa_tree.Resources.{stage_at, is_pipeline}
-use Rattle.description_places.specs.lisa_tree.Operations.{own_stage}
-use Rattle.description_places.specs.lisa_tree.Meanings.{meaning}
-use Rattle.description_places.specs.lisa_tree.Paths.{entry_node}
+use Rattle.lisa_tree.specs.Expressions as exprs
+use Rattle.lisa_tree.specs.Expressions.{ExprTree}
+use Rattle.lisa_tree.specs.Descriptions.{DescriptionTree}
+use Rattle.lisa_tree.specs.declared.declared.Meaning.{Meaning}
+use Rattle.lisa_tree.specs.declared.declared.Meaning.TheVariants as meanings
+use Rattle.lisa_tree.specs.Resources.{stage_at, is_pipeline}
+use Rattle.lisa_tree.specs.Operations.{own_stage}
+use Rattle.lisa_tree.specs.Meanings.{meaning}
+use Rattle.lisa_tree.specs.Paths.{entry_node}
 use Rattle.description_types.specs.declared.values.Traits.{Traits}
 
 -- an operation with this stage of its own reads the boundary before it

@@ -3,7 +3,7 @@ use Rattle.std.specs.Prelude.{ℕ, ◌+◌, ◌-◌, Bool, true, false, cond, na
 use Rattle.std.specs.Int.{leading_zeros, w64}
 use Rattle.coded_names.specs.lisa_words.declared.words.Kind.{Kind}
 use Rattle.coded_names.specs.lisa_words.declared.words.Kind.TheVariants as kinds
-use Rattle.description_places.specs.lisa_tree.declared.tokens.Shape.{Shape}
+use Rattle.lisa_tree.specs.declared.tokens.Shape.{Shape}
 
 abbrev pub shape_of : Kind → ℕ → Shape
 shape_of kind width = record { kind = kind; width = width }

@@ -4,20 +4,20 @@ use Rattle.std.specs.Option.{is_none}
 use Rattle.std.proofs.lemmas.Bool.{and_parts, or_parts, eqb-true}
 use Rattle.coded_names.specs.lisa_words.declared.words.Kind.{Kind}
 use Rattle.coded_names.specs.lisa_words.declared.words.Kind.TheVariants as kinds
-use Rattle.description_places.specs.lisa_tree.declared.tokens.Shape.{Shape}
+use Rattle.lisa_tree.specs.declared.tokens.Shape.{Shape}
 use Rattle.coded_names.specs.lisa_words.declared.binary.Operator.{Operator}
 use Rattle.coded_names.specs.lisa_words.declared.binary.Operator.TheVariants as operators
-use Rattle.description_places.specs.lisa_tree.Expressions as exprs
-use Rattle.description_places.specs.lisa_tree.Expressions.{ExprTree}
-use Rattle.description_places.specs.lisa_tree.Descriptions.{DescriptionTree}
+use Rattle.lisa_tree.specs.Expressions as exprs
+use Rattle.lisa_tree.specs.Expressions.{ExprTree}
+use Rattle.lisa_tree.specs.Descriptions.{DescriptionTree}
 use Rattle.description_places.specs.Literals.{literal}
-use Rattle.description_places.specs.lisa_tree.declared.declared.Meaning.{Meaning}
-use Rattle.description_places.specs.lisa_tree.declared.declared.Meaning.TheVariants as meanings
-use Rattle.description_places.specs.lisa_tree.Operations.{expression_in, sections_at}
-use Rattle.description_places.specs.lisa_tree.Declarations.{plain_at}
-use Rattle.description_places.specs.lisa_tree.Meanings.{meaning}
-use Rattle.description_places.specs.lisa_tree.Paths.{entry_node}
-use Rattle.meant_declarations.specs.least_fixed_points.Settles.{IsWithin}
+use Rattle.lisa_tree.specs.declared.declared.Meaning.{Meaning}
+use Rattle.lisa_tree.specs.declared.declared.Meaning.TheVariants as meanings
+use Rattle.lisa_tree.specs.Operations.{expression_in, sections_at}
+use Rattle.lisa_tree.specs.Declarations.{plain_at}
+use Rattle.lisa_tree.specs.Meanings.{meaning}
+use Rattle.lisa_tree.specs.Paths.{entry_node}
+use Rattle.least_fixed_points.specs.Settles.{IsWithin}
 use Rattle.description_types.specs.declared.values.TypeOf.{TypeOf}
 use Rattle.description_types.specs.declared.values.TypeOf.TheVariants as types
 use Rattle.description_types.specs.declared.values.Assignable.{Assignable}

@@ -1,10 +1,10 @@
 -- What is known of operations, choices and declared names. An open node has no value.
 use Rattle.std.specs.Prelude.{ℕ, ◌≡◌, ◌≢◌, ◌↔◌, ◌||◌, Bool, true, List, Option, Some}
 use Rattle.std.specs.Option.{is_some}
-use Rattle.description_places.specs.lisa_tree.Descriptions.{DescriptionTree}
-use Rattle.description_places.specs.lisa_tree.Paths.{entry_node}
-use Rattle.meant_declarations.specs.graph_paths.Paths.{saw}
-use Rattle.meant_declarations.specs.least_fixed_points.Settles.{entry, Settles}
+use Rattle.lisa_tree.specs.Descriptions.{DescriptionTree}
+use Rattle.lisa_tree.specs.Paths.{entry_node}
+use Rattle.graph_paths.specs.Paths.{saw}
+use Rattle.least_fixed_points.specs.Settles.{entry, Settles}
 use Rattle.meant_declarations.specs.Meant.{MayMean, SomeMeant}
 use Rattle.description_types.specs.declared.values.TypeOf.{TypeOf}
 use Rattle.description_types.specs.declared.values.TypeOf.TheVariants as types

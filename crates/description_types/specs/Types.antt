@@ -1,21 +1,21 @@
 -- The types of expressions. An expression has none where it is open, resting on itself, or where a name in it is used against its sort.
 use Rattle.std.specs.Prelude.{ℕ, List, Option, None, Some, slice_get}
 use Rattle.coded_names.specs.lisa_words.declared.words.Kind.TheVariants as kinds
-use Rattle.description_places.specs.lisa_tree.declared.tokens.Shape.{Shape}
+use Rattle.lisa_tree.specs.declared.tokens.Shape.{Shape}
 use Rattle.coded_names.specs.lisa_words.declared.binary.Operator.{Operator}
 use Rattle.coded_names.specs.lisa_words.declared.binary.Operator.TheVariants as operators
-use Rattle.description_places.specs.lisa_tree.Expressions as exprs
-use Rattle.description_places.specs.lisa_tree.Expressions.{ExprTree}
-use Rattle.description_places.specs.lisa_tree.Descriptions as trees
-use Rattle.description_places.specs.lisa_tree.Descriptions.{ResourceTree, DescriptionTree}
+use Rattle.lisa_tree.specs.Expressions as exprs
+use Rattle.lisa_tree.specs.Expressions.{ExprTree}
+use Rattle.lisa_tree.specs.Descriptions as trees
+use Rattle.lisa_tree.specs.Descriptions.{ResourceTree, DescriptionTree}
 use Rattle.description_places.specs.declared.scopes.Local.{Local}
 use Rattle.description_places.specs.Literals.{literal}
 use Rattle.description_places.specs.Scopes.{Scope, local_named}
-use Rattle.description_places.specs.lisa_tree.declared.declared.Meaning.{Meaning}
-use Rattle.description_places.specs.lisa_tree.declared.declared.Meaning.TheVariants as meanings
-use Rattle.description_places.specs.lisa_tree.Resources.{field_shape}
-use Rattle.description_places.specs.lisa_tree.Meanings.{meaning}
-use Rattle.description_places.specs.lisa_tree.Paths.{entry_node}
+use Rattle.lisa_tree.specs.declared.declared.Meaning.{Meaning}
+use Rattle.lisa_tree.specs.declared.declared.Meaning.TheVariants as meanings
+use Rattle.lisa_tree.specs.Resources.{field_shape}
+use Rattle.lisa_tree.specs.Meanings.{meaning}
+use Rattle.lisa_tree.specs.Paths.{entry_node}
 use Rattle.description_types.specs.declared.values.TypeOf.{TypeOf}
 use Rattle.description_types.specs.declared.values.TypeOf.TheVariants as types
 use Rattle.description_types.specs.Shapes.{bit, number_shape, paired}

@@ -2,13 +2,13 @@
 use Rattle.std.specs.Prelude.{ℕ, Bool, true, false, List, Option, Some, ◌&&◌, not, nat_lt, length}
 use Rattle.std.specs.Option.{is_some}
 use Rattle.std.specs.List.{list_any}
-use Rattle.description_places.specs.lisa_tree.Descriptions.{DescriptionTree}
-use Rattle.description_places.specs.lisa_tree.declared.declared.What.{What}
-use Rattle.description_places.specs.lisa_tree.declared.declared.What.TheVariants as whats
-use Rattle.description_places.specs.lisa_tree.Operations.{coding_in, sections_at, own_stage, is_root}
-use Rattle.description_places.specs.lisa_tree.Declarations.{alternatives_at, plain_at, what_at}
+use Rattle.lisa_tree.specs.Descriptions.{DescriptionTree}
+use Rattle.lisa_tree.specs.declared.declared.What.{What}
+use Rattle.lisa_tree.specs.declared.declared.What.TheVariants as whats
+use Rattle.lisa_tree.specs.Operations.{coding_in, sections_at, own_stage, is_root}
+use Rattle.lisa_tree.specs.Declarations.{alternatives_at, plain_at, what_at}
 use Rattle.coded_names.specs.Codings.{is_coding}
-use Rattle.meant_declarations.specs.graph_paths.Paths.{saw}
+use Rattle.graph_paths.specs.Paths.{saw}
 use Rattle.description_types.specs.declared.values.Trait.{Trait}
 use Rattle.description_types.specs.declared.values.Trait.TheVariants as which
 use Rattle.description_types.specs.declared.values.Traits.{Traits}

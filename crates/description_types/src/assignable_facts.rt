@@ -1,9 +1,9 @@
 //! Whether what operations, choices and declared names stand for may be assigned.
 
 ghost use Rattle.std.specs.Prelude.{◌≡◌, option_map};
-ghost use Rattle.description_places.specs.lisa_tree.Expressions.{expr_tree};
-ghost use Rattle.description_places.specs.lisa_tree.Descriptions.{resource_tree};
-ghost use Rattle.meant_declarations.specs.least_fixed_points.Settles.{entry};
+ghost use Rattle.lisa_tree.specs.Expressions.{expr_tree};
+ghost use Rattle.lisa_tree.specs.Descriptions.{resource_tree};
+ghost use Rattle.least_fixed_points.specs.Settles.{entry};
 ghost use Rattle.description_types.specs.Facts.{added, known_together};
 ghost use Rattle.description_types.specs.Kinds.{resource_assignable, settled_assignable, meant_assignable, array_assignable, value_assignable, expression_assignable, both_assignable, choice_assignable, either_assignable, assignable_fact};
 ghost use Rattle.description_types.specs.Steady.{assignables_steady};
@@ -15,7 +15,7 @@ use crate::meant::Property;
 use crate::refused::is_refused;
 use crate::types::meant_element;
 use crate::values::Assignable;
-use description_places::lisa_tree::{Expr, Meaning, Names, Resource, Shape, expression};
+use lisa_tree::{Expr, Meaning, Names, Resource, Shape, expression};
 use std::alloc::AllocError;
 
 /// The rules of what may be assigned.

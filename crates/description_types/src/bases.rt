@@ -5,7 +5,7 @@ use crate::facts::{Facts, Following};
 use crate::lookups::operation_count;
 use crate::meant::Property;
 use coded_names::lisa_words::Name;
-use description_places::lisa_tree::{Expr, Meaning, Names, Operator, What};
+use lisa_tree::{Expr, Meaning, Names, Operator, What};
 use std::alloc::{AllocError, Global};
 
 // The node of a declared name; a number past all nodes where it has none.

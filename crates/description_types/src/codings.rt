@@ -1,15 +1,15 @@
 //! How declared names stand in the codings and syntaxes of their operations.
 
 ghost use Rattle.std.specs.Prelude.{◌≡◌, IfOk, option_copied, map, get_or};
-ghost use Rattle.description_places.specs.lisa_tree.Descriptions.{section_tree};
-ghost use Rattle.description_places.specs.lisa_tree.Operations.{sections_at};
+ghost use Rattle.lisa_tree.specs.Descriptions.{section_tree};
+ghost use Rattle.lisa_tree.specs.Operations.{sections_at};
 ghost use Rattle.description_types.specs.Codings.{kind_or_unsigned, width_type, no_coding, name_coding, AreCodings};
 
 use crate::lookups::sections;
 use crate::values::{CodedName, TypeOf};
 use coded_names::lisa_words::{Kind, Name, NoMemory};
 use coded_names::{CodedNames, names_instructions};
-use description_places::lisa_tree::{Names, Shape, coding};
+use lisa_tree::{Names, Shape, coding};
 use std::alloc::Global;
 
 fn kind_or_unsigned(kind: Option<Kind>) -> Kind

@@ -1,18 +1,18 @@
 //! Facts about operations, choices and declared names that rest on each other, by one rule for all of them.
 
 ghost use Rattle.std.specs.Prelude.{◌≡◌, ◌≤◌, ◌-◌, ℕ, List, Option, length, option_map};
-ghost use Rattle.description_places.specs.lisa_tree.Descriptions.{DescriptionTree};
-ghost use Rattle.description_places.specs.lisa_tree.Declarations.{what_at};
-ghost use Rattle.description_places.specs.lisa_tree.Paths.{choice_node, node_count};
-ghost use Rattle.meant_declarations.specs.least_fixed_points.Settles.{entry};
+ghost use Rattle.lisa_tree.specs.Descriptions.{DescriptionTree};
+ghost use Rattle.lisa_tree.specs.Declarations.{what_at};
+ghost use Rattle.lisa_tree.specs.Paths.{choice_node, node_count};
+ghost use Rattle.least_fixed_points.specs.Settles.{entry};
 ghost use Rattle.description_types.specs.Facts.{Fact, IsSteady, together, merged, merged_from, declared_value, reference_value, entry_value, follows};
 ghost use Rattle.description_types.specs.Larger.{follows_monotone};
 ghost use Rattle.description_types.specs.Ends.{follows_ends};
 
 use crate::lookups::{known_choice, known_entry, operation_count};
 use coded_names::lisa_words::Name;
-use description_places::lisa_tree::{Names, What};
-use meant_declarations::least_fixed_points::Rule;
+use least_fixed_points::Rule;
+use lisa_tree::{Names, What};
 use std::alloc::AllocError;
 
 /// How a fact of a node follows from those of others.

@@ -2,11 +2,11 @@
 
 ghost use Rattle.std.specs.Prelude.{◌≡◌, ◌↔◌, ◌<◌, ◌&&◌, ℕ, length, true, IfOk};
 ghost use Rattle.std.specs.Option.{is_some};
-ghost use Rattle.meant_declarations.specs.graph_paths.Paths.{saw};
-ghost use Rattle.meant_declarations.specs.least_fixed_points.Settles.{entry};
-ghost use Rattle.description_places.specs.lisa_tree.Declarations.{entries};
-ghost use Rattle.description_places.specs.lisa_tree.Paths.{entry_node, node_count};
-ghost use Rattle.description_places.specs.lisa_tree.Expressions.{expr_tree};
+ghost use Rattle.graph_paths.specs.Paths.{saw};
+ghost use Rattle.least_fixed_points.specs.Settles.{entry};
+ghost use Rattle.lisa_tree.specs.Declarations.{entries};
+ghost use Rattle.lisa_tree.specs.Paths.{entry_node, node_count};
+ghost use Rattle.lisa_tree.specs.Expressions.{expr_tree};
 ghost use Rattle.meant_declarations.specs.Meanings.{AreMeanings};
 ghost use Rattle.description_types.specs.Types.{type_of};
 ghost use Rattle.description_types.specs.Kinds.{unrefused};
@@ -27,9 +27,9 @@ use crate::uses::UseTables;
 use crate::values::{Assignable, CodedName, Traits, TypeOf};
 use coded_names::lisa_words::NoMemory;
 use description_places::Scope;
-use description_places::lisa_tree::{Expr, Names, Shape};
+use least_fixed_points::settle_along;
+use lisa_tree::{Expr, Names, Shape};
 use meant_declarations::Meanings;
-use meant_declarations::least_fixed_points::settle_along;
 use std::alloc::{AllocError, Global};
 use std::marker::Model;
 

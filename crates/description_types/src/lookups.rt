@@ -1,15 +1,15 @@
 //! Resources and operations by their numbers.
 
 ghost use Rattle.std.specs.Prelude.{◌≡◌, ◌+◌, length, map, option_map, slice_get, IfOk};
-ghost use Rattle.description_places.specs.lisa_tree.Descriptions.{resource_tree, section_tree};
-ghost use Rattle.description_places.specs.lisa_tree.Operations.{name_at, sections_at};
-ghost use Rattle.description_places.specs.lisa_tree.Paths.{choice_node, entry_node};
-ghost use Rattle.meant_declarations.specs.graph_paths.Paths.{saw};
-ghost use Rattle.meant_declarations.specs.least_fixed_points.Settles.{entry};
+ghost use Rattle.lisa_tree.specs.Descriptions.{resource_tree, section_tree};
+ghost use Rattle.lisa_tree.specs.Operations.{name_at, sections_at};
+ghost use Rattle.lisa_tree.specs.Paths.{choice_node, entry_node};
+ghost use Rattle.graph_paths.specs.Paths.{saw};
+ghost use Rattle.least_fixed_points.specs.Settles.{entry};
 ghost use Rattle.description_types.specs.Facts.{any_open};
 
 use coded_names::lisa_words::{Name, NoMemory};
-use description_places::lisa_tree::{Names, Resource, Section};
+use lisa_tree::{Names, Resource, Section};
 use std::alloc::Global;
 
 /// The resource of a number.
@@ -58,7 +58,7 @@ pub fn operation_name<N: Names>(
 }
 
 /// The entry of a table at a number behind a base. Past the end there is none.
-#[tactic(auto, using(meant_declarations::proofs::least_fixed_points_proofs::Entries::entry_at, meant_declarations::proofs::least_fixed_points_proofs::Entries::entry_past))]
+#[tactic(auto, using(least_fixed_points::proofs::Entries::entry_at, least_fixed_points::proofs::Entries::entry_past))]
 pub fn known<T: Copy>(table: &[Option<T>], base: usize, number: usize) -> Option<T>
     ensures { result ≡ entry table.now (base + number) }
 {
@@ -82,7 +82,7 @@ pub fn operation_count<N: Names>(names: &N) -> usize
 }
 
 /// What is known of an operation.
-#[tactic(auto, using(meant_declarations::proofs::least_fixed_points_proofs::Entries::entry_at, meant_declarations::proofs::least_fixed_points_proofs::Entries::entry_past))]
+#[tactic(auto, using(least_fixed_points::proofs::Entries::entry_at, least_fixed_points::proofs::Entries::entry_past))]
 pub fn known_operation<T: Copy>(table: &[Option<T>], operation: usize) -> Option<T>
     ensures { result ≡ entry table.now operation }
 {
@@ -113,7 +113,7 @@ pub fn known_choice<T: Copy, N: Names>(names: &N, table: &[Option<T>], choice: u
 }
 
 /// What is known of a declared name.
-#[tactic(auto, using(meant_declarations::proofs::least_fixed_points_proofs::Entries::entry_past))]
+#[tactic(auto, using(least_fixed_points::proofs::Entries::entry_past))]
 pub fn known_entry<T: Copy, N: Names>(names: &N, table: &[Option<T>], number: usize) -> Option<T>
     ensures { result ≡ entry table.now (entry_node (N.tree names.now) number) }
 {
@@ -124,7 +124,7 @@ pub fn known_entry<T: Copy, N: Names>(names: &N, table: &[Option<T>], number: us
 }
 
 /// A mark of a declared name, by a table. There is none past its end.
-#[tactic(auto, using(meant_declarations::proofs::graph_paths_proofs::Seen::saw_at, meant_declarations::proofs::graph_paths_proofs::Seen::saw_past))]
+#[tactic(auto, using(graph_paths::proofs::Seen::saw_at, graph_paths::proofs::Seen::saw_past))]
 pub(crate) fn mark_at(marks: &[bool], entry: usize) -> bool
     ensures { result ≡ saw marks.now entry }
 {

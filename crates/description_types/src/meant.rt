@@ -2,12 +2,12 @@
 
 ghost use Rattle.std.specs.Prelude.{◌≡◌, ◌<◌, ◌↔◌, ℕ, Bool, true, length, map, IfOk};
 ghost use Rattle.std.specs.Option.{is_some};
-ghost use Rattle.meant_declarations.specs.graph_paths.Paths.{saw};
+ghost use Rattle.graph_paths.specs.Paths.{saw};
 ghost use Rattle.meant_declarations.specs.Meanings.{AreMeanings};
 ghost use Rattle.description_types.specs.Tables.{AreMeant};
 
 use coded_names::lisa_words::NoMemory;
-use description_places::lisa_tree::Names;
+use lisa_tree::Names;
 use meant_declarations::Meanings;
 use std::alloc::{AllocError, Global};
 

@@ -1,16 +1,16 @@
 //! Uses in an operation's expression that go against what they are of, and uses of what is open.
 
 ghost use Rattle.std.specs.Prelude.{◌≡◌};
-ghost use Rattle.description_places.specs.lisa_tree.Expressions.{expr_tree};
-ghost use Rattle.description_places.specs.lisa_tree.Resources.{is_pipeline};
-ghost use Rattle.meant_declarations.specs.least_fixed_points.Settles.{entry};
+ghost use Rattle.lisa_tree.specs.Expressions.{expr_tree};
+ghost use Rattle.lisa_tree.specs.Resources.{is_pipeline};
+ghost use Rattle.least_fixed_points.specs.Settles.{entry};
 ghost use Rattle.description_types.specs.Refused.{may_input, are_apart, is_apart, meant_refused, is_no_boundary, is_refused, meant_open, is_open, two_rest, rests_on_refused, rests_on_open};
 
 use crate::lookups::{known_entry, resource};
 use crate::meant::Property;
 use crate::values::Traits;
 use coded_names::lisa_words::Name;
-use description_places::lisa_tree::{BoundaryField, Expr, Meaning, Names, Operator, Resource};
+use lisa_tree::{BoundaryField, Expr, Meaning, Names, Operator, Resource};
 
 /// Whether an operation with this stage of its own reads the boundary before it.
 pub fn may_input(stage: Option<usize>) -> bool

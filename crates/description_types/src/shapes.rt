@@ -4,7 +4,7 @@ ghost use Rattle.std.specs.Prelude.{◌≡◌};
 ghost use Rattle.description_types.specs.Shapes.{same_kind, same_shape, digit_count, number_shape, joined_kind, joined_shape, joined, number_like, beside, paired};
 
 use coded_names::lisa_words::Kind;
-use description_places::lisa_tree::Shape;
+use lisa_tree::Shape;
 
 fn same_kind(left: Kind, right: Kind) -> bool
     ensures { result ≡ same_kind left right }

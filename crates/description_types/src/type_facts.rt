@@ -1,8 +1,8 @@
 //! The types of operations, choices and declared names.
 
 ghost use Rattle.std.specs.Prelude.{◌≡◌, [], option_map};
-ghost use Rattle.description_places.specs.lisa_tree.Expressions.{expr_tree};
-ghost use Rattle.meant_declarations.specs.least_fixed_points.Settles.{entry};
+ghost use Rattle.lisa_tree.specs.Expressions.{expr_tree};
+ghost use Rattle.least_fixed_points.specs.Settles.{entry};
 ghost use Rattle.description_types.specs.Facts.{added, known_together};
 ghost use Rattle.description_types.specs.Kinds.{as_type, expression_type, both_types, lacks_expression, is_refused_type, any_refused, unrefused, choice_type, type_of_choice, type_fact};
 ghost use Rattle.description_types.specs.Codings.{AreCodings};
@@ -18,7 +18,7 @@ use crate::shapes::same_shape;
 use crate::types::type_of;
 use crate::values::{CodedName, TypeOf};
 use description_places::Scope;
-use description_places::lisa_tree::{Expr, Names, Shape, expression};
+use lisa_tree::{Expr, Names, Shape, expression};
 use std::alloc::AllocError;
 
 /// The rules of types.

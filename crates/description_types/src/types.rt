@@ -1,9 +1,9 @@
 //! The types of expressions.
 
 ghost use Rattle.std.specs.Prelude.{◌≡◌, option_map};
-ghost use Rattle.description_places.specs.lisa_tree.Expressions.{expr_tree};
-ghost use Rattle.description_places.specs.lisa_tree.Descriptions.{resource_tree};
-ghost use Rattle.meant_declarations.specs.least_fixed_points.Settles.{entry};
+ghost use Rattle.lisa_tree.specs.Expressions.{expr_tree};
+ghost use Rattle.lisa_tree.specs.Descriptions.{resource_tree};
+ghost use Rattle.least_fixed_points.specs.Settles.{entry};
 ghost use Rattle.description_types.specs.Shapes.{bit};
 ghost use Rattle.description_places.specs.Literals.{literal};
 ghost use Rattle.description_types.specs.Types.{word_shape, element_shape, typed, meant_type, name_type, meant_element, element_type, two_type, type_of};
@@ -13,7 +13,7 @@ use crate::shapes::{number_shape, paired};
 use crate::values::TypeOf;
 use coded_names::lisa_words::{Kind, Name};
 use description_places::Scope;
-use description_places::lisa_tree::{Expr, Meaning, Names, Operator, Resource, Shape};
+use lisa_tree::{Expr, Meaning, Names, Operator, Resource, Shape};
 
 // The type of a truth value.
 fn bit() -> Shape

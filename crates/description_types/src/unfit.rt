@@ -2,9 +2,9 @@
 
 ghost use Rattle.std.specs.Prelude.{◌≡◌, ◌||◌};
 ghost use Rattle.std.specs.Option.{is_some};
-ghost use Rattle.meant_declarations.specs.graph_paths.Paths.{saw};
-ghost use Rattle.meant_declarations.specs.least_fixed_points.Settles.{entry};
-ghost use Rattle.description_places.specs.lisa_tree.Paths.{entry_node};
+ghost use Rattle.graph_paths.specs.Paths.{saw};
+ghost use Rattle.least_fixed_points.specs.Settles.{entry};
+ghost use Rattle.lisa_tree.specs.Paths.{entry_node};
 ghost use Rattle.description_types.specs.Uses.{traits_by};
 ghost use Rattle.description_types.specs.Known.{has_no_type, is_assignable};
 ghost use Rattle.description_types.specs.Tables.{apart, unfit};
@@ -14,7 +14,7 @@ use crate::meant::Property;
 use crate::refused::is_apart;
 use crate::uses::UseTables;
 use crate::values::{Assignable, TypeOf};
-use description_places::lisa_tree::Names;
+use lisa_tree::Names;
 
 /// The declared names that may be no value by their traits alone.
 #[derive(Drop)]

@@ -1,6 +1,6 @@
 //! What is found out about operations, choices and declared names.
 
-use description_places::lisa_tree::Shape;
+use lisa_tree::Shape;
 
 /// The type of what an expression, a child or a label stands for.
 #[derive(Clone, Copy, Debug, PartialEq, Eq)]

@@ -11,8 +11,8 @@ use Rattle.stage_checks.proofs.Nodes.{plain_within}
 use Rattle.activation_trees.proofs.lisa_machine_proofs.Falling.{node_ranks}
 use Rattle.text_counts.specs.References as references
 use Rattle.text_counts.specs.References.{AreMeanings}
-use Rattle.lisa_forms.specs.description_sizes.Texts as texts
-use Rattle.lisa_forms.proofs.description_sizes_proofs.Chosen.{meant_within, means_same}
+use Rattle.description_sizes.specs.Texts as texts
+use Rattle.description_sizes.proofs.Chosen.{meant_within, means_same}
 use Rattle.access_counts.specs.Rounds.{AreBelow, AllBelow}
 use Rattle.description_weight.specs.Unfolded.{chosen_by}
 

@@ -12,10 +12,10 @@ use Rattle.activation_trees.proofs.lisa_machine_proofs.Falling.{node_ranks}
 use Rattle.activation_trees.specs.declared.parts.Occurrence.{Occurrence}
 use Rattle.activation_trees.specs.Unfolding.{occurrences}
 use Rattle.text_counts.specs.Tables.{TextTable, AreTextCounts}
-use Rattle.lisa_forms.specs.description_sizes.Texts.{texts}
-use Rattle.lisa_forms.specs.description_sizes.Sums.{nodes_by}
-use Rattle.lisa_forms.proofs.description_sizes_proofs.Defined.{nodes_same}
-use Rattle.lisa_forms.proofs.description_sizes_proofs.Within.{IsThere, all_there}
+use Rattle.description_sizes.specs.Texts.{texts}
+use Rattle.description_sizes.specs.Sums.{nodes_by}
+use Rattle.description_sizes.proofs.Defined.{nodes_same}
+use Rattle.description_sizes.proofs.Within.{IsThere, all_there}
 use Rattle.instruction_trees.specs.Trees.{Form, is_plain}
 use Rattle.instruction_forms.specs.coding_tables.Instructions.{forms_of}
 use Rattle.instruction_forms.specs.Trees.{FormTree, form_tree}

@@ -9,7 +9,7 @@ use Rattle.description_graph.specs.Circles.{IsFirstCircularOperation}
 use Rattle.activation_trees.specs.declared.parts.Occurrence.{Occurrence}
 use Rattle.activation_trees.specs.Unfolding.{occurrences}
 use Rattle.text_counts.specs.References.{AreMeanings}
-use Rattle.lisa_forms.specs.description_sizes.Texts.{levels}
+use Rattle.description_sizes.specs.Texts.{levels}
 use Rattle.access_counts.specs.declared.ledger.Ledger.{Ledger}
 use Rattle.access_counts.specs.Accesses.{Access}
 use Rattle.access_counts.specs.Unfolded.{of_resources, text_accesses}

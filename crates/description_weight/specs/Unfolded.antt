@@ -4,8 +4,8 @@ use Rattle.lisa_tree.specs.Descriptions.{DescriptionTree}
 use Rattle.lisa_tree.specs.Declarations.{what_at}
 use Rattle.activation_trees.specs.Unfolding.{occurrences}
 use Rattle.text_counts.specs.References as references
-use Rattle.lisa_forms.specs.description_sizes.Texts as texts
-use Rattle.lisa_forms.specs.description_sizes.Texts.{levels}
+use Rattle.description_sizes.specs.Texts as texts
+use Rattle.description_sizes.specs.Texts.{levels}
 use Rattle.access_counts.specs.Accesses.{Access}
 use Rattle.access_counts.specs.Unfolded.{text_accesses}
 

@@ -10,8 +10,8 @@ use Rattle.instruction_forms.specs.coding_tables.Instructions.{forms_of}
 use Rattle.instruction_forms.specs.Trees.{FormTree, FormTrees, Node, End, Then}
 use Rattle.instruction_forms.specs.Described.{instruction_form}
 use Rattle.activation_trees.specs.Unfolding.{occurrences}
-use Rattle.lisa_forms.specs.description_sizes.Texts.{texts}
-use Rattle.lisa_forms.specs.description_sizes.Sums.{nodes_by}
+use Rattle.description_sizes.specs.Texts.{texts}
+use Rattle.description_sizes.specs.Sums.{nodes_by}
 use Rattle.access_counts.specs.Unfolded.{of_resources}
 use Rattle.description_weight.specs.Unfolded.{accesses}
 

@@ -6,7 +6,7 @@ ghost use Rattle.lisa_tree.specs.Resources.{stages_in};
 ghost use Rattle.activation_trees.specs.Unfolding.{occurrences};
 ghost use Rattle.description_graph.specs.Circles.{IsFirstCircularOperation};
 ghost use Rattle.text_counts.specs.Tables.{told_by, AreTextCounts};
-ghost use Rattle.lisa_forms.specs.description_sizes.Sums.{nodes_by};
+ghost use Rattle.description_sizes.specs.Sums.{nodes_by};
 ghost use Rattle.access_counts.specs.Ledgers.{capped};
 ghost use Rattle.description_weight.specs.Weights.{unfolded_nodes};
 
@@ -15,7 +15,7 @@ use lisa_tree::Resource;
 use text_counts::TextCounts;
 
 /// The nodes of the operations that occur, each as often as it occurs.
-#[tactic(auto, using(lisa_forms::proofs::description_sizes_proofs::Steps::one_of_nodes))]
+#[tactic(auto, using(description_sizes::proofs::Steps::one_of_nodes))]
 pub(crate) fn sum_of_nodes(counts: &TextCounts, occurrences: &[Occurrence]) -> u64
     ensures { result ≡ capped (sum_by (nodes_by (told_by counts.now)) occurrences.now) }
 {
@@ -28,7 +28,7 @@ pub(crate) fn sum_of_nodes(counts: &TextCounts, occurrences: &[Occurrence]) -> u
 }
 
 /// How many stages the pipeline has; none without a pipeline.
-#[tactic(auto, using(activation_trees::proofs::machine_parts_proofs::Steps::one_resource))]
+#[tactic(auto, using(machine_parts::proofs::Steps::one_resource))]
 pub(crate) fn count_stages(resources: &[Resource]) -> u64
     ensures { result ≡ length (stages_in (map resource_tree resources.now)) }
 {

@@ -20,11 +20,15 @@ takes_input tasks.Answers = true
 abbrev pub IsHeard : Task → Option (List ℕ) → List ℕ → Type 0
 IsHeard task left input = takes_input task ≡ true → left ≡ Some input
 
--- the text of the state after some edges; that of the first state, and of what each edge changes; or the answers to the input
+-- what a task gives over a machine under the lines: the text of the state after some edges; that of the first state, and of what each edge
+-- changes; or the answers to the input
+abbrev pub task_outcome : Task → Machine → List Line → (input : List ℕ) → Outcome
+task_outcome (tasks.State edges) m lines input = Finished (state_text m.items m.arrays edges (state_at (course_of m lines) edges))
+task_outcome (tasks.Trace edges) m lines input = Finished (trace_text m.items m.arrays (state_at (course_of m lines)) edges)
+task_outcome tasks.Answers m lines input = session_outcome (course_of m lines) input
+
 abbrev pub GivesTask : Task → Machine → (input : List ℕ) → List Line → Outcome → Type 0
-GivesTask (tasks.State edges) m input lines outcome = outcome ≡ Finished (state_text m.items m.arrays edges (state_at (course_of m lines) edges))
-GivesTask (tasks.Trace edges) m input lines outcome = outcome ≡ Finished (trace_text m.items m.arrays (state_at (course_of m lines)) edges)
-GivesTask tasks.Answers m input lines outcome = outcome ≡ session_outcome (course_of m lines) input
+GivesTask task m input lines outcome = outcome ≡ task_outcome task m lines input
 
 -- the same behind the reading of the schedule
 abbrev pub GivesUnder : Task → Machine → (schedule input : List ℕ) → Outcome → Type 0

@@ -8,9 +8,9 @@ ghost use Rattle.form_patterns.specs.Frames.{tree_frame, Adds, StandsFor};
 ghost use Rattle.form_patterns.specs.Instructions.{ArePatterns};
 
 use crate::bits::{add_pattern, add_repeated};
+use description_types::sections;
 use instruction_forms::Form;
 use instruction_forms::coded_names::pattern_width;
-use instruction_forms::description_types::sections;
 use lisa_tree::lisa_words::NoMemory;
 use lisa_tree::{CodingItem, CodingPart, Names, coding};
 use pattern_tables::BitPattern;

@@ -12,7 +12,7 @@ use lisa_tree::lisa_words::NoMemory;
 use std::alloc::Global;
 
 // Whether an operation is an alias.
-#[tactic(auto, using(instruction_forms::proofs::description_types_proofs::ByNumber::operation_read, instruction_forms::proofs::description_types_proofs::ByNumber::operation_past))]
+#[tactic(auto, using(description_types::proofs::ByNumber::operation_read, description_types::proofs::ByNumber::operation_past))]
 fn is_alias<N: Names>(names: &N, operation: usize) -> bool
     ensures { result ≡ is_alias (N.tree names.now) operation }
 {

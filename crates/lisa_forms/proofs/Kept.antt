@@ -10,8 +10,8 @@ use Rattle.std.proofs.lemmas.Option.{slice_get-map, slice_get_within, slice_get-
 use Rattle.lisa_tree.specs.declared.descriptions.CodingItem.{CodingItem}
 use Rattle.lisa_tree.specs.Descriptions.{DescriptionTree}
 use Rattle.lisa_tree.specs.Same.{same_name}
-use Rattle.form_promises.specs.stage_checks.Graphs.{names_in}
-use Rattle.form_promises.proofs.stage_checks_proofs.Rows.{regroup}
+use Rattle.stage_checks.specs.Graphs.{names_in}
+use Rattle.stage_checks.proofs.Rows.{regroup}
 use Rattle.form_patterns.specs.instruction_forms.Described.{items_at}
 use Rattle.form_promises.proofs.lisa_machine_proofs.Entries.{get_left, get_right}
 use Rattle.description_sizes.specs.activation_trees.declared.parts.Occurrence.{Occurrence}

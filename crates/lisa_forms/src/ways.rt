@@ -1,9 +1,9 @@
 //! How each occurrence is activated, found out once.
-#![tactic(auto, using(form_promises::proofs::stage_checks_proofs::Rows::names_push, form_promises::proofs::stage_checks_proofs::Rows::regroup, crate::proofs::Kept::one_item, crate::proofs::Kept::one_row))]
+#![tactic(auto, using(stage_checks::proofs::Rows::names_push, stage_checks::proofs::Rows::regroup, crate::proofs::Kept::one_item, crate::proofs::Kept::one_row))]
 
 ghost use Rattle.std.specs.Prelude.{◌≡◌, ◌<◌, ◌++◌, ℕ, Some, IfOk, OnOk, length, map, position};
 ghost use Rattle.std.specs.Option.{option_to_list};
-ghost use Rattle.form_promises.specs.stage_checks.Graphs.{names_in};
+ghost use Rattle.stage_checks.specs.Graphs.{names_in};
 ghost use Rattle.lisa_tree.specs.Same.{same_name};
 ghost use Rattle.form_patterns.specs.instruction_forms.Described.{items_at};
 ghost use Rattle.description_sizes.specs.activation_trees.Unfolding.{occurrences};

@@ -3,7 +3,7 @@ ghost use Rattle.std.specs.Prelude.{◌≡◌, map, position, slice_get};
 ghost use Rattle.std.specs.Option.{option_to_list};
 ghost use Rattle.lisa_tree.specs.Same.{same_name};
 ghost use Rattle.lowered_resources.specs.lisa_forms.Choosing.{child_names, child_place};
-ghost use Rattle.lowered_words.specs.scene_paths.Lookups.{tree_of};
+ghost use Rattle.scene_paths.specs.Lookups.{tree_of};
 ghost use Rattle.lowered_behaviors.specs.Positions.{alternatives_in, below};
 
 use crate::ground::Ground;
@@ -12,7 +12,7 @@ use coded_names::names_instructions;
 use lisa_tree::{CodingItem, CodingPart};
 use lisa_words::Name;
 use lowered_resources::Placing;
-use lowered_words::scene_paths::Described;
+use scene_paths::Described;
 
 /// Operations among which a child chooses, and how forms reach the part that each of them is.
 #[derive(Clone, Copy, Debug)]
@@ -22,7 +22,7 @@ pub(crate) struct Alternatives<'a> {
 }
 
 // The place of a child among those of a coding.
-#[tactic(auto, using(lowered_words::proofs::scene_paths_proofs::Children::child_found, lowered_words::proofs::scene_paths_proofs::Children::child_past, lowered_words::proofs::scene_paths_proofs::Children::none_past, lowered_words::proofs::scene_paths_proofs::Children::behind_none))]
+#[tactic(auto, using(scene_paths::proofs::Children::child_found, scene_paths::proofs::Children::child_past, scene_paths::proofs::Children::none_past, scene_paths::proofs::Children::behind_none))]
 fn place_in(items: &[CodingItem], name: &Name) -> Option<usize>
     ensures { result ≡ position (same_name name.now) (child_names items.now) }
 {

@@ -3,7 +3,7 @@ ghost use Rattle.std.specs.Prelude.{◌≡◌, ◌≤◌, ◌∷◌, IfOk, OnOk,
 ghost use Rattle.lisa_tree.specs.Statements.{stmt_trees, stmts_depth};
 ghost use Rattle.lisa_tree.specs.Descriptions.{description_depth};
 ghost use Rattle.lisa_tree.specs.Operations.{sections_at, behavior_in};
-ghost use Rattle.lowered_words.specs.scene_paths.Lookups.{tree_of};
+ghost use Rattle.scene_paths.specs.Lookups.{tree_of};
 ghost use Rattle.step_pieces.specs.Drafts.{leaf_tree};
 ghost use Rattle.lowered_statements.specs.Code.{Adds, base, callee_of};
 ghost use Rattle.lowered_behaviors.specs.Standpoints.{running};
@@ -22,7 +22,7 @@ use lisa_words::{Name, NoMemory};
 use lowered_resources::{Placing, flush, stall};
 use lowered_statements::{Callee, Given, Locals, Lowers, state_scene};
 use lowered_values::Source;
-use lowered_words::scene_paths::Described;
+use scene_paths::Described;
 use std::alloc::Global;
 use std::marker::Model;
 use step_pieces::{Draft, Leaf};

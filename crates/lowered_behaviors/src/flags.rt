@@ -1,7 +1,7 @@
 //! What a row tells of an operation's part.
 ghost use Rattle.std.specs.Prelude.{◌≡◌, ◌<◌, IfOk, OnOk};
 ghost use Rattle.step_program.specs.Programs.{Const};
-ghost use Rattle.lowered_words.specs.scene_paths.Lookups.{tree_of};
+ghost use Rattle.scene_paths.specs.Lookups.{tree_of};
 ghost use Rattle.step_pieces.specs.Drafts.{leaf_tree};
 ghost use Rattle.lowered_values.specs.Code.{plain};
 ghost use Rattle.lowered_statements.specs.Code.{Adds, base};

@@ -1,7 +1,7 @@
 //! The names that expressions read.
 ghost use Rattle.std.specs.Prelude.{◌≡◌, ◌++◌, IfOk, OnOk};
 ghost use Rattle.lisa_tree.specs.Expressions.{expr_tree};
-ghost use Rattle.lowered_words.specs.scene_paths.Lookups.{tree_of};
+ghost use Rattle.scene_paths.specs.Lookups.{tree_of};
 ghost use Rattle.lowered_statements.specs.Code.{scope_of};
 ghost use Rattle.lowered_behaviors.specs.Values.{names_in};
 ghost use Rattle.lowered_behaviors.specs.Code.{entry_here, texts_of};
@@ -9,7 +9,7 @@ ghost use Rattle.lowered_behaviors.specs.Code.{entry_here, texts_of};
 use lisa_tree::{Expr, Meaning};
 use lisa_words::{Name, NoMemory};
 use lowered_statements::Locals;
-use lowered_words::scene_paths::Described;
+use scene_paths::Described;
 use std::alloc::Global;
 
 fn add_names<'e>(e: &'e Expr, names: &mut Vec<&'e Name>) -> Result<(), NoMemory>

@@ -2,7 +2,7 @@
 ghost use Rattle.std.specs.Prelude.{◌≡◌, suc, [], OnOk, option_map};
 ghost use Rattle.lisa_tree.specs.Expressions.{expr_tree};
 ghost use Rattle.lowered_resources.specs.description_sizes.Texts.{levels};
-ghost use Rattle.lowered_words.specs.scene_paths.Lookups.{tree_of};
+ghost use Rattle.scene_paths.specs.Lookups.{tree_of};
 ghost use Rattle.step_pieces.specs.Pieces.{nothing};
 ghost use Rattle.step_pieces.specs.Drafts.{leaf_tree};
 ghost use Rattle.lowered_statements.specs.Code.{Adds, base, given_of, scope_of};
@@ -21,7 +21,7 @@ use lisa_words::{Name, NoMemory};
 use lowered_resources::{Accesses, Placing, Targets};
 use lowered_statements::{Given, Locals};
 use lowered_values::Source;
-use lowered_words::scene_paths::Described;
+use scene_paths::Described;
 use step_pieces::{Draft, Leaf};
 
 // What assignments to all but declared names are made of.

@@ -3,15 +3,15 @@ ghost use Rattle.std.specs.Prelude.{◌≡◌, [], ◌∷◌, IfOk, MatchOption}
 ghost use Rattle.lisa_tree.specs.Descriptions.{DescriptionTree};
 ghost use Rattle.lisa_tree.specs.Declarations.{is_reference};
 ghost use Rattle.lowered_resources.specs.lisa_meaning.Scenes.{declared};
-ghost use Rattle.lowered_words.specs.scene_paths.Lookups.{tree_of};
+ghost use Rattle.scene_paths.specs.Lookups.{tree_of};
 ghost use Rattle.lowered_words.specs.Code.{AreAt, words_tree};
 ghost use Rattle.lowered_behaviors.specs.Standpoints.{own_way, running};
 ghost use Rattle.lowered_behaviors.specs.Positions.{home_in, standpoint_of};
 
 use lisa_tree::What;
 use lisa_words::{Name, NoMemory};
-use lowered_words::scene_paths::Described;
 use lowered_words::{WayAt, Words};
+use scene_paths::Described;
 use std::alloc::Global;
 
 /// How forms reach the part that an operation is.

@@ -4,7 +4,7 @@ ghost use Rattle.lisa_tree.specs.Expressions.{expr_tree};
 ghost use Rattle.lisa_tree.specs.declared.declared.Meaning.TheVariants.{Declared};
 ghost use Rattle.lowered_resources.specs.description_sizes.Texts.{levels};
 ghost use Rattle.lowered_resources.specs.lisa_meaning.Scenes.{declared, is_label};
-ghost use Rattle.lowered_words.specs.scene_paths.Lookups.{tree_of};
+ghost use Rattle.scene_paths.specs.Lookups.{tree_of};
 ghost use Rattle.lowered_values.specs.Code.{plain};
 ghost use Rattle.lowered_values.specs.Computed.{computed};
 ghost use Rattle.lowered_resources.specs.Reading.{sources};
@@ -26,7 +26,7 @@ use lisa_words::{Name, NoMemory, Word};
 use lowered_resources::{Placing, Resources};
 use lowered_statements::Locals;
 use lowered_values::{Source, compute, fitted, word_width};
-use lowered_words::scene_paths::Described;
+use scene_paths::Described;
 use step_pieces::{Draft, Leaf};
 use step_program::{StepExpr, Target};
 

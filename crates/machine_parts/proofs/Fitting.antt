@@ -2,9 +2,9 @@
 use Rattle.std.proofs.Common.{◌≡◌, ◌<◌, ◌≤◌, ◌^◌, ◌∙◌, ℕ, zero, suc, List, [], ◌∷◌, refl, ap, subst, None, Some, length, arith}
 use Rattle.std.specs.Prelude.{All, filter_map, zip, slice_index, slice_index_or}
 use Rattle.std.proofs.lemmas.Bool.Decides.{nat_tests}
-use Rattle.typed_values.specs.lisa_tree.declared.tokens.Shape.{Shape}
-use Rattle.typed_values.specs.lisa_tree.Descriptions as trees
-use Rattle.typed_values.specs.lisa_tree.Descriptions.{ResourceTree, DescriptionTree}
+use Rattle.lisa_tree.specs.declared.tokens.Shape.{Shape}
+use Rattle.lisa_tree.specs.Descriptions as trees
+use Rattle.lisa_tree.specs.Descriptions.{ResourceTree, DescriptionTree}
 use Rattle.lisa_engine.specs.declared.parts.Item.{Item}
 use Rattle.lisa_engine.specs.Shape.{IsFitting}
 use Rattle.typed_values.specs.Words.{TypedWord, word_width}

@@ -1,8 +1,8 @@
 -- Each array is told to be a memory or none, and each register has a first value.
 use Rattle.std.proofs.Common.{◌≡◌, suc, List, [], ◌∷◌, map, refl, ap, None, Some, length}
 use Rattle.std.specs.Prelude.{filter_map, zip}
-use Rattle.typed_values.specs.lisa_tree.Descriptions as trees
-use Rattle.typed_values.specs.lisa_tree.Descriptions.{ResourceTree, DescriptionTree}
+use Rattle.lisa_tree.specs.Descriptions as trees
+use Rattle.lisa_tree.specs.Descriptions.{ResourceTree, DescriptionTree}
 use Rattle.typed_values.specs.Words.{TypedWord}
 use Rattle.typed_values.specs.ResetEffects.{reset_moment}
 use Rattle.typed_values.specs.ResetLaws.{width_of, first_width}

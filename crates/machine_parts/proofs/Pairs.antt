@@ -2,8 +2,8 @@
 use Rattle.std.proofs.Common.{◌≡◌, ◌∙◌, ◌++◌, ◌⊎◌, ⊎_elim, ℕ, List, [], ◌∷◌, map, refl, sym, ap, ap₂, Option, None, Some, append_assoc, append-nil}
 use Rattle.std.specs.Prelude.{filter_map, zip}
 use Rattle.std.specs.List.{cons_option}
-use Rattle.typed_values.specs.lisa_tree.declared.descriptions.Resource.{Resource}
-use Rattle.typed_values.specs.lisa_tree.Descriptions.{resource_tree}
+use Rattle.lisa_tree.specs.declared.descriptions.Resource.{Resource}
+use Rattle.lisa_tree.specs.Descriptions.{resource_tree}
 use Rattle.typed_values.specs.declared.values.Value.{Value}
 use Rattle.typed_values.specs.Words.{typed_word}
 use Rattle.machine_parts.specs.Parts.{register_bits}

@@ -1,7 +1,7 @@
 -- One more resource.
 use Rattle.std.proofs.Common.{◌≡◌, ◌<◌, ◌+◌, ℕ, suc, List, ◌∷◌, length, map, get_or, drop, drop-cons, ap, sym, ◌∙◌, add-one}
-use Rattle.typed_values.specs.lisa_tree.declared.descriptions.Resource.{Resource}
-use Rattle.typed_values.specs.lisa_tree.Descriptions.{resource_tree}
+use Rattle.lisa_tree.specs.declared.descriptions.Resource.{Resource}
+use Rattle.lisa_tree.specs.Descriptions.{resource_tree}
 
 pub one_resource : (all : List Resource) (i : ℕ) (d : Resource) → i < length all → d ≡ get_or all i d → map resource_tree (drop i all) ≡ resource_tree d ∷ map resource_tree (drop (i + 1) all)
 one_resource all i d h e =

@@ -1,6 +1,6 @@
 -- What holds of the parts of every description.
 use Rattle.std.specs.Prelude.{◌≡◌, ◌≤◌, length, List, All}
-use Rattle.typed_values.specs.lisa_tree.Descriptions.{DescriptionTree}
+use Rattle.lisa_tree.specs.Descriptions.{DescriptionTree}
 use Rattle.lisa_engine.specs.declared.parts.Item.{Item}
 use Rattle.lisa_engine.specs.Shape.{IsFitting}
 use Rattle.machine_parts.specs.Parts.{arrays_of, memories_of, registers_of, first_values}

@@ -1,12 +1,12 @@
 -- What a machine shows, in order of declaration: its arrays, its pins, its registers and what these hold first. And how large its `reset` is.
 use Rattle.std.specs.Prelude.{codes, ℕ, ◌-◌, ◌^◌, Bool, true, false, List, filter_map, zip, min, Option, None, Some, option_map}
-use Rattle.typed_values.specs.lisa_tree.declared.tokens.Shape.{Shape}
-use Rattle.typed_values.specs.lisa_tree.Statements.{StmtTrees}
-use Rattle.typed_values.specs.lisa_tree.Descriptions as trees
-use Rattle.typed_values.specs.lisa_tree.Descriptions.{ResourceTree, DescriptionTree}
+use Rattle.lisa_tree.specs.declared.tokens.Shape.{Shape}
+use Rattle.lisa_tree.specs.Statements.{StmtTrees}
+use Rattle.lisa_tree.specs.Descriptions as trees
+use Rattle.lisa_tree.specs.Descriptions.{ResourceTree, DescriptionTree}
 use Rattle.lisa_engine.specs.declared.parts.Item.{Item}
 use Rattle.lisa_engine.specs.declared.parts.ArrayItem.{ArrayItem}
-use Rattle.typed_values.specs.lisa_tree.Operations.{number_of, behavior_in, sections_at}
+use Rattle.lisa_tree.specs.Operations.{number_of, behavior_in, sections_at}
 use Rattle.typed_values.specs.Words.{TypedWord}
 use Rattle.typed_values.specs.Counts.{statements_count, statements_nodes}
 use Rattle.typed_values.specs.ResetEffects.{reset_moment}

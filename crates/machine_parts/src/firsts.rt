@@ -1,14 +1,14 @@
 //! What `reset` gives to the registers, and how large it is.
 
 ghost use Rattle.std.specs.Prelude.{◌≡◌, ◌-◌, ◌^◌, min, map, zip, filter_map, IfOk};
-ghost use Rattle.typed_values.specs.lisa_tree.Descriptions.{resource_tree};
+ghost use Rattle.lisa_tree.specs.Descriptions.{resource_tree};
 ghost use Rattle.typed_values.specs.Words.{typed_word};
 ghost use Rattle.machine_parts.specs.Parts.{register_bits, first_values, reset_count, reset_node_count};
 
 use lisa_engine::lisa_words::{Name, NoMemory};
+use lisa_tree::{Names, Resource, behavior};
 use std::alloc::Global;
 use typed_values::description_types::sections;
-use typed_values::lisa_tree::{Names, Resource, behavior};
 use typed_values::{Value, count_nodes, count_statements, reset_values};
 
 // The bits of a resource's value, where it is a register that is no array.

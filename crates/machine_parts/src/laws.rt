@@ -1,6 +1,6 @@
 //! What holds of the parts of every description.
 
-ghost use Rattle.typed_values.specs.lisa_tree.Descriptions.{DescriptionTree};
+ghost use Rattle.lisa_tree.specs.Descriptions.{DescriptionTree};
 ghost use Rattle.machine_parts.specs.Laws.{ArraysAreTold, RegistersHaveFirsts, FirstsFit};
 
 /// Of each array it is told whether it is a memory.

@@ -2,13 +2,13 @@
 #![tactic(auto, using(crate::proofs::Steps::one_resource))]
 
 ghost use Rattle.std.specs.Prelude.{◌≡◌, IfOk};
-ghost use Rattle.typed_values.specs.lisa_tree.Descriptions.{resource_tree, description_tree};
+ghost use Rattle.lisa_tree.specs.Descriptions.{resource_tree, description_tree};
 ghost use Rattle.machine_parts.specs.Parts.{item, array, array_in, arrays_of, memory_in, memories_of, pin_in, pins_of};
 
 use lisa_engine::lisa_words::{Name, NoMemory};
 use lisa_engine::{ArrayItem, Item};
+use lisa_tree::{Description, Resource, Shape};
 use std::alloc::Global;
-use typed_values::lisa_tree::{Description, Resource, Shape};
 
 fn item(shape: Shape, name: &Name) -> Result<Item, NoMemory>
     ensures { IfOk result (λ i. i ≡ item shape name.now) }

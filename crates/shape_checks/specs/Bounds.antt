@@ -3,13 +3,13 @@ use Rattle.std.specs.Prelude.{ℕ, ◌+◌, ◌-◌, ◌*◌, ◌^◌, Bool, tru
 use Rattle.std.specs.Int.{div_ceil}
 use Rattle.description_places.specs.lisa_words.declared.words.Kind.{Kind}
 use Rattle.description_places.specs.lisa_words.declared.words.Kind.TheVariants.{Unsigned, Signed}
-use Rattle.description_places.specs.lisa_tree.declared.tokens.Shape.{Shape}
+use Rattle.lisa_tree.specs.declared.tokens.Shape.{Shape}
 use Rattle.description_places.specs.lisa_words.declared.binary.Operator.{Operator}
 use Rattle.description_places.specs.lisa_words.declared.binary.Operator.TheVariants as operators
-use Rattle.description_places.specs.lisa_tree.Expressions as exprs
-use Rattle.description_places.specs.lisa_tree.Expressions.{ExprTree}
-use Rattle.description_places.specs.lisa_tree.Statements.{HeadTree}
-use Rattle.description_places.specs.lisa_tree.Same.{same_name}
+use Rattle.lisa_tree.specs.Expressions as exprs
+use Rattle.lisa_tree.specs.Expressions.{ExprTree}
+use Rattle.lisa_tree.specs.Statements.{HeadTree}
+use Rattle.lisa_tree.specs.Same.{same_name}
 use Rattle.description_places.specs.Literals.{literal}
 use Rattle.shape_checks.specs.declared.bounds.Bounds.{Bounds}
 

@@ -2,14 +2,14 @@
 use Rattle.std.specs.Prelude.{ℕ, ◌-◌, ◌^◌, Bool, List, [], ◌∷◌, length, min, Option, None, Some, cond, nat_le, nat_lt, ◌&&◌}
 use Rattle.std.specs.Int.{is_power_of_two}
 use Rattle.std.specs.Option.{option_or}
-use Rattle.description_places.specs.lisa_tree.declared.tokens.Shape.{Shape}
-use Rattle.description_places.specs.lisa_tree.declared.descriptions.Pattern.{Pattern}
-use Rattle.description_places.specs.lisa_tree.declared.faults.DescFault.{DescFault}
-use Rattle.description_places.specs.lisa_tree.declared.faults.DescFault.TheVariants as faults
-use Rattle.description_places.specs.lisa_tree.Statements.{HeadTree}
-use Rattle.description_places.specs.lisa_tree.Descriptions as trees
-use Rattle.description_places.specs.lisa_tree.Descriptions.{ResourceTree, DescriptionTree}
-use Rattle.description_places.specs.lisa_tree.Operations.{name_at}
+use Rattle.lisa_tree.specs.declared.tokens.Shape.{Shape}
+use Rattle.lisa_tree.specs.declared.descriptions.Pattern.{Pattern}
+use Rattle.lisa_tree.specs.declared.faults.DescFault.{DescFault}
+use Rattle.lisa_tree.specs.declared.faults.DescFault.TheVariants as faults
+use Rattle.lisa_tree.specs.Statements.{HeadTree}
+use Rattle.lisa_tree.specs.Descriptions as trees
+use Rattle.lisa_tree.specs.Descriptions.{ResourceTree, DescriptionTree}
+use Rattle.lisa_tree.specs.Operations.{name_at}
 use Rattle.description_places.specs.Places.{Condition, Resource, Field, Casts, Local, Loops, Counts}
 use Rattle.shape_checks.specs.declared.bounds.Bounds.{Bounds}
 use Rattle.shape_checks.specs.Bounds.{bounds_of, turns, holds_values}

@@ -1,13 +1,13 @@
 //! Loops of the bounded form, and the values of their variables.
 
 ghost use Rattle.std.specs.Prelude.{◌≡◌, ◌<◌, ◌≤◌, ◌+◌, ◌*◌, ◌↔◌, ℕ, IfSome};
-ghost use Rattle.description_places.specs.lisa_tree.Expressions.{expr_tree};
-ghost use Rattle.description_places.specs.lisa_tree.Statements.{head_tree};
+ghost use Rattle.lisa_tree.specs.Expressions.{expr_tree};
+ghost use Rattle.lisa_tree.specs.Statements.{head_tree};
 ghost use Rattle.description_places.specs.Literals.{literal};
 ghost use Rattle.shape_checks.specs.Bounds.{beside, limit_of, step_of, bounds_of, turns, last_value, holds, holds_values};
 
-use description_places::lisa_tree::{Expr, ForHead, Operator, Shape};
 use description_places::lisa_words::{Kind, Name};
+use lisa_tree::{Expr, ForHead, Operator, Shape};
 
 /// The numbers of a loop `for (type i = first; i < limit; i = i + step)`.
 #[derive(Clone, Copy, Debug, PartialEq, Eq)]

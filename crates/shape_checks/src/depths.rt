@@ -1,12 +1,12 @@
 //! Depths of register arrays and memories.
 
 ghost use Rattle.std.specs.Prelude.{◌≡◌, IfOk};
-ghost use Rattle.description_places.specs.lisa_tree.Descriptions.{resource_tree};
+ghost use Rattle.lisa_tree.specs.Descriptions.{resource_tree};
 ghost use Rattle.shape_checks.specs.Shapes.{is_depth, depth_fault, resource_depth, bad_depth};
 
-use description_places::lisa_tree::{DescFault, Resource};
 use description_places::lisa_words::{Name, NoMemory};
 use description_places::{Condition, Region, Scope, Site};
+use lisa_tree::{DescFault, Resource};
 
 /// The condition that each depth is a power of two from 2 to 1,048,576.
 #[derive(Clone, Copy, Debug)]

@@ -1,7 +1,7 @@
 //! The first fault of each condition.
 
 ghost use Rattle.std.specs.Prelude.{◌≡◌, IfOk};
-ghost use Rattle.description_places.specs.lisa_tree.Descriptions.{description_tree};
+ghost use Rattle.lisa_tree.specs.Descriptions.{description_tree};
 ghost use Rattle.description_places.specs.Places.{first, description_places};
 ghost use Rattle.shape_checks.specs.Shapes.{bad_width, bad_depth, without_bound, too_long};
 
@@ -9,8 +9,8 @@ use crate::depths::Depths;
 use crate::loops::{Bounded, Short};
 use crate::widths::Widths;
 use description_places::first_fault;
-use description_places::lisa_tree::{DescFault, Description};
 use description_places::lisa_words::NoMemory;
+use lisa_tree::{DescFault, Description};
 use std::alloc::Global;
 
 /// The first width of a type or field that isn't from 1 to 64, or of a loop's variable that can't hold one of its values.

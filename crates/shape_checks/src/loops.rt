@@ -1,14 +1,14 @@
 //! Loops and their turns.
 
 ghost use Rattle.std.specs.Prelude.{◌≡◌, IfOk};
-ghost use Rattle.description_places.specs.lisa_tree.Descriptions.{description_tree};
-ghost use Rattle.description_places.specs.lisa_tree.Operations.{name_at};
+ghost use Rattle.lisa_tree.specs.Descriptions.{description_tree};
+ghost use Rattle.lisa_tree.specs.Operations.{name_at};
 ghost use Rattle.shape_checks.specs.Shapes.{without_bound, too_long};
 
 use crate::bounds::bounds_of;
-use description_places::lisa_tree::{DescFault, Description};
 use description_places::lisa_words::{Name, NoMemory};
 use description_places::{Condition, Region, Scope, Site};
+use lisa_tree::{DescFault, Description};
 use std::alloc::Global;
 
 // The name of an operation, the empty one where there is none.

@@ -1,14 +1,14 @@
 //! Widths of types, of labels' fields and of what a loop counts through.
 
 ghost use Rattle.std.specs.Prelude.{◌≡◌, IfOk};
-ghost use Rattle.description_places.specs.lisa_tree.Statements.{head_tree};
-ghost use Rattle.description_places.specs.lisa_tree.Descriptions.{resource_tree};
+ghost use Rattle.lisa_tree.specs.Statements.{head_tree};
+ghost use Rattle.lisa_tree.specs.Descriptions.{resource_tree};
 ghost use Rattle.shape_checks.specs.Shapes.{is_width, width_fault, field_fault, resource_width, bit_count, counter_width, bad_width};
 
 use crate::bounds::holds_values;
-use description_places::lisa_tree::{DescFault, ForHead, Pattern, Resource, Shape};
 use description_places::lisa_words::{Name, NoMemory};
 use description_places::{Condition, Region, Scope, Site};
+use lisa_tree::{DescFault, ForHead, Pattern, Resource, Shape};
 use std::alloc::Global;
 
 /// The condition that each width is from 1 to 64, and that the variable of a bounded loop can hold all its values.

@@ -1,10 +1,10 @@
 //! How many registers, stages and fields a description has, and the stage of its root.
-#![tactic(auto, using(lisa_meaning::proofs::machine_parts_proofs::Steps::one_resource))]
+#![tactic(auto, using(machine_parts::proofs::Steps::one_resource))]
 
 ghost use Rattle.std.specs.Prelude.{◌≡◌, filter_map, is_some, length, map};
 ghost use Rattle.lisa_tree.specs.Descriptions.{resource_tree};
 ghost use Rattle.lisa_tree.specs.Resources.{stages_in, fields_in};
-ghost use Rattle.lisa_meaning.specs.machine_parts.Parts.{register_in};
+ghost use Rattle.machine_parts.specs.Parts.{register_in};
 ghost use Rattle.lisa_meaning.specs.activation_trees.Items.{stage_or_first, root_stage};
 
 use lisa_meaning::description_types::is_root;

@@ -3,7 +3,7 @@
 ghost use Rattle.std.specs.Prelude.{◌≡◌, ◌<◌, ◌^◌, length, IfOk};
 ghost use Rattle.lisa_tree.specs.Descriptions.{description_tree};
 ghost use Rattle.lisa_tree.specs.Resources.{stages, fields};
-ghost use Rattle.lisa_meaning.specs.machine_parts.Parts.{registers_of};
+ghost use Rattle.machine_parts.specs.Parts.{registers_of};
 ghost use Rattle.lisa_meaning.specs.activation_trees.Unfolding.{occurrences};
 ghost use Rattle.lisa_meaning.specs.activation_trees.Items.{root_stage, has_bit};
 ghost use Rattle.lisa_meaning.specs.coding_tables.Instructions.{instruction_choice};

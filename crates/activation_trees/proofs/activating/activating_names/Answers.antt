@@ -1,5 +1,5 @@
 use Rattle.std.proofs.Common.{◌+◌, ℕ, drop, map}
-use Rattle.lisa_machine.specs.stage_checks.Graphs.{names_in}
+use Rattle.stage_checks.specs.Graphs.{names_in}
 use Rattle.activation_trees.specs.Starting.{plain_named, names_by}
 use Rattle.activation_trees.proofs.Rows.{regroup}
 use Rattle.activation_trees.proofs.Placing.{one_by}

@@ -1,5 +1,5 @@
 use Rattle.std.proofs.Common.{◌≡◌, ◌++◌, drop}
-use Rattle.lisa_machine.specs.stage_checks.Graphs.{names_in}
+use Rattle.stage_checks.specs.Graphs.{names_in}
 use Rattle.activation_trees.specs.Starting.{names_by}
 use Rattle.activation_trees.proofs.activating.activating_names.Given as goal
 

@@ -1,5 +1,5 @@
 use Rattle.std.proofs.Common.{◌≡◌, ◌++◌, ℕ, drop, map}
-use Rattle.lisa_machine.specs.stage_checks.Graphs.{names_in}
+use Rattle.stage_checks.specs.Graphs.{names_in}
 use Rattle.activation_trees.proofs.activating.add_name.Given as goal
 
 abbrev pub invariant-loop-alternative : goal.invariant-loop-alternative

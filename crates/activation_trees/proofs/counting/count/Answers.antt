@@ -1,8 +1,8 @@
 use Rattle.std.proofs.Common.{◌≡◌, ◌∙◌, ℕ, List, Option, Some, sym, ap}
 use Rattle.std.specs.Prelude.{unwrap_or}
 use Rattle.lisa_tree.specs.Operations.{number_of}
-use Rattle.lisa_machine.specs.stage_checks.Controls.{main_name}
-use Rattle.lisa_machine.proofs.stage_checks_proofs.Nodes.{number_within}
+use Rattle.stage_checks.specs.Controls.{main_name}
+use Rattle.stage_checks.proofs.Nodes.{number_within}
 use Rattle.least_fixed_points.specs.Settles.{entry}
 use Rattle.activation_trees.proofs.Ranked.{falling}
 use Rattle.activation_trees.proofs.Tallies.{main_known}

@@ -1,8 +1,8 @@
 use Rattle.std.proofs.Common.{◌++◌, List, sym, ap, ◌∙◌, append_assoc}
 use Rattle.lisa_tree.specs.Activations.{act_trees}
-use Rattle.lisa_machine.specs.stage_checks.Running.{acts_names}
-use Rattle.lisa_machine.specs.stage_checks.Graphs.{names_in}
-use Rattle.lisa_machine.proofs.stage_checks_proofs.Rows.{act_names-Choose, act_names-ChooseElse}
+use Rattle.stage_checks.specs.Running.{acts_names}
+use Rattle.stage_checks.specs.Graphs.{names_in}
+use Rattle.stage_checks.proofs.Rows.{act_names-Choose, act_names-ChooseElse}
 use Rattle.activation_trees.proofs.starts.+add_names.Goals as goal
 use Rattle.std.proofs.Common.{ℕ}
 

@@ -1,7 +1,7 @@
 use Rattle.std.proofs.Common.{◌≡◌, ◌++◌, drop}
 use Rattle.lisa_tree.specs.Activations.{act_trees}
-use Rattle.lisa_machine.specs.stage_checks.Running.{acts_names}
-use Rattle.lisa_machine.specs.stage_checks.Graphs.{names_in}
+use Rattle.stage_checks.specs.Running.{acts_names}
+use Rattle.stage_checks.specs.Graphs.{names_in}
 use Rattle.activation_trees.proofs.starts.+add_names.Given as goal
 
 abbrev pub invariant-add_all_names-loop-act : goal.invariant-add_all_names-loop-act

@@ -2,7 +2,7 @@
 use Rattle.std.proofs.Common.{◌≡◌, ◌≤◌, ◌+◌, drop, length, map}
 use Rattle.std.specs.Prelude.{filter_map}
 use Rattle.lisa_tree.specs.Descriptions.{resource_tree}
-use Rattle.activation_trees.specs.machine_parts.Parts.{pin_in}
+use Rattle.machine_parts.specs.Parts.{pin_in}
 use Rattle.description_sizes.proofs.resources.count_pins.Given as goal
 
 abbrev pub invariant-loop-resource : goal.invariant-loop-resource

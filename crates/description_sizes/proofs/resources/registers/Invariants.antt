@@ -2,7 +2,7 @@
 use Rattle.std.proofs.Common.{◌≡◌, ◌++◌, drop, map}
 use Rattle.std.specs.Prelude.{filter_map}
 use Rattle.lisa_tree.specs.Descriptions.{resource_tree}
-use Rattle.activation_trees.specs.machine_parts.Parts.{register_in}
+use Rattle.machine_parts.specs.Parts.{register_in}
 use Rattle.description_sizes.proofs.resources.registers.Given as goal
 
 abbrev pub invariant-loop-resource : goal.invariant-loop-resource

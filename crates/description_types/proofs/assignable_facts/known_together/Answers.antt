@@ -1,5 +1,5 @@
 use Rattle.std.proofs.Common.{◌∙◌}
-use Rattle.meant_declarations.specs.least_fixed_points.Settles.{entry}
+use Rattle.least_fixed_points.specs.Settles.{entry}
 use Rattle.description_types.specs.Kinds.{both_assignable}
 use Rattle.description_types.proofs.Merging.{added_step, added_last}
 use Rattle.description_types.proofs.Associating.{assignables_associate}

@@ -1,9 +1,9 @@
 use Rattle.std.proofs.Common.{◌≡◌, ◌+◌, ℕ, List, length, get_or, ap, ◌∙◌, arith}
 use Rattle.std.specs.Prelude.{option_copied}
 use Rattle.std.proofs.lemmas.List.{length_push}
-use Rattle.description_places.specs.lisa_tree.Descriptions.{SectionTree}
-use Rattle.description_places.specs.lisa_tree.Operations.{sections_at}
-use Rattle.description_places.specs.lisa_tree.Declarations.{entries, owner_at}
+use Rattle.lisa_tree.specs.Descriptions.{SectionTree}
+use Rattle.lisa_tree.specs.Operations.{sections_at}
+use Rattle.lisa_tree.specs.Declarations.{entries, owner_at}
 use Rattle.description_types.specs.declared.values.CodedName.{CodedName}
 use Rattle.description_types.specs.Codings.{no_coding, name_coding, coding_at}
 use Rattle.description_types.proofs.EachEntry.{one_more, all_entries, coding_past}

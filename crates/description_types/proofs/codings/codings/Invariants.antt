@@ -1,6 +1,6 @@
 use Rattle.std.proofs.Common.{◌≡◌, ◌<◌, ℕ, length, map, get_or}
-use Rattle.description_places.specs.lisa_tree.Descriptions.{section_tree}
-use Rattle.description_places.specs.lisa_tree.Operations.{sections_at}
+use Rattle.lisa_tree.specs.Descriptions.{section_tree}
+use Rattle.lisa_tree.specs.Operations.{sections_at}
 use Rattle.description_types.specs.Codings.{no_coding, coding_at}
 use Rattle.description_types.proofs.codings.codings.Given as goal
 

@@ -1,5 +1,5 @@
 use Rattle.std.proofs.Common.{◌∙◌}
-use Rattle.meant_declarations.specs.least_fixed_points.Settles.{entry}
+use Rattle.least_fixed_points.specs.Settles.{entry}
 use Rattle.description_types.specs.Facts.{declared_value}
 use Rattle.description_types.proofs.Merging.{merged_step}
 use Rattle.description_types.proofs.facts.merged_from.Goals as goal

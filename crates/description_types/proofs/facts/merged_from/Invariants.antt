@@ -1,5 +1,5 @@
 use Rattle.std.proofs.Common.{◌≡◌, drop}
-use Rattle.meant_declarations.specs.least_fixed_points.Settles.{entry}
+use Rattle.least_fixed_points.specs.Settles.{entry}
 use Rattle.description_types.specs.Facts.{merged_from, declared_value}
 use Rattle.description_types.proofs.facts.merged_from.Given as goal
 

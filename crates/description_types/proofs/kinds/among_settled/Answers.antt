@@ -1,6 +1,6 @@
 use Rattle.std.proofs.Common.{◌&&◌, List, Bool, ap, sym, ◌∙◌, arith}
 use Rattle.std.proofs.lemmas.Bool.{and_parts}
-use Rattle.meant_declarations.specs.graph_paths.Paths.{saw}
+use Rattle.graph_paths.specs.Paths.{saw}
 use Rattle.description_types.proofs.kinds.among_settled.Goals as goal
 
 pub returns-clause-within : goal.returns-clause-within

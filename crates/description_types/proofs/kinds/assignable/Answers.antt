@@ -1,5 +1,5 @@
-use Rattle.meant_declarations.specs.graph_paths.Paths.{saw}
-use Rattle.meant_declarations.specs.least_fixed_points.Settles.{entry}
+use Rattle.graph_paths.specs.Paths.{saw}
+use Rattle.least_fixed_points.specs.Settles.{entry}
 use Rattle.description_types.proofs.KnownMarks.{assignable_so}
 use Rattle.description_types.proofs.kinds.assignable.Goals as goal
 

@@ -1,7 +1,7 @@
 use Rattle.std.proofs.Common.{◌+◌, ◌&&◌, ℕ, List, Bool, false, length, get_or, ap, ◌∙◌, arith}
 use Rattle.std.proofs.lemmas.List.{length_push}
-use Rattle.meant_declarations.specs.graph_paths.Paths.{saw}
-use Rattle.meant_declarations.proofs.graph_paths_proofs.Seen.{saw_get, saw_past}
+use Rattle.graph_paths.specs.Paths.{saw}
+use Rattle.graph_paths.proofs.Seen.{saw_get, saw_past}
 use Rattle.description_types.proofs.EachEntry.{one_more, all_entries}
 use Rattle.description_types.proofs.kinds.both.Goals as goal
 

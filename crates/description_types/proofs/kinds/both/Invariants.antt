@@ -1,5 +1,5 @@
 use Rattle.std.proofs.Common.{◌≡◌, ◌<◌, ◌&&◌, ℕ, false, length, get_or}
-use Rattle.meant_declarations.specs.graph_paths.Paths.{saw}
+use Rattle.graph_paths.specs.Paths.{saw}
 use Rattle.description_types.proofs.kinds.both.Given as goal
 
 abbrev pub invariant-loop-entry : goal.invariant-loop-entry

@@ -1,7 +1,7 @@
 use Rattle.std.proofs.Common.{◌+◌, ℕ, List, Option, None, length, get_or, ap, ◌∙◌, arith}
 use Rattle.std.proofs.lemmas.List.{length_push}
-use Rattle.description_places.specs.lisa_tree.Paths.{entry_node}
-use Rattle.meant_declarations.specs.least_fixed_points.Settles.{entry}
+use Rattle.lisa_tree.specs.Paths.{entry_node}
+use Rattle.least_fixed_points.specs.Settles.{entry}
 use Rattle.description_types.specs.declared.values.TypeOf.{TypeOf}
 use Rattle.description_types.specs.Kinds.{unrefused}
 use Rattle.description_types.proofs.EachEntry.{one_more, entry_get}

@@ -1,6 +1,6 @@
 use Rattle.std.proofs.Common.{◌≡◌, ◌<◌, ℕ, None, length, get_or}
-use Rattle.description_places.specs.lisa_tree.Paths.{entry_node}
-use Rattle.meant_declarations.specs.least_fixed_points.Settles.{entry}
+use Rattle.lisa_tree.specs.Paths.{entry_node}
+use Rattle.least_fixed_points.specs.Settles.{entry}
 use Rattle.description_types.specs.Kinds.{unrefused}
 use Rattle.description_types.proofs.kinds.declared_types.Given as goal
 

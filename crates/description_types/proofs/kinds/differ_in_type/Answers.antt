@@ -1,8 +1,8 @@
 use Rattle.std.proofs.Common.{◌≡◌, ◌<◌, ◌↔◌, ℕ, Bool, true, List, length, ap, sym, ◌∙◌, subst}
-use Rattle.description_places.specs.lisa_tree.Declarations.{entries}
-use Rattle.description_places.specs.lisa_tree.Paths.{entry_node}
-use Rattle.meant_declarations.specs.graph_paths.Paths.{saw}
-use Rattle.meant_declarations.specs.least_fixed_points.Settles.{entry}
+use Rattle.lisa_tree.specs.Declarations.{entries}
+use Rattle.lisa_tree.specs.Paths.{entry_node}
+use Rattle.graph_paths.specs.Paths.{saw}
+use Rattle.least_fixed_points.specs.Settles.{entry}
 use Rattle.description_types.specs.Kinds.{unrefused}
 use Rattle.description_types.specs.Tables.{DifferInType}
 use Rattle.description_types.proofs.MeantMarks.{meant_from}

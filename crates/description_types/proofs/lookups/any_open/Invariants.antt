@@ -1,5 +1,5 @@
 use Rattle.std.proofs.Common.{◌≡◌, drop}
-use Rattle.meant_declarations.specs.least_fixed_points.Settles.{entry}
+use Rattle.least_fixed_points.specs.Settles.{entry}
 use Rattle.description_types.specs.Facts.{any_open}
 use Rattle.description_types.proofs.lookups.any_open.Given as goal
 

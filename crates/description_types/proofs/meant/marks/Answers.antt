@@ -1,6 +1,6 @@
 use Rattle.std.proofs.Common.{◌+◌, ℕ, List, Bool, false, length, get_or, ap, ◌∙◌, arith}
 use Rattle.std.proofs.lemmas.List.{length_push}
-use Rattle.meant_declarations.proofs.graph_paths_proofs.Seen.{saw_get}
+use Rattle.graph_paths.proofs.Seen.{saw_get}
 use Rattle.description_types.proofs.EachEntry.{one_more}
 use Rattle.description_types.proofs.meant.marks.Goals as goal
 

@@ -1,6 +1,6 @@
 use Rattle.std.proofs.Common.{ℕ, List, Bool, map, ap, ◌∙◌, arith, subst}
 use Rattle.std.specs.Option.{is_some}
-use Rattle.meant_declarations.specs.least_fixed_points.Settles.{entry}
+use Rattle.least_fixed_points.specs.Settles.{entry}
 use Rattle.meant_declarations.specs.Meant.{IsFound}
 use Rattle.description_types.proofs.MeantMarks.{found_meant}
 use Rattle.description_types.proofs.meant.some_meant.Goals as goal

@@ -1,5 +1,5 @@
 use Rattle.std.proofs.Common.{ap, ◌∙◌}
-use Rattle.description_places.specs.lisa_tree.declared.expressions.BoundaryField.{BoundaryField}
+use Rattle.lisa_tree.specs.declared.expressions.BoundaryField.{BoundaryField}
 use Rattle.description_types.specs.Refused.{is_no_boundary}
 use Rattle.description_types.proofs.refused.is_refused.Goals as goal
 

@@ -1,5 +1,5 @@
 use Rattle.std.proofs.Common.{ap, ◌∙◌}
-use Rattle.meant_declarations.specs.least_fixed_points.Settles.{entry}
+use Rattle.least_fixed_points.specs.Settles.{entry}
 use Rattle.description_types.specs.Kinds.{both_types, unrefused}
 use Rattle.description_types.proofs.Merging.{added_step, added_last}
 use Rattle.description_types.proofs.Associating.{types_associate}

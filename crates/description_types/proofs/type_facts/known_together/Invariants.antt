@@ -1,5 +1,5 @@
 use Rattle.std.proofs.Common.{◌≡◌, drop}
-use Rattle.meant_declarations.specs.least_fixed_points.Settles.{entry}
+use Rattle.least_fixed_points.specs.Settles.{entry}
 use Rattle.description_types.specs.Facts.{added, known_together}
 use Rattle.description_types.specs.Kinds.{both_types, unrefused}
 use Rattle.description_types.proofs.type_facts.known_together.Given as goal

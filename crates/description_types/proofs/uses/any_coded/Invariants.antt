@@ -1,6 +1,6 @@
 use Rattle.std.proofs.Common.{◌≡◌, drop}
 use Rattle.std.specs.List.{list_any}
-use Rattle.description_places.specs.lisa_tree.Operations.{coding_in, sections_at}
+use Rattle.lisa_tree.specs.Operations.{coding_in, sections_at}
 use Rattle.coded_names.specs.Codings.{is_coding}
 use Rattle.description_types.proofs.uses.any_coded.Given as goal
 

@@ -1,6 +1,6 @@
 use Rattle.std.proofs.Common.{◌≡◌, drop}
 use Rattle.std.specs.List.{list_any}
-use Rattle.description_places.specs.lisa_tree.Operations.{is_root}
+use Rattle.lisa_tree.specs.Operations.{is_root}
 use Rattle.description_types.proofs.uses.any_rooted.Given as goal
 
 abbrev pub invariant-loop-operation : goal.invariant-loop-operation

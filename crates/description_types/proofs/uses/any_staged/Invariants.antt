@@ -1,7 +1,7 @@
 use Rattle.std.proofs.Common.{◌≡◌, drop}
 use Rattle.std.specs.Option.{is_some}
 use Rattle.std.specs.List.{list_any}
-use Rattle.description_places.specs.lisa_tree.Operations.{own_stage}
+use Rattle.lisa_tree.specs.Operations.{own_stage}
 use Rattle.description_types.proofs.uses.any_staged.Given as goal
 
 abbrev pub invariant-loop-operation : goal.invariant-loop-operation

@@ -1,6 +1,6 @@
 use Rattle.std.proofs.Common.{◌≡◌, ◌+◌, ℕ, List, length, get_or, ap, ◌∙◌, arith}
 use Rattle.std.proofs.lemmas.List.{length_push}
-use Rattle.description_places.specs.lisa_tree.Declarations.{entries}
+use Rattle.lisa_tree.specs.Declarations.{entries}
 use Rattle.description_types.specs.declared.values.Traits.{Traits}
 use Rattle.description_types.specs.Uses.{no_traits, own_traits}
 use Rattle.description_types.proofs.EachEntry.{one_more, all_entries, traits_past}

@@ -2,8 +2,8 @@ use Rattle.std.proofs.Common.{◌≡◌, ◌<◌, ◌+◌, ℕ, List, suc, lengt
 use Rattle.std.specs.List.{AllByRecursion}
 use Rattle.activation_trees.specs.declared.parts.Occurrence.{Occurrence}
 use Rattle.graph_paths.specs.Paths.{targets}
-use Rattle.lisa_forms.specs.description_sizes.Texts.{levels}
-use Rattle.lisa_forms.proofs.description_sizes_proofs.Within.{all_there}
+use Rattle.description_sizes.specs.Texts.{levels}
+use Rattle.description_sizes.proofs.Within.{all_there}
 use Rattle.description_weight.proofs.Choosing.{all_below}
 use Rattle.description_weight.proofs.Unfolding.{reads_told, writes_told}
 use Rattle.description_weight.proofs.pairs.accesses.Goals as goal

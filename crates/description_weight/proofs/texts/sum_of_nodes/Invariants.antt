@@ -2,7 +2,7 @@
 use Rattle.std.proofs.Common.{◌≡◌, ◌+◌, ◌^◌, ◌<◌, drop}
 use Rattle.std.specs.Prelude.{sum_by}
 use Rattle.text_counts.specs.Tables.{told_by}
-use Rattle.lisa_forms.specs.description_sizes.Sums.{nodes_by}
+use Rattle.description_sizes.specs.Sums.{nodes_by}
 use Rattle.access_counts.specs.Ledgers.{capped}
 use Rattle.description_weight.proofs.texts.sum_of_nodes.Given as goal
 

@@ -1,5 +1,5 @@
 use Rattle.std.proofs.Common.{◌≡◌, ◌++◌, drop}
-use Rattle.form_promises.specs.stage_checks.Graphs.{names_in}
+use Rattle.stage_checks.specs.Graphs.{names_in}
 use Rattle.lisa_forms.specs.Choosing.{child_names}
 use Rattle.lisa_forms.proofs.ways.child_names.Given as goal
 

@@ -2,7 +2,7 @@ use Rattle.std.proofs.Common.{List, ℕ, ap, ◌∙◌}
 use Rattle.std.specs.Prelude.{position}
 use Rattle.std.specs.Borrow.{Bor}
 use Rattle.lisa_tree.specs.Same.{same_name}
-use Rattle.form_promises.specs.stage_checks.Graphs.{names_in}
+use Rattle.stage_checks.specs.Graphs.{names_in}
 use Rattle.lisa_forms.specs.Ways.{by_place}
 use Rattle.lisa_forms.proofs.Kept.{next_way}
 use Rattle.lisa_forms.proofs.ways.ways_past.Goals as goal

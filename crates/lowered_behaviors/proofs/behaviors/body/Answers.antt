@@ -1,5 +1,5 @@
 use Rattle.std.proofs.Common.{sym}
-use Rattle.lowered_words.specs.scene_paths.Lookups.{tree_of}
+use Rattle.scene_paths.specs.Lookups.{tree_of}
 use Rattle.lowered_behaviors.proofs.Bodies.{body_depth}
 use Rattle.lowered_behaviors.proofs.behaviors.body.Goals as goal
 

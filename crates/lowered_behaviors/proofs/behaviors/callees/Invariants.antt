@@ -1,5 +1,5 @@
 use Rattle.std.proofs.Common.{◌≡◌, ℕ, ◌++◌, drop, map}
-use Rattle.lowered_words.specs.scene_paths.Lookups.{tree_of}
+use Rattle.scene_paths.specs.Lookups.{tree_of}
 use Rattle.lowered_statements.specs.Code.{callee_of}
 use Rattle.lowered_behaviors.specs.Code.{callee_at, ground_of}
 use Rattle.lowered_behaviors.specs.Positions.{alternatives_in, below, home_in}

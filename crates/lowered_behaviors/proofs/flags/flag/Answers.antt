@@ -1,5 +1,5 @@
 use Rattle.std.proofs.Common.{◌∙◌, ℕ, Option, ap, sym}
-use Rattle.lowered_words.specs.scene_paths.Lookups.{tree_of}
+use Rattle.scene_paths.specs.Lookups.{tree_of}
 use Rattle.step_pieces.specs.Drafts.{leaf_tree}
 use Rattle.lowered_behaviors.specs.Standpoints.{own_way}
 use Rattle.lowered_behaviors.specs.Values.{flag}

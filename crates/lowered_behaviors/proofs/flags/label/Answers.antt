@@ -1,5 +1,5 @@
 use Rattle.std.proofs.Common.{◌∙◌, ℕ, Option, ap, sym, refl}
-use Rattle.lowered_words.specs.scene_paths.Lookups.{tree_of}
+use Rattle.scene_paths.specs.Lookups.{tree_of}
 use Rattle.step_pieces.specs.Pieces.{behind, top}
 use Rattle.step_pieces.specs.Drafts.{piece_of}
 use Rattle.lowered_values.specs.Computed.{Computed}

@@ -1,6 +1,6 @@
 -- The levels fall with each EXPRESSION of a child. What is left of the alternatives does the same in the end.
 use Rattle.std.proofs.Common.{◌≡◌, ◌+◌, ◌*◌, drop, map}
-use Rattle.lowered_words.specs.scene_paths.Lookups.{tree_of}
+use Rattle.scene_paths.specs.Lookups.{tree_of}
 use Rattle.step_pieces.specs.Pieces.{behind}
 use Rattle.step_pieces.specs.Drafts.{leaf_tree, piece_of}
 use Rattle.lowered_statements.specs.Code.{base, given_of}

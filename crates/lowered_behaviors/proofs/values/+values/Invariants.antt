@@ -3,7 +3,7 @@ use Rattle.std.proofs.Common.{◌≡◌, ℕ, ◌+◌, ◌*◌, List, drop, map}
 use Rattle.std.specs.Map.{lookup}
 use Rattle.indexmap.specs.IndexMap.{get}
 use Rattle.lisa_tree.specs.Same.{same_name}
-use Rattle.lowered_words.specs.scene_paths.Lookups.{tree_of}
+use Rattle.scene_paths.specs.Lookups.{tree_of}
 use Rattle.step_pieces.specs.Pieces.{behind}
 use Rattle.step_pieces.specs.Drafts.{piece_of}
 use Rattle.lowered_values.specs.Code.{plain}

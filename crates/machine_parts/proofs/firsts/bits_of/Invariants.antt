@@ -3,7 +3,7 @@ use Rattle.std.proofs.Common.{◌≡◌, ◌++◌, map}
 use Rattle.std.specs.Prelude.{filter_map, zip}
 use Rattle.std.specs.Iterator.Adapters.{zip_first, zip_second}
 use Rattle.std.specs.Slice.Iter.{iter_rest}
-use Rattle.typed_values.specs.lisa_tree.Descriptions.{resource_tree}
+use Rattle.lisa_tree.specs.Descriptions.{resource_tree}
 use Rattle.typed_values.specs.Words.{typed_word}
 use Rattle.machine_parts.specs.Parts.{register_bits}
 use Rattle.machine_parts.proofs.firsts.bits_of.Given as goal

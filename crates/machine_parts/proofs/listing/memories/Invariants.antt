@@ -1,7 +1,7 @@
 -- What is listed so far, and what the resources that are left give.
 use Rattle.std.proofs.Common.{◌≡◌, ◌++◌, drop, map}
 use Rattle.std.specs.Prelude.{filter_map}
-use Rattle.typed_values.specs.lisa_tree.Descriptions.{resource_tree}
+use Rattle.lisa_tree.specs.Descriptions.{resource_tree}
 use Rattle.machine_parts.specs.Parts.{memory_in}
 use Rattle.machine_parts.proofs.listing.memories.Given as goal
 

@@ -2,7 +2,7 @@
 use Rattle.std.proofs.Common.{◌≡◌, ◌≤◌, ◌+◌, drop, length, map}
 use Rattle.std.specs.Prelude.{filter_map}
 use Rattle.lisa_tree.specs.Descriptions.{resource_tree}
-use Rattle.lisa_meaning.specs.machine_parts.Parts.{register_in}
+use Rattle.machine_parts.specs.Parts.{register_in}
 use Rattle.state_items.proofs.counting.count_registers.Given as goal
 
 abbrev pub invariant-loop-resource : goal.invariant-loop-resource
