@@ -12,7 +12,7 @@ use crate::parts::Start;
 use crate::starts::{all_starts, row};
 use crate::unfolding::main_at;
 use least_fixed_points::{Rule, settle_along};
-use lisa_machine::description_graph::edges;
+use lisa_machine::description_graph::plain_edges;
 use lisa_machine::description_types::{is_root, known_choice, known_operation, operation_count};
 use lisa_machine::graph_paths::order;
 use lisa_tree::Names;
@@ -114,7 +114,7 @@ fn count<N: Names>(alloc: Global, names: &N, only: Option<usize>) -> Result<u64,
     };
     let count = sum_count(names)?;
     let rows = all_starts(alloc, names)?;
-    let next = edges(alloc, names)?;
+    let next = plain_edges(alloc, names)?;
     let order = order(alloc, &next)?;
     let rule = Sums {
         names,

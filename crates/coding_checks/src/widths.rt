@@ -8,7 +8,7 @@ ghost use Rattle.description_types.specs.least_fixed_points.Settles.{entry};
 ghost use Rattle.coding_checks.specs.Widths.{has_width, shared_width, alternatives_width, choice_of, choice_named, child_width, item_width, added, items_width, coding_width, width_step, AreWidths};
 ghost use Rattle.coding_checks.specs.Steady.{width_count, widths_monotone, widths_end};
 
-use description_graph::edges;
+use description_graph::plain_edges;
 use description_graph::graph_paths::order;
 use description_types::coded_names::pattern_width;
 use description_types::least_fixed_points::{Rule, settle_along};
@@ -207,7 +207,7 @@ impl Widths {
         ensures { IfOk result (λ widths. AreWidths (N.tree names.now) (entry widths)) }
     {
         let count = width_count(names)?;
-        let next = edges(alloc, names)?;
+        let next = plain_edges(alloc, names)?;
         let order = order(alloc, &next)?;
         let table = settle_along(alloc, &Following { names }, count, &order)?;
         Ok(Widths { table })

@@ -10,7 +10,7 @@ ghost use Rattle.coding_tables.specs.Instructions.{AreFormCounts, form_count};
 ghost use Rattle.coding_tables.specs.Products.{times, summed, item_forms, items_forms, coding_forms, form_step, step_count, forms_monotone, forms_end};
 
 use crate::roots::{choice_named, instruction_choice};
-use coding_checks::description_graph::edges;
+use coding_checks::description_graph::plain_edges;
 use coding_checks::description_types::{known_choice, known_operation, operation_count, sections};
 use coding_checks::graph_paths::order;
 use coding_checks::least_fixed_points::{Rule, settle_along};
@@ -144,7 +144,7 @@ impl FormCounts {
         ensures { IfOk result (λ counts. AreFormCounts (N.tree names.now) (entry counts)) }
     {
         let count = step_count(names)?;
-        let next = edges(alloc, names)?;
+        let next = plain_edges(alloc, names)?;
         let order = order(alloc, &next)?;
         let table = settle_along(alloc, &Following { names }, count, &order)?;
         Ok(FormCounts { table })

@@ -6,7 +6,7 @@ use Rattle.std.specs.Cmp.Lexicographic.{nat_list_eq_equiv}
 use Rattle.std.proofs.lemmas.Bool.{or_cases, eq-eqb, lt-ltb, and_from, and_parts}
 use Rattle.std.proofs.lemmas.Bool.Decides.{nat_tests}
 use Rattle.std.proofs.lemmas.Option.{same_Some}
-use Rattle.graph_paths.specs.Paths.{is_in}
+use Rattle.meant_declarations.specs.graph_paths.Paths.{is_in}
 use Rattle.lisa_tree.specs.Descriptions.{DescriptionTree}
 use Rattle.lisa_tree.specs.Same.{same_name}
 use Rattle.lisa_tree.specs.declared.declared.What.{What}

@@ -1,3 +1,3 @@
 pub mod Graph
 pub mod Circles
-pub use Rattle.graph_paths.specs as graph_paths
+pub use Rattle.meant_declarations.specs.graph_paths as graph_paths

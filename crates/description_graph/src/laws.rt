@@ -3,7 +3,7 @@
 ghost use Rattle.std.specs.Prelude.{List, None, ℕ};
 ghost use Rattle.std.specs.Global.{Vec};
 ghost use Rattle.lisa_tree.specs.Descriptions.{DescriptionTree};
-ghost use Rattle.graph_paths.specs.Paths.{IsAcyclic};
+ghost use Rattle.meant_declarations.specs.graph_paths.Paths.{IsAcyclic};
 ghost use Rattle.description_graph.specs.Circles.{IsFirstCircularOperation};
 ghost use Rattle.description_graph.specs.Graph.{IsGraph};
 

@@ -2,13 +2,13 @@
 
 ghost use Rattle.std.specs.Prelude.{◌≡◌, ◌<◌, ◌||◌, ◌&&◌, ℕ, IfOk, IfSome, OnOk, length, nat_eq, true};
 ghost use Rattle.std.specs.List.{list_any};
-ghost use Rattle.graph_paths.specs.Paths.{targets, is_in};
+ghost use Rattle.meant_declarations.specs.graph_paths.Paths.{targets, is_in};
 ghost use Rattle.lisa_tree.specs.Declarations.{entries, above};
 ghost use Rattle.description_graph.specs.Graph.{is_at, is_first, first_in, hits, means};
 
 use crate::owners::operation_count;
-use graph_paths::{add_edge, no_edges};
 use lisa_tree::Names;
+use meant_declarations::graph_paths::{add_edge, no_edges};
 use std::alloc::{AllocError, Global};
 
 /// A row by its number, which is empty where there is none.
@@ -17,7 +17,7 @@ pub(crate) fn row_at(rows: &[Vec<usize>], row: usize) -> &[usize]
     ensures { result.now ≡ targets rows.now row }
 {
     if row < rows.len() {
-        graph_paths::row(rows, row)
+        meant_declarations::graph_paths::row(rows, row)
     } else {
         &[]
     }

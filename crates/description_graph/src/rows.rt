@@ -1,13 +1,13 @@
 //! Edges, but those between declared names.
 
 ghost use Rattle.std.specs.Prelude.{◌≡◌, ◌<◌, ◌+◌, ◌^◌, ◌||◌, ◌&&◌, ℕ, OnOk, length, nat_eq};
-ghost use Rattle.graph_paths.specs.Paths.{targets, is_in};
+ghost use Rattle.meant_declarations.specs.graph_paths.Paths.{targets, is_in};
 ghost use Rattle.lisa_tree.specs.Declarations.{choices, entries, alternatives_at};
 ghost use Rattle.lisa_tree.specs.Paths.{Operation, Choosing, Declaring, node_count, leads};
 ghost use Rattle.description_graph.specs.Graph.{first_choice, first_entry, is_reference_at, owners, to_chosen_by, to_choices, to_references, to_alternatives, to_chosen};
 
-use graph_paths::add_edge;
 use lisa_tree::{Names, What};
+use meant_declarations::graph_paths::add_edge;
 use std::alloc::AllocError;
 
 /// Adds the edges from operations to their choices.

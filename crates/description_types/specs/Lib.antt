@@ -9,6 +9,7 @@ pub mod Known
 pub mod Larger
 pub mod Ends
 pub mod Steady
+pub mod Sourced
 pub mod Tables
 pub use Rattle.coded_names.specs as coded_names
 pub use Rattle.description_places.specs as description_places

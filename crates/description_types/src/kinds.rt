@@ -8,6 +8,7 @@ ghost use Rattle.lisa_tree.specs.Declarations.{entries};
 ghost use Rattle.lisa_tree.specs.Paths.{entry_node, node_count};
 ghost use Rattle.lisa_tree.specs.Expressions.{expr_tree};
 ghost use Rattle.meant_declarations.specs.Meanings.{AreMeanings};
+ghost use Rattle.meant_declarations.specs.Lacking.{lacks};
 ghost use Rattle.description_types.specs.Types.{type_of};
 ghost use Rattle.description_types.specs.Kinds.{unrefused};
 ghost use Rattle.description_types.specs.Codings.{AreCodings};
@@ -29,7 +30,7 @@ use coded_names::lisa_words::NoMemory;
 use description_places::Scope;
 use least_fixed_points::settle_along;
 use lisa_tree::{Expr, Names, Shape};
-use meant_declarations::Meanings;
+use meant_declarations::{Meanings, lacking_references};
 use std::alloc::{AllocError, Global};
 use std::marker::Model;
 
@@ -74,8 +75,12 @@ fn types<N: Names>(
     names: &N,
     codings: &[CodedName],
     uses: &UseTables,
+    meanings: &Meanings,
+    lacking: &[bool],
 ) -> Result<Vec<Option<TypeOf>>, NoMemory>
-    requires { AreCodings (N.tree names.now) codings.now }
+    requires codings { AreCodings (N.tree names.now) codings.now }
+    requires meanings { AreMeanings (N.tree names.now) meanings.now }
+    requires lacking { (i : ℕ) → saw lacking.now i ≡ lacks (N.tree names.now) i }
     ensures { IfOk result (λ types. AreTypes (N.tree names.now) (traits_by uses.now) (entry types.items)) }
 {
     let count = node_count(names)?;
@@ -89,6 +94,8 @@ fn types<N: Names>(
     let rule = Following {
         names,
         facts: &facts,
+        sources: meanings.sources(),
+        lacking,
     };
     let types = settle_along(alloc, &rule, count, &order(alloc, &rule, count)?)?;
     Ok(types)
@@ -100,7 +107,11 @@ fn assignables<N: Names>(
     names: &N,
     uses: &UseTables,
     typeless: &[bool],
+    meanings: &Meanings,
+    lacking: &[bool],
 ) -> Result<Vec<Option<Assignable>>, NoMemory>
+    requires meanings { AreMeanings (N.tree names.now) meanings.now }
+    requires lacking { (i : ℕ) → saw lacking.now i ≡ lacks (N.tree names.now) i }
     ensures { IfOk result (λ assignables. AreAssignables (N.tree names.now) (traits_by uses.now) (saw typeless.now) (entry assignables.items)) }
 {
     let count = node_count(names)?;
@@ -112,6 +123,8 @@ fn assignables<N: Names>(
     let rule = Following {
         names,
         facts: &facts,
+        sources: meanings.sources(),
+        lacking,
     };
     let assignables = settle_along(alloc, &rule, count, &order(alloc, &rule, count)?)?;
     Ok(assignables)
@@ -240,11 +253,12 @@ impl Kinds {
     {
         let codings = codings(alloc, names)?;
         let meanings = Meanings::make(alloc, names)?;
+        let lacking = lacking_references(alloc, names, &meanings)?;
         let uses = UseTables::make(alloc, names, &codings, &meanings)?;
-        let types = types(alloc, names, &codings, &uses)?;
+        let types = types(alloc, names, &codings, &uses, &meanings, &lacking)?;
         let typeless = typeless(alloc, names, &meanings, &types)?;
         let types_differ = differ_in_type(alloc, names, &meanings, &types)?;
-        let assignables = assignables(alloc, names, &uses, &typeless)?;
+        let assignables = assignables(alloc, names, &uses, &typeless, &meanings, &lacking)?;
         let assignable = assignable(alloc, names, &meanings, &assignables)?;
         let unassignable = unassignable(alloc, names, &meanings, &assignables)?;
         let marked = both(alloc, &assignable, &unassignable)?;

@@ -4,7 +4,7 @@ ghost use Rattle.std.specs.Prelude.{◌≡◌, ◌+◌, length, map, option_map,
 ghost use Rattle.lisa_tree.specs.Descriptions.{resource_tree, section_tree};
 ghost use Rattle.lisa_tree.specs.Operations.{name_at, sections_at};
 ghost use Rattle.lisa_tree.specs.Paths.{choice_node, entry_node};
-ghost use Rattle.graph_paths.specs.Paths.{saw};
+ghost use Rattle.graph_paths.specs.Paths.{saw, targets};
 ghost use Rattle.least_fixed_points.specs.Settles.{entry};
 ghost use Rattle.description_types.specs.Facts.{any_open};
 
@@ -132,5 +132,17 @@ pub(crate) fn mark_at(marks: &[bool], entry: usize) -> bool
         marks[entry]
     } else {
         false
+    }
+}
+
+/// A row by its number, which is empty where there is none.
+#[tactic(auto, using(meant_declarations::proofs::Walks::row_past))]
+pub(crate) fn row_at(rows: &[Vec<usize>], number: usize) -> &[usize]
+    ensures { result.now ≡ targets rows.now number }
+{
+    if number < rows.len() {
+        graph_paths::row(rows, number)
+    } else {
+        &[]
     }
 }

@@ -4,9 +4,13 @@
 
 mod differing;
 mod directly;
+mod lacking;
 mod meanings;
+mod sources;
 mod walking;
 
 pub use graph_paths;
+pub use lacking::lacking_references;
 pub use least_fixed_points;
 pub use meanings::Meanings;
+pub use sources::reference_sources;

@@ -8,7 +8,7 @@ ghost use Rattle.lisa_tree.specs.Descriptions.{DescriptionTree};
 ghost use Rattle.graph_paths.specs.Paths.{targets, is_in, saw, Reaches, AreNodes};
 ghost use Rattle.lisa_tree.specs.declared.declared.What.TheVariants as whats;
 ghost use Rattle.lisa_tree.specs.Declarations.{entries, what_at};
-ghost use Rattle.description_graph.specs.Graph.{IsGraph, first_entry};
+ghost use Rattle.description_graph.specs.Graph.{IsOutline, first_entry};
 ghost use Rattle.text_counts.specs.References.{MayMean, chosen_by};
 ghost use Rattle.text_counts.specs.Gathering.{IsGathered, is_node_ready, gathered_at, gathered, AreSources, late_row};
 
@@ -20,13 +20,13 @@ use std::rc::Rc;
 /// A list that may stand for several references.
 pub(crate) type Numbers = Rc<Vec<usize>>;
 
-/// A description's graph, and where its declared names begin among the nodes.
+/// An outline of a description's graph, and where its declared names begin among the nodes.
 #[derive(Drop)]
 pub(crate) struct Graph<'a, N: Names> {
     pub names: &'a N,
     pub next: &'a [Vec<usize>],
     pub base: usize,
-    ghost graph: { IsGraph (N.tree names.now) next.now },
+    ghost graph: { IsOutline (N.tree names.now) next.now },
     ghost first: { base ≡ first_entry (N.tree names.now) },
 }
 

@@ -12,7 +12,7 @@ use crate::behaviors::behavior_counts;
 use crate::expressions::expression_counts;
 use crate::references::Meanings;
 use crate::sums::plus;
-use description_graph::edges;
+use description_graph::outline;
 use description_types::{known_operation, operation_count};
 use graph_paths::order;
 use lisa_tree::Names;
@@ -60,7 +60,7 @@ impl TextCounts {
     pub fn make<N: Names>(alloc: Global, names: &N) -> Result<TextCounts, NoMemory>
         ensures { IfOk result (λ counts. AreTextCounts (N.tree names.now) (told_by counts)) }
     {
-        let next = edges(alloc, names)?;
+        let next = outline(alloc, names)?;
         let order = order(alloc, &next)?;
         let meanings = Meanings::make(alloc, names, &next, &order)?;
         let alike = alike_references(alloc, names, &next, &meanings)?;

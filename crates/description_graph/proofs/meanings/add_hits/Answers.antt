@@ -1,5 +1,5 @@
 use Rattle.std.proofs.Common.{arith}
-use Rattle.graph_paths.proofs.Seen.{in_at}
+use Rattle.meant_declarations.proofs.graph_paths_proofs.Seen.{in_at}
 use Rattle.description_graph.proofs.meanings.add_hits.Goals as goal
 
 pub add_hit-requires : goal.add_hit-requires

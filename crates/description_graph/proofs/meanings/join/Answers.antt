@@ -1,5 +1,5 @@
 use Rattle.std.proofs.Common.{Bool, ◌||◌, ◌&&◌, ap, ◌∙◌}
-use Rattle.graph_paths.specs.Paths.{targets, is_in}
+use Rattle.meant_declarations.specs.graph_paths.Paths.{targets, is_in}
 use Rattle.description_graph.specs.Graph.{hits}
 use Rattle.description_graph.proofs.Hits.{either_way}
 use Rattle.description_graph.proofs.meanings.join.Goals as goal

@@ -1,6 +1,6 @@
 use Rattle.std.proofs.Common.{◌≡◌, ◌||◌, ◌&&◌, ℕ, length, take}
 use Rattle.std.specs.List.{list_any}
-use Rattle.graph_paths.specs.Paths.{is_in, targets}
+use Rattle.meant_declarations.specs.graph_paths.Paths.{is_in, targets}
 use Rattle.description_graph.specs.Graph.{hits, first_in}
 use Rattle.description_graph.proofs.meanings.join_all.Given as goal
 

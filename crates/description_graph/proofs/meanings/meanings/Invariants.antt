@@ -1,5 +1,5 @@
 use Rattle.std.proofs.Common.{◌≡◌, ◌&&◌, ℕ, length, nat_lt}
-use Rattle.graph_paths.specs.Paths.{is_in, targets}
+use Rattle.meant_declarations.specs.graph_paths.Paths.{is_in, targets}
 use Rattle.lisa_tree.specs.Declarations.{entries, owner_at}
 use Rattle.description_graph.specs.Graph.{means}
 use Rattle.description_graph.proofs.meanings.meanings.Given as goal

@@ -1,5 +1,5 @@
 use Rattle.std.proofs.Common.{Bool, ℕ, ◌||◌, ◌&&◌, ◌+◌, nat_eq, sym, ap, ◌∙◌, arith}
-use Rattle.graph_paths.specs.Paths.{targets, is_in}
+use Rattle.meant_declarations.specs.graph_paths.Paths.{targets, is_in}
 use Rattle.description_graph.specs.Graph.{shifted}
 use Rattle.description_graph.proofs.Meant.{meant_below, meanings_are}
 use Rattle.description_graph.proofs.references.add_meant.Goals as goal

@@ -1,5 +1,5 @@
 use Rattle.std.proofs.Common.{arith, length, ◌<◌}
-use Rattle.graph_paths.proofs.Seen.{in_at}
+use Rattle.meant_declarations.proofs.graph_paths_proofs.Seen.{in_at}
 use Rattle.description_graph.proofs.references.add_shifted.Goals as goal
 
 pub overflow_add-base : goal.overflow_add-base

@@ -1,5 +1,5 @@
 use Rattle.std.proofs.Common.{rules, ap, ◌∙◌}
-use Rattle.graph_paths.specs.Paths.{is_in}
+use Rattle.meant_declarations.specs.graph_paths.Paths.{is_in}
 use Rattle.description_graph.proofs.Meant.{meant_is, not_lost}
 use Rattle.description_graph.proofs.references.meant.Goals as goal
 

@@ -1,5 +1,5 @@
 use Rattle.std.proofs.Common.{◌≡◌, ◌||◌, ℕ, length}
-use Rattle.graph_paths.specs.Paths.{is_in, targets}
+use Rattle.meant_declarations.specs.graph_paths.Paths.{is_in, targets}
 use Rattle.description_graph.specs.Graph.{to_choices}
 use Rattle.description_graph.proofs.rows.add_choices.Given as goal
 

@@ -1,5 +1,5 @@
 use Rattle.std.proofs.Common.{◌≡◌, ◌||◌, ◌&&◌, ℕ, length, take, nat_eq}
-use Rattle.graph_paths.specs.Paths.{is_in, targets}
+use Rattle.meant_declarations.specs.graph_paths.Paths.{is_in, targets}
 use Rattle.description_graph.proofs.rows.add_row.Given as goal
 
 abbrev pub invariant-loop-node : goal.invariant-loop-node
