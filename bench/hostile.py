@@ -3,11 +3,13 @@
 
     bench/hostile.py [--seconds N] [--keep FOLDER] [KIND ..]
 
-A user may be handed a file that somebody else wrote to hold the program up. These are accepted, or rightly refused, have at most 1 MiB, and ask
-much of one part of `check`, or of `clock` for the module. Each is answered once, and broken off after so many seconds of processor (30). Meant are 5 seconds
-and 1 GiB for each but `chain`, whose forms have 52 million operations. The exit status is 0 where all that were tried keep that."""
+A user may be handed a file that somebody else wrote to hold the program up. These are accepted, or rightly refused, have at most 1 MiB,
+and ask much of one part of `check`, of `verilog` for `wires`, or of `clock` for the module. Each is answered once, and broken off after so
+many seconds of processor (30). Meant are 5 seconds and 1 GiB for each but `chain`, whose forms have 52 million operations. The exit status
+is 0 where all that were tried keep that."""
 
 import argparse
+import itertools
 import os
 import resource
 import string
@@ -23,6 +25,8 @@ SECONDS = 5.0
 MEMORY_MIB = 1024
 FREE = ("chain",)
 PAIR = ['OPERATION p { CODING { 0b0 } SYNTAX { "P" } }', 'OPERATION q { CODING { 0b1 } SYNTAX { "Q" } }']
+
+MULTIPLIER = 0x9E3779B97F4A7C15
 
 
 def numbered(letter, count):
@@ -58,6 +62,14 @@ def leaves():
     return texts(levels=1, strings=230_000)
 
 
+def endings(signs=100_000, groups=10):
+    """Texts of 1,024 forms of two alternatives whose long strings differ at the end alone, compared pair by pair."""
+    y = numbered("y", groups)
+    pair = [f'OPERATION {one} {{ CODING {{ 0b{bit} }} SYNTAX {{ "{"," * signs}{end}" }} }}' for one, bit, end in (("p", 0, "P"), ("q", 1, "Q"))]
+    top = f"OPERATION top {{ DECLARE {{ GROUP {', '.join(y)} = {{ p || q }}; }} CODING {{ {' '.join(y)} }} SYNTAX {{ {' '.join(y)} }} }}"
+    return instructions(groups, top, pair)
+
+
 def references(count=2600, levels=120, alternatives=850, by_all=False):
     """Many names over one group, handed on by references that nothing uses."""
     names = [n for n in (a + b for a in string.ascii_letters for b in string.ascii_letters) if n not in ("if", "IN")][:count]
@@ -77,6 +89,13 @@ def references(count=2600, levels=120, alternatives=850, by_all=False):
 def cascade():
     """The same, each operation listed by all before it."""
     return references(1000, 250, 700, by_all=True)
+
+
+def lacking(count=22_500):
+    """Names that none of many operations above declares, so it is refused."""
+    return ["RESOURCE { REGISTER uint8 r; } OPERATION main { }",
+            f"OPERATION o {{ DECLARE {{ REFERENCE {','.join(numbered('n', count))}; }} }}",
+            *(f"OPERATION a{k}{{DECLARE{{INSTANCE o;}}}}" for k in range(count))]
 
 
 def chain(levels=950, instances=54, groups=10):
@@ -106,13 +125,66 @@ def reset(levels=17):
             f"for (uint16 i = 0; i < 256; i = i + 1) for (uint16 j = 0; j < 14; j = j + 1) a = {total}; }} }}"]
 
 
+def folded(state, multiplier):
+    """A step of the hash of the kit's hashed tables, whose start is fixed."""
+    product = state * multiplier
+    return (product ^ product >> 64) & (2**64 - 1)
+
+
+def near(count):
+    """Names of six letters that a hashed table of up to 16,384 groups would have in its first 256."""
+    found = []
+    for front in itertools.product(string.ascii_letters, repeat=4):
+        state = folded(0x243F6A8885A308D3 ^ 6, MULTIPLIER ^ 16)
+        for letter in front:
+            state = folded(state ^ ord(letter), MULTIPLIER ^ 2)
+        for fifth in string.ascii_letters:
+            last = folded(state ^ ord(fifth), MULTIPLIER ^ 2)
+            for sixth in string.ascii_letters:
+                value = folded(last ^ ord(sixth), MULTIPLIER ^ 2)
+                if (value ^ value >> 32) & 0x3F00 == 0:
+                    found.append("".join(front) + fifth + sixth)
+        if len(found) >= count:
+            return found[:count]
+
+
+def names(count=80_000):
+    """Names that would collide in tables that hash them: half are declared, and half are locals."""
+    all_names = near(count)
+    declared, local = all_names[:count // 2], all_names[count // 2:]
+    return ["RESOURCE { REGISTER uint1 r; } OPERATION leaf { EXPRESSION { r } }",
+            f"OPERATION main {{ DECLARE {{ GROUP {','.join(declared)} = {{ leaf }}; }} BEHAVIOR {{ {' '.join(f'uint1 {one};' for one in local)} }} }}"]
+
+
+def fed(state, number, size=8):
+    """The hash's state behind a number of so many bytes."""
+    return folded(state ^ (number | number << 32 if size == 4 else number), MULTIPLIER ^ 2 * size)
+
+
+def wires(count=9_000):
+    """Pairs of literals whose wires would all collide in a table that hashes them. Nearly as much as `verilog` takes."""
+    state = 0x243F6A8885A308D3
+    # a wire's width, that it is an operator, `^`, and that its first operand is a number of this width
+    for number, size in ((64, 4), (5, 8), (5, 8), (0, 8), (64, 4)):
+        state = fed(state, number, size)
+    pairs = []
+    for first in itertools.count(1 << 63):
+        second = fed(fed(fed(state, first), 0), 64, 4)
+        if second >> 63:
+            pairs.append(f"(0x{first:x} ^ 0x{second:x})")
+        if len(pairs) >= count:
+            break
+    statements = [f"r = {' | '.join(pairs[at:at + 4])};" for at in range(0, count, 4)]
+    return ["RESOURCE { REGISTER uint64 r; }", "OPERATION main { BEHAVIOR {", *statements, "} }"]
+
+
 def sums(lines=4000, terms=126):
     """A module of left chains of sums."""
     return ["module t (input clk, input [7:0] a);", " reg [7:0] s;", " initial s = 8'd1;", " always @(posedge clk) begin",
             *(["  s <= a" + "+a" * terms + ";"] * lines), " end", "endmodule"]
 
 
-KINDS = {one.__name__: one for one in (meetings, texts, leaves, references, cascade, chain, open_types, reset, sums)}
+KINDS = {one.__name__: one for one in (meetings, texts, leaves, endings, references, cascade, lacking, chain, open_types, reset, names, wires, sums)}
 
 
 def answered(words, seconds):
@@ -140,7 +212,7 @@ def main():
         for kind in given.kinds or KINDS:
             file = folder / kind
             file.write_text("\n".join(KINDS[kind]()) + "\n", encoding="ascii")
-            words = ["clock", file, "-", "-", "1"] if kind == "sums" else ["check", file]
+            words = {"sums": ["clock", file, "-", "-", "1"], "wires": ["verilog", file]}.get(kind, ["check", file])
             found = answered([PROGRAM, *words], given.seconds)
             is_kept = found is not None and found[0] <= SECONDS and found[1] <= MEMORY_MIB
             kept = kept and (is_kept or kind in FREE)

@@ -17,7 +17,7 @@ import tempfile
 
 HERE = os.path.join(os.path.dirname(os.path.abspath(__file__)), "cases")
 # what a line of a refusal may have otherwise
-OPEN = [(re.compile(rb"(description 5 NotADescription|verilog 3 NotInSubset) at=\d+"), rb"\1 at="),
+OPEN = [(re.compile(rb"(description 5 NotADescription|verilog 3 NotInSubset|vcd 1 BadToken) at=\d+"), rb"\1 at="),
         (re.compile(rb"(image 1 NotAnImage|object 1 NotAnObject object=\d+) line=\d+"), rb"\1 line="), (re.compile(rb"(description 25 Ambiguous .*) text=.*"), rb"\1 text=")]
 SHOWN = 3
 

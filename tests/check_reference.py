@@ -457,6 +457,8 @@ class Types:
     def assignable_declaration(self, entry):
         if entry.sort == "LABEL":
             return False
+        if self.is_incomplete(entry):
+            return False
         found = [self.operation_assignable[a] for a in self.names.plain(entry)]
         if OPEN in found:
             return OPEN
@@ -502,8 +504,22 @@ class Types:
                 return True
         return False
 
+    def is_incomplete(self, declaration):
+        """It lacks an EXPRESSION or a field."""
+        if declaration.sort == "LABEL":
+            return self.names.field_of(declaration) is None
+        return any(self.names.d.operations[a].section("EXPRESSION") is None for a in self.names.plain(declaration))
+
     def lacks_type(self, entry):
-        return any(self.type_of_declaration(it) == NONE for it in self.names.meant(entry))
+        """Some declaration that it may mean has no type; where one is open, only what is missing tells so."""
+        meant = self.names.meant(entry)
+        if any(self.is_incomplete(it) for it in meant):
+            return True
+        return self.type_of_entry(entry) != OPEN and any(self.type_of_declaration(it) == NONE for it in meant)
+
+    def is_unassignable(self, entry):
+        """Some declaration that it may mean may not be assigned, and none is open."""
+        return self.all_of(entry, self.assignable_declaration) != OPEN and any(self.assignable_declaration(it) is False for it in self.names.meant(entry))
 
     # -- operations
 
@@ -511,7 +527,7 @@ class Types:
         e = self.names.d.operations[o].section("EXPRESSION")
         if e is None:
             return NONE
-        if any(self.is_open(it, o) for it in rested_on(e)):
+        if any(self.is_open(it, o, self.type_of_declaration) for it in rested_on(e)):
             return OPEN
         found = self.type_of(e, o, (), True)
         return REFUSED if found is None else found
@@ -521,6 +537,8 @@ class Types:
         if e is None:
             return False
         names = self.names
+        if self.is_open(e, o, self.assignable_declaration):
+            return OPEN
         if self.is_refused(e, o):
             return REFUSED
         if e[0] == "element":
@@ -537,10 +555,10 @@ class Types:
 
     # -- expressions
 
-    def is_open(self, e, o):
+    def is_open(self, e, o, value):
         """The use is one of what is open, and not refused."""
         it = self.names.meaning(o, e[1]) if e[0] == "name" else None
-        return isinstance(it, Entry) and not self.is_apart(it) and self.type_of_entry(it) == OPEN
+        return isinstance(it, Entry) and not self.is_apart(it) and self.all_of(it, value) == OPEN
 
     def is_refused(self, e, o):
         """The use is at fault by itself, in an EXPRESSION."""
@@ -673,7 +691,7 @@ def wrong_kinds(names, types, place):
         if local and local[2]:
             yield name
         elif not local and (isinstance(it, Resource) and not is_register(it) or isinstance(it, Entry) and (
-                wrong_value(names, types, it) or any(types.assignable_declaration(m) is False for m in names.meant(it)))):
+                wrong_value(names, types, it) or types.is_unassignable(it))):
             yield name
     elif what == "head name":
         if not local and isinstance(it, Resource) and not is_register(it) and it.sort != "pin":

@@ -193,10 +193,18 @@ refused("a sum with no boundary that is assigned through a child", ASSIGNED % "a
 BESIDE = REGS + MAIN + " OPERATION y { DECLARE { INSTANCE x; %s } } OPERATION z { DECLARE { INSTANCE x, n = o; } } OPERATION t { DECLARE { INSTANCE x; %s } } OPERATION x { DECLARE { REFERENCE n; } %s } OPERATION o { DECLARE { INSTANCE n = o; } EXPRESSION { n } } OPERATION u { EXPRESSION { a } } OPERATION w { EXPRESSION { b } } OPERATION k { EXPRESSION { a + c } } OPERATION e { } "
 refused("declarations of one type beside an open one", BESIDE % ("INSTANCE n = u;", "INSTANCE n = u;", "BEHAVIOR { a = n; n = 1; }"), "14 Circular operation=o")
 refused("a declaration without expression beside an open one", BESIDE % ("INSTANCE n = e;", "INSTANCE n = e;", "BEHAVIOR { a = n; }"), "8 WrongKind operation=x name=n")
-refused("a sum assigned beside an open declaration", BESIDE % ("INSTANCE n = k;", "INSTANCE n = k;", "BEHAVIOR { n = 1; }"), "8 WrongKind operation=x name=n")
+refused("a sum assigned beside an open declaration", BESIDE % ("INSTANCE n = k;", "INSTANCE n = k;", "BEHAVIOR { n = 1; }"), "14 Circular operation=o")
+refused("a declaration without expression assigned beside an open one", BESIDE % ("INSTANCE n = e;", "INSTANCE n = e;", "BEHAVIOR { n = 1; }"), "8 WrongKind operation=x name=n")
 refused("two types beside an open declaration", BESIDE % ("INSTANCE n = u;", "INSTANCE n = w;", ""), "14 Circular operation=o")
 refused("a type and none beside an open declaration", BESIDE % ("INSTANCE n = u;", "INSTANCE n = e;", ""), "14 Circular operation=o")
 refused("one that can be assigned beside an open declaration", BESIDE % ("INSTANCE n = u;", "INSTANCE n = k;", ""), "14 Circular operation=o")
+refused("a label or a child beside an open declaration", BESIDE % ("INSTANCE n = u;", "LABEL n;", ""), "8 WrongKind operation=x name=n")
+GROUPED = REGS + "OPERATION main { DECLARE { INSTANCE x; GROUP n = { u || %s }; } CODING { n } } OPERATION z { DECLARE { INSTANCE x, n = z; } EXPRESSION { n } } OPERATION x { DECLARE { REFERENCE n; } BEHAVIOR { a = n; } } OPERATION u { EXPRESSION { a } } OPERATION w { EXPRESSION { b } } OPERATION e { } "
+refused("a group of two types beside an open declaration", GROUPED % "w", "14 Circular operation=z")
+refused("a group without an expression beside an open declaration", GROUPED % "e", "8 WrongKind operation=x name=n")
+OPENED = REGS + "OPERATION main { DECLARE { GROUP g = { x || k }; INSTANCE n = e; } CODING { g } BEHAVIOR { g = 1; } } OPERATION z { DECLARE { INSTANCE x, n = z; } EXPRESSION { n } } OPERATION k { EXPRESSION { 1 } } OPERATION e { } "
+refused("an alternative that rests on an open reference, assigned", OPENED + "OPERATION x { DECLARE { REFERENCE n; } EXPRESSION { n } }", "8 WrongKind operation=x name=n")
+refused("an alternative that rests on a group without an expression, assigned", OPENED + "OPERATION x { DECLARE { GROUP h = { e || z }; } CODING { h } EXPRESSION { h } }", "8 WrongKind operation=main name=g")
 refused("a call into a stage beside references in a circle",
         "RESOURCE { PIPELINE p = { A; B }; } OPERATION main { } OPERATION y { DECLARE { INSTANCE x, n = s; } } OPERATION z { DECLARE { INSTANCE x, t; REFERENCE n; } } OPERATION t { DECLARE { INSTANCE z; REFERENCE n; } } OPERATION x { DECLARE { REFERENCE n; } BEHAVIOR { n(); } } OPERATION s IN p.A { }",
         "8 WrongKind operation=x name=n")
@@ -227,6 +235,9 @@ refused("an array that a loop assigns first", behavior("for (r = 0; a < 3; a = a
 refused("an array that a loop steps", behavior("for (uint8 x = 0; x < 3; r = x + 1) ;"), "8 WrongKind operation=main name=r")
 refused("a memory that a loop steps", behavior("for (uint8 x = 0; x < 3; m = x + 1) ;"), "8 WrongKind operation=main name=m")
 refused("an array in the test of a loop", behavior("for (uint8 x = 0; r < 3; x = x + 1) ;"), "8 WrongKind operation=main name=r")
+refused("an array in the first value of a loop", behavior("for (uint8 x = r; x < 3; x = x + 1) ;"), "8 WrongKind operation=main name=r")
+refused("a memory in the step of a loop", behavior("for (uint8 x = 0; x < 3; x = x + m) ;"), "8 WrongKind operation=main name=m")
+refused("a pipeline in the test of a loop", PIPE + "OPERATION main { BEHAVIOR { for (uint8 x = 0; p < 3; x = x + 1) ; } }", "8 WrongKind operation=main name=p")
 refused("a pipeline that a loop assigns first", PIPE + "OPERATION main { BEHAVIOR { for (p = 0; a < 3; a = a + 1) ; } }", "8 WrongKind operation=main name=p")
 refused("a pipeline that a loop steps", PIPE + "OPERATION main { BEHAVIOR { for (uint8 x = 0; x < 3; p = x + 1) ; } }", "8 WrongKind operation=main name=p")
 refused("a pin that a loop steps", behavior("for (uint8 x = 0; x < 3; i = x + 1) ;"), "12 LoopWithoutBound operation=main")
@@ -402,6 +413,22 @@ refused("8,193 registers", "RESOURCE { " + many(8193, "REGISTER uint1 r%d; ") + 
 accepted("a loop in a loop", behavior("for (uint16 x = 0; x < 256; x = x + 1) for (uint16 y = 0; y < 14; y = y + 1) ;"), 1, 0, 1, 3)
 refused("a longer loop in a loop", behavior("for (uint16 x = 0; x < 256; x = x + 1) for (uint16 y = 0; y < 15; y = y + 1) ;"), "22 TooMany what=statements count=4097 limit=4096")
 refused("six loops in each other", behavior("".join(f"for (uint16 x{k} = 0; x{k} < 256; x{k} = x{k} + 1) " for k in range(6)) + ";"), "22 TooMany what=statements count=282578800148737 limit=4096")
+
+
+def at_reset(body):
+    return "RESOURCE { REGISTER uint8 a; } " + MAIN + " OPERATION reset { BEHAVIOR { " + body + " } }"
+
+
+def sums_in_loops(leaves):
+    """3,841 statements, and 1 + 256 (1 + 14 (2 + n)) nodes, where n is 2 for each leaf but 1."""
+    total = " + ".join(["(" + " + ".join("a" * 24) + ")"] * (leaves // 24)) + " + a" * (leaves % 24)
+    return f"for (uint16 x = 0; x < 256; x = x + 1) for (uint16 y = 0; y < 14; y = y + 1) a = {total};"
+
+
+accepted("as many statements in reset as there may be", at_reset("a = a; " * 4096), 2, 0, 1, 1)
+refused("a statement too many in reset", at_reset("a = a; " * 4097), "22 TooMany what=statements count=4097 limit=4096")
+accepted("many nodes in reset", at_reset(sums_in_loops(584)), 2, 0, 1, 1)
+refused("too many nodes in reset", at_reset(sums_in_loops(585)), "22 TooMany what=nodes count=4197121 limit=4194304")
 refused("an activation of 44 levels", doubling(43), "22 TooMany what=occurrences count=17592186044415 limit=4096")
 refused("an activation of 71 levels", doubling(70), "22 TooMany what=occurrences count=18446744073709551615 limit=4096")
 
@@ -555,7 +582,7 @@ told("what a reference may mean", CHOSEN + (
     ((CHILD, CHILD, "ACTIVATION { v }"), "8 WrongKind operation=z name=v"),
     ((CIRCLE, CHILD, "BEHAVIOR { n = v; v = n; }"), "14 Circular operation=o"),
     ((CIRCLE, BARE, "BEHAVIOR { n = v; }"), "8 WrongKind operation=z name=v"),
-    ((CIRCLE, CAST, "BEHAVIOR { v = n; }"), "8 WrongKind operation=z name=v"),
+    ((CIRCLE, CAST, "BEHAVIOR { v = n; }"), "14 Circular operation=o"),
 ])
 told("places of roots", (
     "RESOURCE { %s"

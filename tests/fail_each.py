@@ -36,6 +36,15 @@ endmodule
 """
 STORE = "module t (input clk); reg [7:0] prog [0:15]; endmodule\n"
 IMAGE = f"image 1 {NIL}\nmemory m 8 4 2\n1\n2\nend\n"
+DUMP = "$scope module machine $end $var reg 8 ! n $end $var reg 1 # k $end $upscope $end $enddefinitions $end\n#0 b101 ! 1#\n#1 b110 !\n"
+PINS = "RESOURCE { REGISTER uint8 d; REGISTER uint1 s; REGISTER uint1 u; PIN uint8 byte; PIN uint1 valid; }\n"
+ECHO = PINS + "OPERATION main { BEHAVIOR { if (valid) { d = byte; s = s + 1; u = u + 1; } } }\n"
+ECHO_MODULE = """module t (input clk, input [7:0] byte, input valid);
+  reg [7:0] d; reg s; reg u;
+  initial begin d = 8'd0; s = 1'd0; u = 1'd0; end
+  always @(posedge clk) begin if (valid) begin d <= byte; s <= s + 1'd1; u <= u + 1'd1; end end
+endmodule
+"""
 LINES = "step 2\nwhere\nshow n\nback 1\nstate\nquit\n"
 
 
@@ -53,6 +62,9 @@ COMMANDS = [
     ("gen C 7 8", "", 0), ("gen A 7 8", "", 1), ("soak C W 7 8 5", "", 0), ("soak C W 7 17 5", "", 1), ("soak C V 7 8 5", "", 1), ("soak A W 7 8 5", "", 1),
     ("verilog A", "", 0), ("verilog C", "", 0), ("verilog X", "", 1), ("verilog F", "", 1), ("verilog Z", "", 1),
     ("clock V I H 3", "", 0), ("clock V - K 3", "", 1), ("clocktrace V I H 3", "", 0), ("vdebug V I H", LINES, 0),
+    ("tohex C J prog", "", 0), ("tohex C J R", "", 1), ("tomem C J prog", "", 0), ("fromhex C B prog", "", 0), ("fromhex C N prog", "", 1),
+    ("frommem C N prog", "", 0), ("frommem C B prog", "", 1), ("vcd E - S 3", "", 0), ("vvcd V I H 3", "", 0), ("unvcd D", "", 0), ("unvcd A", "", 1),
+    ("occupancy E - S 3", "", 0), ("occupancy F - - 3", "", 1), ("board U - T 5", "hi", 0), ("board U - H 5", "hi", 1), ("vboard M - T 5", "hi", 0),
 ]
 
 
@@ -64,7 +76,8 @@ def write_files(folder, program):
              "K": "1 stop=1\n", "S": "2 hold=1 kill=1\n3 hold=0 kill=0\n", "W": STORE,
              "P": ".section prog\n.global start\nstart: BR @(far-$-2) ; back\nADDI R1,7\n.word 0xc0, -1, @start\n.equ step 3\n", "Y": ".section prog\nADDI R1,@step\nHALT\n",
              "O": f"object {head}section prog 8\nglobal start\nlabel start\ncell 80\nfix 0 6 s -2 +far -$\nend\n",
-             "Q": f"object {head}section prog 8\nglobal far\nspace 3\nlabel far\ncell 0\nend\n", "J": f"image {head}memory prog 8 16 3\n67\nc0\n5\nend\n"}
+             "Q": f"object {head}section prog 8\nglobal far\nspace 3\nlabel far\ncell 0\nend\n", "J": f"image {head}memory prog 8 16 3\n67\nc0\n5\nend\n", "B": ":0300000067C005D1\n:00000001FF\n", "N": "67 c0 @4 5 // end\n", "D": DUMP,
+             "U": ECHO, "M": ECHO_MODULE, "T": "console d s byte valid u\n"}
     for name, text in files.items():
         with open(os.path.join(folder, name), "w", encoding="latin-1") as file:
             file.write(text)

@@ -58,7 +58,7 @@ def digest(description):
 
 A = example("a.lisa")
 SAMPLES = {name: example(name) for name in ("a.lisa", "b.lisa", "c.lisa", "d.lisa", "e.lisa", "f.lisa")}
-USAGE = "usage: lisa check|fmt|verilog|run|trace|clock|clocktrace|asm|link|dis|debug|vdebug|gen|soak ..\n"
+USAGE = "usage: lisa check|fmt|verilog|run|trace|clock|clocktrace|asm|link|dis|debug|vdebug|gen|soak|tohex|fromhex|tomem|frommem|vcd|vvcd|unvcd|occupancy|board|vboard ..\n"
 
 # ---------------------------------------------------------------- the words
 
@@ -72,8 +72,14 @@ for name, words in [("a dash where a description stands", "verilog -"), ("a dash
                     ("too many instructions", "gen A 7 65537"), ("a number of 65 bits to draw from", "gen A 18446744073709551616 4"),
                     ("a number to draw from with a leading zero", "gen A 07 4"), ("no number of instructions", "gen A 7"),
                     ("too many instructions of a soak", "soak A A 7 65537 1"), ("too many edges of a soak", "soak A A 7 4 1000001"),
-                    ("no number of edges of a soak", "soak A A 7 4")]:
+                    ("no number of edges of a soak", "soak A A 7 4"),
+                    ("a dash where an image is exported", "tohex A - m"), ("a dash where a memory's file stands", "frommem A - m"), ("no memory to import", "fromhex A A"),
+                    ("a dash where a dump stands", "unvcd -"), ("no dump", "unvcd"), ("too many edges of a dump", "vcd A - - 10001"),
+                    ("too many edges of a module's dump", "vvcd A - - 10001"), ("too many edges of occupancy", "occupancy A - - 1000001"), ("no number of edges of occupancy", "occupancy A - -"),
+                    ("a dash where a board stands", "board A - - 4"), ("a dash where a module's board stands", "vboard A - - 4"), ("too many edges on a board", "board A - A 1000001"),
+                    ("no number of edges on a board", "board A - A")]:
     row(name, {"A": A}, step(words, err=USAGE, status=2))
+row("a memory without a name", {"A": A}, step(["tohex", "A", "A", ""], err=USAGE, status=2), step(["frommem", "A", "A", ""], err=USAGE, status=2))
 
 # ---------------------------------------------------------------- run
 
@@ -132,7 +138,7 @@ for word in ("ALIAS", "CLOCKED"):
     row(f"{word} is no name", {"X": swap(A, ("uint8 n;", f"uint8 {word};"))},
         step("fmt X", err=up_to("lisa: description 5 NotADescription at=", len(A) + 10)))
 for name, text, fault in [("0x alone", "0x", "1 BadByte at=1"), ("0b alone", "0b", "1 BadByte at=1"), ("a letter behind a number", "1a", "1 BadByte at=1"),
-                          ("another format", "#Q", "1 BadByte at=0"), ("half a comment", " /*/", "1 BadByte at=1"),
+                          ("another format", "#Q", "1 BadByte at=0"), ("half a comment", " /*/", "1 BadByte at=1"), ("an open comment with a bad byte", "/*\x01", "1 BadByte at=0"),
                           ("a comment with a bad byte", "/*a\x7f*/", "1 BadByte at=3"), ("a line's comment with a bad byte", "//a\x80", "1 BadByte at=3"),
                           ("half a string", ' "a', "1 BadByte at=1"), ("a string with a semicolon", '"a;"', "1 BadByte at=2"),
                           ("a name of 65 bytes in its place", "RESOURCE { REGISTER uint8 " + "a" * 65 + "; }", "3 NameTooLong at=26")]:
@@ -228,13 +234,13 @@ SHARED = lines("module t (input clk);", "reg [7:0] a;", "reg [7:0] b;", "wire [7
                "always @(posedge clk) begin b <= x - 8'd1; a <= x + 8'd2; end", "endmodule")
 row("clock of a module with a wire", {"W": SHARED}, step("clock W - - 3", lines("edge 3", "a 0x9", "b 0x6")))
 row("clock of a module without members", {"W": "module t (input c); endmodule"}, step("clock W - - 2", "edge 2\n"))
-for number, (sum, result) in enumerate([("(a + b) >> 1'd1", "0x96"), ("{a + b} >> 1'd1", "0x16"), ("a ^ ~b", "0xff53"),
-                                        ("~(~a)", "0xc8")]):
-    row(f"widths of a module's operators {number + 1}", {"V": swap(V, ("a + b", sum))},
+for number, (added, result) in enumerate([("(a + b) >> 1'd1", "0x96"), ("{a + b} >> 1'd1", "0x16"), ("a ^ ~b", "0xff53"),
+                                          ("~(~a)", "0xc8")]):
+    row(f"widths of a module's operators {number + 1}", {"V": swap(V, ("a + b", added))},
         step("clock V - - 1", lines("edge 1", "a 0xc8", "b 0x64", f"s {result}")))
-for sum in ("a ^~ b", "~~a"):
-    whole = swap(V, ("a + b", sum))
-    row(f"{sum} is outside the subset", {"V": whole}, step("clock V - - 1", err=at_most("lisa: verilog 3 NotInSubset at=", whole)))
+for added in ("a ^~ b", "~~a"):
+    whole = swap(V, ("a + b", added))
+    row(f"{added} is outside the subset", {"V": whole}, step("clock V - - 1", err=at_most("lisa: verilog 3 NotInSubset at=", whole)))
 for name, text, fault in [
         ("an index that is too narrow", with_array(16, "3'd1"), "8 IndexWidth name=m width=3 needed=4"),
         ("a register without a value", swap(V, (" s = 16'd0;", "")), "7 NoInitial name=s"),
@@ -247,6 +253,7 @@ for name, text, fault in [
         ("two drivers", swap(V, ("endmodule", "  always @(posedge clk) s <= a;\nendmodule")), "10 TwoDrivers name=s"),
         ("65 brackets", "(" * 65, "2 TooDeep at=64"),
         ("a bad byte", "module \x01", "1 BadByte at=7"),
+        ("an open comment with a bad byte", "module /*\x01", "1 BadByte at=7"),
         ("a question directly behind a binary number", swap(V, ("a + b", "1'b1?a:b")), f"1 BadByte at={V.index('a + b') + 4}"),
         ("a question directly behind a hexadecimal number", swap(V, ("a + b", "4'hf?a:b")), f"1 BadByte at={V.index('a + b') + 4}")]:
     row(f"clock of {name}", {"V": text}, step("clock V - - 1", err=f"lisa: verilog {fault}\n"))
@@ -586,9 +593,92 @@ row("run of 126 signs", {"A": swap(A, ("n = n + 1;", "n = " + "~" * 126 + "n;"))
 row("run of a name of 64 bytes", {"A": A.replace("uint8 n;", f"uint8 {LONG_NAME};").replace("n = 5", f"{LONG_NAME} = 5").replace("n = n + 1", f"{LONG_NAME} = {LONG_NAME} + 1")},
     step("run A - - 1", f"edge 1\n{LONG_NAME} 0x6\n"))
 
+# ---------------------------------------------------------------- waves, occupancy and boards
+
+
+def dumped(variables, *rest):
+    """The text of a dump: its variables as widths, codes and names, and what is behind them."""
+    return lines("$timescale 1 ns $end", "$scope module machine $end", *(f"$var reg {width} {code} {name} $end" for width, code, name in variables),
+                 "$upscope $end", "$enddefinitions $end", *rest)
+
+
+WAVES = dumped([(8, "!", "n")], "#0", "$dumpvars", "b101 !", "$end", "#1", "b110 !", "#2", "b111 !")
+row("a dump of a counter", {"A": A}, step("vcd A - - 2", WAVES, save="X"), step("unvcd X", lines("edge 0", "n 0x5", "edge 1", "n 0x6", "edge 2", "n 0x7")))
+row("a dump without edges", {"A": A}, step("vcd A - - 0", WAVES[:WAVES.index("#1")], save="X"), step("unvcd X", lines("edge 0", "n 0x5")))
+row("a dump of two stages is their trace but for cells", {"D": D}, step("vcd D - - 2", dumped(
+    [(8, "!", "x"), (1, '"', "B.b.2")], "#0", "$dumpvars", "b0 !", '0"', "$end", "#1", "b1010 !", '1"', "#2", "b1101 !"), save="X"),
+    step("unvcd X", slashed("edge 0/x 0x0/B.b.2 0x0/edge 1/x 0xa/B.b.2 0x1/edge 2/x 0xd/")))
+row("a dump of 95 items", {"X": "RESOURCE { " + "".join(f"REGISTER uint1 r{k}; " for k in range(95)) + "} OPERATION main { BEHAVIOR { r94 = 1; } }"}, step("vcd X - - 1", dumped(
+    [*((1, chr(33 + k), f"r{k}") for k in range(94)), (1, '!"', "r94")], "#0", "$dumpvars", *("0" + chr(33 + k) for k in range(94)), '0!"', "$end", "#1", '1!"'), save="Y"),
+    step("unvcd Y", lines("edge 0", *(f"r{k} 0x0" for k in range(95)), "edge 1", "r94 0x1")))
+row("a dump of a bit and of two", {"X": "RESOURCE { REGISTER uint1 b; REGISTER uint2 c; } OPERATION reset { BEHAVIOR { c = 2; } } OPERATION main { BEHAVIOR { b = b + 1; c = 0; } }"},
+    step("vcd X - - 2", dumped([(1, "!", "b"), (2, '"', "c")], "#0", "$dumpvars", "0!", 'b10 "', "$end", "#1", "1!", 'b0 "', "#2", "0!")))
+row("a dump of nothing", {"X": "RESOURCE { } OPERATION main { }"}, step("vcd X - - 1", dumped([], "#0", "$dumpvars", "$end", "#1"), save="Y"), step("unvcd Y", lines("edge 0", "edge 1")))
+WIDE = swap(WAVES, ("b111 !", "b1000000000 !"))
+TWO = swap(WAVES, ("$upscope", '$var wire 8 ! m [7:0] $end\n$var wire 1 + k $end\n$upscope'))
+for name, text, fault in [
+        ("a value of ten digits", WIDE, f"5 ValueWidth at={WIDE.index('b1000000000')}"), ("a code without variable", swap(WAVES, ("b111 !", "b111 +")), f"2 UnknownCode at={WAVES.index('b111')}"),
+        ("a width of 65", swap(WAVES, ("reg 8", "reg 65")), "3 BadWidth name=n width=65"), ("no width", swap(WAVES, ("reg 8", "reg 0")), "3 BadWidth name=n width=0"),
+        ("a code of two widths", swap(WAVES, ("$upscope", "$var reg 4 ! m $end $upscope")), "3 BadWidth name=m width=4"),
+        ("a time that falls", swap(WAVES, ("#2", "#1")), f"4 NotRising at={WAVES.index('#2')}"), ("a variable without value", TWO, "6 NoFirst name=k"),
+        ("a variable and no time", WAVES[:WAVES.index("#0")], "6 NoFirst name=n"), ("the first time without a value", swap(WAVES, ("b101 !\n", "")), "6 NoFirst name=n"),
+        ("a value with x", swap(WAVES, ("b101", "b1x1")), "1 BadToken"), ("no declarations' end", swap(WAVES, ("$enddefinitions $end\n", "")), "1 BadToken"),
+        ("an open scope", swap(WAVES, ("$upscope $end\n", "")), "1 BadToken"), ("a time of 2^64", swap(WAVES, ("#2", "#18446744073709551616")), "1 BadToken"), ("nothing", "", "1 BadToken"),
+        ("8,193 items", swap(WAVES, ("$upscope", "$var reg 8 ! n $end " * 8192 + "$upscope")), "7 TooMany what=items count=8193 limit=8192"),
+        ("10,002 times", WAVES + "".join(f"#{k}\n" for k in range(3, 10002)), "7 TooMany what=times count=10002 limit=10001")]:
+    row(f"unvcd of {name}", {"X": text}, step("unvcd X", err=up_to("lisa: vcd 1 BadToken at=", len(text)) if fault == "1 BadToken" else f"lisa: vcd {fault}\n"))
+row("unvcd of as many times as there may be", {"X": WAVES + "".join(f"#{k}\n" for k in range(3, 10001))},
+    step("unvcd X", lines("edge 0", "n 0x5", "edge 1", "n 0x6", "edge 2", "n 0x7", *(f"edge {k}" for k in range(3, 10001)))))
+row("unvcd of variables that share a code", {"X": swap(TWO, ("b101 !\n", "b101 !\n1+\n"))}, step("unvcd X", slashed("edge 0/n 0x5/m 0x5/k 0x1/edge 1/n 0x6/m 0x6/edge 2/n 0x7/m 0x7/")))
+row("unvcd of another tool's dump", {"X": """$date today $end $version a tool 1.0 $end
+$scope module top $end $scope begin inner $end $var integer 4 ab n [3:0] $end $upscope $end $comment of inner $end $upscope $end
+$var reg 1 # k $end $enddefinitions $end
+$dumpvars B0011 ab 1# $comment again $end 0# $end #7 $dumpall b11 ab $end 1# #18446744073709551615 b0000 ab b1 #"""},
+    step("unvcd X", slashed("edge 7/n 0x3/k 0x1/edge 18446744073709551615/n 0x0/")))
+row("unvcd of a missing file", {}, step("unvcd X", err="lisa: read fault\n", status=3))
+row("occupancy of a stall", {"E": E}, step("occupancy E - - 4", slashed("A executed 3 held 1 flushed 0/B executed 2 held 1 flushed 0/C executed 1 held 0 flushed 0/")))
+row("occupancy of a stage that is held and flushed", {"E": E, "H": slashed("2 hold=1 kill=1/3 hold=0 kill=0/")},
+    step("occupancy E - H 3", slashed("A executed 2 held 1 flushed 0/B executed 0 held 1 flushed 1/C executed 0 held 0 flushed 0/")))
+row("occupancy after no edge", {"E": E}, step("occupancy E - - 0", slashed("A executed 0 held 0 flushed 0/B executed 0 held 0 flushed 0/C executed 0 held 0 flushed 0/")))
+row("occupancy without stages", {"A": A}, step("occupancy A - - 5"))
+for words in ("vcd D I H 1", "occupancy D I H 1"):
+    row(f"{words.split()[0]} reads a description first", WRONG, step(words, err="lisa: description 1 BadByte at=0\n"))
+    row(f"{words.split()[0]} reads an image then", dict(WRONG, D=C), step(words, err=up_to("lisa: image 1 NotAnImage line=", 2)))
+    with_image(f"{words.split()[0]} reads a schedule then", dict(WRONG, D=S, I=IS), words, err="lisa: schedule 1 BadLine line=1\n")
+
+TIMED = """RESOURCE { REGISTER uint8 load; REGISTER uint8 hits; REGISTER uint1 taken; PIN uint1 tick; PIN uint8 byte; PIN uint1 valid; }
+OPERATION reset { BEHAVIOR { load = 3; hits = 64; } }
+OPERATION main { BEHAVIOR { if (tick) hits = hits + 1; } }
+"""
+TIMER = lines("timer load tick", "console hits hits byte valid taken")
+ECHO = """RESOURCE { REGISTER uint8 d; REGISTER uint1 s; REGISTER uint1 t; PIN uint8 byte; PIN uint1 valid; }
+OPERATION main { BEHAVIOR { if (valid) { d = byte; s = s + 1; t = t + 1; } } }
+"""
+CONSOLE = "console d s byte valid t\n"
+row("a board with a timer", {"T": TIMED, "B": TIMER}, step("board T - B 12", "ABC"), step("board T - B 11", "AB"), step("board T - B 3"), step("board T - B 0"))
+row("a board with a console", {"U": ECHO, "B": CONSOLE}, step("board U - B 5", "hi", input="hi"), step("board U - B 1", "h", input="hi"), step("board U - B 9"))
+row("a board's file as it may be written", {"U": ECHO, "B": "\r\n\nconsole d s byte valid t\r"}, step("board U - B 5", "hi", input="hi"))
+row("a board without devices", {"U": ECHO, "B": ""}, step("board U - B 5", input="hi"))
+row("a board's input at its limit", {"U": ECHO, "B": CONSOLE}, step("board U - B 2", "ab", input="ab" * 524288))
+row("a board's input over its limit", {"U": ECHO, "B": CONSOLE}, step("board U - B 2", err="lisa: input 1 TooLong\n", input="ab" * 524288 + "a"))
+row("a board over its limit", {"U": ECHO, "B": "\n" * 1048577}, step("board U - B 2", err="lisa: file 1 TooLong name=B\n"))
+row("a board that isn't there", {"U": ECHO}, step("board U - B 2", err="lisa: read fault\n", status=3))
+MANY = "RESOURCE { REGISTER uint8 n; " + "".join(f"PIN uint8 p{k}; " for k in range(9)) + "} OPERATION main { }"
+for name, description, text, fault in [
+        ("a pin that two timers drive", TIMED, "timer load tick/timer hits tick/", "4 PinTaken line=2 name=tick"), ("two blanks", TIMED, "timer  load tick/", "1 BadLine line=1"),
+        ("another device", TIMED, "/clock load tick/", "1 BadLine line=2"), ("a console of four words", TIMED, "console hits hits byte/", "1 BadLine line=1"),
+        ("another item", TIMED, "timer tick load/", "2 UnknownItem line=1 name=tick"), ("another pin", TIMED, "timer load hits/", "3 UnknownPin line=1 name=hits"),
+        ("a console's item before its pins", TIMED, "console hits hits no none gone/", "2 UnknownItem line=1 name=gone"), ("one pin for both", TIMED, "console hits hits byte byte taken/", "4 PinTaken line=1 name=byte"),
+        ("a byte of one bit", TIMED, "console hits hits tick valid taken/", "5 PinWidth line=1 name=tick width=1"),
+        ("nine timers", MANY, "".join(f"timer n p{k}/" for k in range(9)), "6 TooMany line=9 what=timer limit=8"),
+        ("two consoles", MANY, "console n n p0 p1 n/console n n p2 p3 n/", "6 TooMany line=2 what=console limit=1")]:
+    row(f"a board with {name}", {"T": description, "B": slashed(text)}, step("board T - B 5", err=f"lisa: board {fault}\n"))
+row("a board with eight timers", {"T": MANY, "B": "".join(f"timer n p{k}\n" for k in range(8))}, step("board T - B 5"))
+row("a board is read behind an image", {"D": C, "I": "x\n", "B": "x\n"}, step("board D I B 1", err=up_to("lisa: image 1 NotAnImage line=", 2)), step("board D - B 1", err="lisa: board 1 BadLine line=1\n"))
+
 # ---------------------------------------------------------------- the modules of descriptions
 
-BY_MODULE = {"run": "clock", "trace": "clocktrace", "debug": "vdebug"}
+BY_MODULE = {"run": "clock", "trace": "clocktrace", "debug": "vdebug", "vcd": "vvcd", "board": "vboard"}
 
 
 def by_module(name, files, steps):
@@ -735,6 +825,25 @@ row("a branch below its field", {"C": C, "O": object_of(C, *BRANCH, "fix 0 6 s -
     step("link C O", err="lisa: link 5 FieldRange object=1 memory=prog address=0 value=-33 width=6\n"))
 row("too many cells", {"C": C, "O": object_of(C, "section prog 8", "space 17")}, step("link C O", err="lisa: link 3 DoesNotFit memory=prog cells=17 depth=16\n"))
 row("a section of no memory", {"C": C, "O": object_of(C, "section prog 4")}, step("link C O", err="lisa: link 1 NoSuchMemory name=prog\n"))
+CELL = ["section prog 8", "cell 0"]
+for name, rest in (
+        ("a cell before a section", ["cell 0"]), ("a label before a section", ["label a"]), ("space before a section", ["space 1"]),
+        ("a section of 65 bits", ["section prog 65"]), ("too much space", ["section prog 8", "space 1048577"]),
+        ("a cell past its width", ["section prog 8", "cell 100"]), ("a cell in upper case", ["section prog 8", "cell A"]),
+        ("a leading zero", ["section prog 8", "cell 00"]), ("two blanks", ["section prog 8", "cell  0"]),
+        ("a name twice", ["section prog 8", "label a", "label a"]), ("a name of a label and a number", ["equ a 1", "section prog 8", "label a"]),
+        ("a number below 0 that is 0", ["equ a -0"]), ("a number of 2 ^ 64", ["equ a 18446744073709551616"]),
+        ("a name of 65 bytes", ["global " + "a" * 65]), ("a fix of no bits", [*CELL, "fix 0 0 u 0"]), ("a fix past its cell", [*CELL, "fix 1 8 u 0"]),
+        ("a fix by rising bits", [*CELL, "fix 0 1 u 0", "fix 4 1 u 0"]), ("two fixes of one bit", [*CELL, "fix 4 4 u 0", "fix 3 2 u 0"]),
+        ("a fix of a bit that isn't 0", ["section prog 8", "cell 1", "fix 0 1 u 0"]), ("a fix behind a label", [*CELL, "label a", "fix 0 8 w 0"]),
+        ("a word from bit 1", [*CELL, "fix 1 7 w 0"]), ("a word of a part of its cell", [*CELL, "fix 0 7 w 0"]),
+        ("a fix of nine terms", [*CELL, "fix 0 8 w 0" + " +a" * 9]), ("a fix of an unknown kind", [*CELL, "fix 0 8 x 0"]),
+        ("a constant past eight numbers", [*CELL, f"fix 0 8 w {8 * (2 ** 64 - 1) + 1}"])):
+    row(f"an object with {name}", {"C": C, "O": object_of(C, *rest)}, step("link C O", err=re.compile("lisa: object 1 NotAnObject object=1 line=[0-9]+\n")))
+row("an object with all that it may have", {"C": C, "O": object_of(C, "global a", "global a", f"equ a {2 ** 64 - 1}", "equ b -1", "equ c 1", "section prog 8", "space 0", "cell 0",
+                                                                    "fix 4 4 s 7", f"fix 0 4 u -{8 * (2 ** 64 - 1) - 8} +a +a +a +a +a +a +a +a",
+                                                                    "cell 0", "fix 0 8 w 0 +a -a -$ +$ +b -c +b -c")},
+    step("link C O", image_of(C, "memory prog 8 16 2", "78", "fc")))
 row("an object of another description behind one that is none", {"C": C, "A": A, "O": object_of(A), "P": object_of(C) + "\n"},
     step("link C O P", err=re.compile("lisa: object 1 NotAnObject object=2 line=[0-9]\n")),
     step("link C O", err=f"lisa: object 2 OtherDescription object=1 kept={digest(A)} expected={digest(C)}\n"))
@@ -742,6 +851,51 @@ row("an image of another description", {"C": C, "I": image_of(A)}, step("dis C I
 row("an image with a register array", {"C": C, "I": image_of(C, "memory R 8 2 1", "1")}, step("dis C I", err="lisa: image 3 NoSuchMemory name=R\n"))
 row("a listing of no image", {"C": C}, step("dis C -", err=USAGE, status=2))
 row("a linked object over its limit", {"C": C, "O": " " * 50331649}, step("link C O", err="lisa: file 1 TooLong name=O\n"))
+
+# ---------------------------------------------------------------- memories for other tools
+
+
+def record(kind, address, *data):
+    """A line of Intel HEX."""
+    held = [len(data), address >> 8, address & 255, kind, *data]
+    return ":" + bytes([*held, -sum(held) & 255]).hex().upper()
+
+
+ENDED = ":00000001FF"
+STORED = image_of(C, "memory prog 8 16 3", "67", "c0", "5")
+row("a memory to Intel HEX and back", {"C": C, "I": STORED}, step("tohex C I prog", lines(":0300000067C005D1", ENDED), save="X"), step("fromhex C X prog", None, same="I"))
+row("a memory for $readmemh and back", {"C": C, "I": STORED}, step("tomem C I prog", lines("67", "c0", "05"), save="X"), step("frommem C X prog", None, same="I"))
+row("a memory that an image lacks", {"C": C, "I": image_of(C)}, step("tohex C I prog", lines(ENDED), save="X"), step("fromhex C X prog", None, same="I"),
+    step("tomem C I prog", save="Y"), step("frommem C Y prog", None, same="I"))
+LARGE = "RESOURCE { MEMORY uint32 m[32768]; } OPERATION main { }"
+row("a memory of more than 65,536 bytes", {"D": LARGE, "I": image_of(LARGE, "memory m 32 32768 16385", *["0"] * 16384, "1")}, step("tohex D I m", lines(
+    *(record(0, 16 * k, *[0] * 16) for k in range(4096)), ":020000040001F9", ":0400000001000000FB", ENDED), save="X"), step("fromhex D X m", None, same="I"))
+row("a cell in words of $readmemh", {"C": C, "X": lines("@2 5 // x", "ff")}, step("frommem C X prog", image_of(C, "memory prog 8 16 4", "0", "0", "5", "ff")))
+row("a cell that is given twice", {"C": C, "X": "@f 1_0 @0 /* @1 */ A\r\n\t@f 0_0_2b", "Y": lines(record(0, 0, 1, 2), "", record(0, 1, 3).lower() + "\r", ENDED)},
+    step("frommem C X prog", image_of(C, "memory prog 8 16 16", "a", *["0"] * 14, "2b")), step("fromhex C Y prog", image_of(C, "memory prog 8 16 2", "1", "3")))
+row("bases and records that are skipped", {"D": LARGE, "X": lines(record(2, 0, 0x10, 0), record(3, 0, 1, 2, 3, 4), record(0, 4, 5), record(4, 9, 0, 1), record(5, 0, 1, 2, 3, 4), record(0, 1, 6), ENDED)[:-1]},
+    step("fromhex D X m", image_of(LARGE, "memory m 32 32768 16386", *["0"] * 16384, "600", "5")))
+NIBBLES = "RESOURCE { MEMORY uint4 m[4]; } OPERATION main { }"
+for name, text, fault in [
+        ("a wrong sum", lines(":0300000067C005D0", ENDED), "3 BadSum line=1 kept=208 expected=209"), ("a type of 6", lines(record(6, 0), ENDED), "4 RecordType line=1 kind=6"),
+        ("no record", lines(ENDED, "x"), "2 BadRecord line=2"), ("a record behind the end", lines(ENDED, "", ENDED), "5 AfterEnd line=3"),
+        ("a byte behind the memory", lines(record(0, 15, 1, 2), ENDED), "6 PastEnd line=1 address=16 bytes=16"), ("a base behind the memory", lines(record(2, 0, 0, 1), record(0, 0, 1), ENDED), "6 PastEnd line=2 address=16 bytes=16"),
+        ("data past its 16 bits", lines(record(0, 65535, 1, 2), ENDED), "2 BadRecord line=1"), ("an end with data", lines(record(1, 0, 1)), "2 BadRecord line=1"),
+        ("no end", lines(record(0, 0, 1)), "7 NoEnd"), ("nothing", "", "7 NoEnd")]:
+    row(f"fromhex of {name}", {"C": C, "X": text}, step("fromhex C X prog", err=f"lisa: hex {fault}\n"))
+row("fromhex of a cell that doesn't fit", {"D": NIBBLES, "X": lines(record(0, 1, 15, 16), ENDED)}, step("fromhex D X m", err="lisa: hex 8 CellRange index=2 value=16 width=4\n"))
+for name, text, fault in [
+        ("a cell of nine bits", "100", "3 CellRange index=0 value=256 width=8"), ("a digit x", "5 x", "2 BadWord at=2"), ("a digit of 65 bits", "10000000000000000", "2 BadWord at=0"),
+        ("a cell behind the memory", "@10 1", "4 PastEnd index=16 depth=16"), ("a cell behind the last", "@f 1 2", "4 PastEnd index=16 depth=16"), ("an open comment", "1 /* 2", "2 BadWord at=2")]:
+    row(f"frommem of {name}", {"C": C, "X": text}, step("frommem C X prog", err=f"lisa: memh {fault}\n"))
+row("an index behind the memory without a word", {"C": C, "X": "5 @10"}, step("frommem C X prog", image_of(C, "memory prog 8 16 1", "5")))
+row("a register array is no memory", {"C": C, "I": STORED}, step("tohex C I R", err="lisa: hex 1 NoSuchMemory name=R\n"), step("tomem C I -", err="lisa: memh 1 NoSuchMemory name=-\n"),
+    step("fromhex C I R", err="lisa: hex 1 NoSuchMemory name=R\n"), step("frommem C I none", err="lisa: memh 1 NoSuchMemory name=none\n"))
+row("a description before a memory's file", {"F": SAMPLES["f.lisa"], "X": "x"}, step("fromhex F X m", err='lisa: description 25 Ambiguous first=p second=q text="R1"\n'),
+    step("tomem F X m", err='lisa: description 25 Ambiguous first=p second=q text="R1"\n'))
+row("an image before a memory's name", {"A": A, "C": C, "I": image_of(A), "J": image_of(C, "memory R 8 4 1", "1"), "X": "x"}, step("tohex C X no", err=up_to("lisa: image 1 NotAnImage line=", 1)),
+    step("tohex C I no", err=f"lisa: image 2 OtherDescription kept={digest(A)} expected={digest(C)}\n"), step("tomem C J no", err="lisa: image 3 NoSuchMemory name=R\n"))
+row("a memory's file that isn't there", {"C": C}, step("frommem C X no", err="lisa: read fault\n", status=3), step("tohex C X prog", err="lisa: read fault\n", status=3))
 
 # ---------------------------------------------------------------- asm
 
@@ -764,6 +918,8 @@ row("an alias that is assembled", {"C": INC, "S": lines(".section prog", "INC R1
     step("dis C I", lines(".section prog", "ADDI R1,1")))
 row("a source of nothing", {"C": C, "S": ""}, step("asm C S", object_of(C)))
 row("blanks in an instruction", {"C": C, "S": lines(".section prog", "ADDI  R1 , 7")}, step("asm C S", object_of(C, "section prog 8", "cell 67")))
+row("numbers in a source", {"C": C, "S": lines(".section prog", ".word 007, 0xfF", "a" * 64 + ": .word 0x000000000000000000fF")},
+    step("asm C S", object_of(C, "section prog 8", "cell 7", "cell ff", "label " + "a" * 64, "cell ff")))
 row("a value below 0", {"C": C, "S": lines(".section prog", ".word -128")}, step("asm C S", object_of(C, "section prog 8", "cell 80")))
 row("two operands of one instruction", {"C": C, "S": lines(".section prog", "x: ADDI R@x,@(y-1)", ".equ y -2")},
     step("asm C S", object_of(C, "section prog 8", "label x", "cell 40", "fix 5 1 u 0 +x", "fix 0 5 u -1 +y", "equ y -2")))
@@ -788,6 +944,10 @@ for name, description, source, err in (
          ".section prog/R@1/", "8 TwoInstructions line=2 first=one second=two"),
         ("a name twice", C, ".section prog/a: NOP/a: NOP/", "9 DuplicateLabel line=3 name=a"),
         ("a name of a number twice", C, ".equ a 1/.section prog/a: NOP/", "9 DuplicateLabel line=3 name=a"),
+        ("a number with X in upper case", C, ".section prog/.word 0X1/", "1 BadLine line=2"),
+        ("two operands without a comma", C, ".section prog/.word @x 5/", "1 BadLine line=2"),
+        ("a label of 65 bytes", C, ".section prog/" + "a" * 65 + ": NOP/", "1 BadLine line=2"),
+        ("a bad byte in a comment", C, ".section prog/; \x01/", "1 BadLine line=2"),
         ("a value that is too large", C, ".section prog/.word 1, 256/", "10 FieldRange line=2 value=256 width=8"),
         ("a value that is too small", C, ".section prog/.word -129/", "10 FieldRange line=2 value=-129 width=8"),
         ("a name twice before a line of no instruction", C, ".section prog/a: a: FOO/", "7 NoInstruction line=2"),

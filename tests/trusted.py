@@ -1,11 +1,12 @@
 #!/usr/bin/env python3
-"""What the top call's contract rests on: the files of specs/ that it reaches.
+"""What the top call's contract and the laws on it rest on: the files of specs/ that they reach.
 
 trusted.py            prints them, crate by crate, and how many lines they have; tells the files with a proof term in them
 trusted.py --all      tells the files with a proof term among all files of specs/
 
-A file is reached where the file of the top call, or a file that is reached, imports it. A stranger who wants to know what is proved reads
-these files and believes nothing else of specs/. A proof term has nothing to do there: it says why something holds, not what is meant.
+A file is reached where the file of the top call, one with a law of the README's table, or a file that is reached imports it. A
+stranger who wants to know what is proved reads these files and believes nothing else of specs/. A proof term has nothing to do there: it
+says why something holds, not what is meant.
 
 A definition counts as a proof term where it is abstract, or where a word of proofs stands in it (`refl`, `subst`, a tactic ..). antt keeps
 every definition closed that is neither an `abbrev` nor `unfoldable`, nor a `record` or `data`: what it is made of can't matter to a
@@ -20,6 +21,9 @@ import sys
 
 TOP = os.path.dirname(os.path.dirname(os.path.abspath(__file__)))
 CALL = "crates/lisa_cli/src/top.rt"
+LAWS = ("headline_laws/src/laws.rt", "program_laws/src/laws.rt", "program_laws/src/refusals.rt", "command_promises/src/laws.rt",
+        "command_promises/src/steps.rt", "verdict_promises/src/laws.rt", "assembler_commands/src/laws.rt", "listing_promises/src/laws.rt",
+        "memory_commands/src/laws.rt", "soak_laws/src/laws.rt", "source_grammar/src/laws.rt", "hex_files/src/laws.rt", "vcd_trace/src/laws.rt")
 
 # Files that are reached and have lemmas in them today: each ought to go to proofs/, or out of the top call's sight.
 KNOWN = ()
@@ -56,17 +60,16 @@ def imports(name):
     return [it for it in dict.fromkeys(found) if it]
 
 
-def reached_from(name):
-    """The files that are reached, by a way from the first one to each."""
-    ways, waiting = {name: [name]}, [name]
+def reached_from(*names):
+    """The files that are reached, by a way from one of these to each."""
+    ways, waiting = {name: [name] for name in names}, list(names)
     while waiting:
         at = waiting.pop(0)
         for it in imports(at):
             if it not in ways:
                 ways[it] = ways[at] + [it]
                 waiting.append(it)
-    del ways[name]
-    return ways
+    return {name: way for name, way in ways.items() if name not in names}
 
 
 def proof_terms(name):
@@ -90,6 +93,10 @@ def proof_terms(name):
     return list(dict.fromkeys(found))
 
 
+def told(names):
+    return f"{len(names)} files of specs/ with {sum(len(lines_of(it)) - 1 for it in names)} lines, of {len({it.split('/')[1] for it in names})} crates"
+
+
 def main(words):
     if words not in ([], ["--all"]):
         print(__doc__)
@@ -101,14 +108,14 @@ def main(words):
             if proof_terms(name):
                 print(f"{name}: {' '.join(proof_terms(name))}")
         return 0
-    ways = reached_from(CALL)
+    laws = [f"crates/{it}" for it in LAWS]
+    alone, ways = reached_from(CALL), reached_from(CALL, *laws)
     crates = {}
     for name in ways:
         crates.setdefault(name.split("/")[1], []).append(name)
     for crate, names in crates.items():
         print(f"{crate}: " + " ".join(os.path.basename(it)[:-5] for it in sorted(names)))
-    count = sum(len(lines_of(it)) - 1 for it in ways)
-    print(f"{CALL} reaches {len(ways)} files of specs/ with {count} lines, of {len(crates)} crates")
+    print(f"{CALL} reaches {told(alone)}; with the laws on it {told(ways)}")
     failed = 0
     for name in sorted(ways):
         found = proof_terms(name)

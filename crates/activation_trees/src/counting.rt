@@ -11,9 +11,9 @@ ghost use Rattle.activation_trees.specs.Sums.{weight, added, summed, start_nodes
 use crate::parts::Start;
 use crate::starts::{all_starts, row};
 use crate::unfolding::main_at;
-use graph_paths::order;
+use graph_paths::visiting_order;
 use least_fixed_points::{Rule, settle_along};
-use lisa_machine::{edges, is_root, known_choice, known_operation, operation_count};
+use lisa_machine::{is_root, known_choice, known_operation, operation_count, plain_edges};
 use lisa_tree::Names;
 use lisa_words::NoMemory;
 use std::alloc::Global;
@@ -113,8 +113,8 @@ fn count<N: Names>(alloc: Global, names: &N, only: Option<usize>) -> Result<u64,
     };
     let count = sum_count(names)?;
     let rows = all_starts(alloc, names)?;
-    let next = edges(alloc, names)?;
-    let order = order(alloc, &next)?;
+    let next = plain_edges(alloc, names)?;
+    let order = visiting_order(alloc, &next)?;
     let rule = Sums {
         names,
         rows: &rows,

@@ -1,7 +1,7 @@
 //! How often names stand in the coding and in the syntax of an operation, in tables.
 
 ghost use Rattle.std.specs.Prelude.{◌≡◌, IfOk, OnOk, List, ℕ, sum_by, map, option_map};
-ghost use Rattle.indexmap.specs.IndexMap.{get};
+ghost use Rattle.name_tables.specs.TableViews.{value_of};
 ghost use Rattle.lisa_tree.specs.Descriptions.{coding_tree, section_tree};
 ghost use Rattle.lisa_tree.specs.Same.{same_name};
 ghost use Rattle.lisa_tree.specs.Operations.{coding_in, syntax_in};
@@ -9,10 +9,11 @@ ghost use Rattle.coding_checks.specs.Written.{is_coded, is_shown, item_count, pa
 
 use crate::values::Times;
 use coded_names::CodedNames;
-use indexmap::IndexMap;
 use lisa_tree::{CodingItem, CodingPart, Section, SyntaxItem, SyntaxPart, coding, syntax};
 use lisa_words::{Name, NoMemory};
+use name_tables::put_value;
 use std::alloc::{AllocError, Global};
+use std::collections::BTreeMap;
 
 fn again(times: Option<Times>) -> Times
     ensures { result ≡ again times }
@@ -24,16 +25,15 @@ fn again(times: Option<Times>) -> Times
 }
 
 // Notes a name once more.
-fn count(table: &mut IndexMap<Name, Times>, name: &Name) -> Result<(), AllocError>
-    ensures { OnOk result ((n : List ℕ) → get same_name table.new n ≡ more_times (same_name n name.now) (get same_name table.old n)) }
+fn count(table: &mut BTreeMap<Name, Times>, name: &Name) -> Result<(), AllocError>
+    ensures { OnOk result ((n : List ℕ) → value_of table.new n ≡ more_times (same_name n name.now) (value_of table.old n)) }
 {
     let times = again(table.get(name).copied());
-    table.insert(name.clone()?, times)?;
-    Ok(())
+    put_value(table, name, times)
 }
 
-fn count_item(table: &mut IndexMap<Name, Times>, item: &CodingItem) -> Result<(), AllocError>
-    ensures { OnOk result ((n : List ℕ) → get same_name table.new n ≡ more_times (is_coded n item.now) (get same_name table.old n)) }
+fn count_item(table: &mut BTreeMap<Name, Times>, item: &CodingItem) -> Result<(), AllocError>
+    ensures { OnOk result ((n : List ℕ) → value_of table.new n ≡ more_times (is_coded n item.now) (value_of table.old n)) }
 {
     match item {
         CodingItem::Bits(_) => Ok(()),
@@ -42,8 +42,8 @@ fn count_item(table: &mut IndexMap<Name, Times>, item: &CodingItem) -> Result<()
     }
 }
 
-fn count_part(table: &mut IndexMap<Name, Times>, part: &SyntaxPart) -> Result<(), AllocError>
-    ensures { OnOk result ((n : List ℕ) → get same_name table.new n ≡ more_times (is_shown n part.now) (get same_name table.old n)) }
+fn count_part(table: &mut BTreeMap<Name, Times>, part: &SyntaxPart) -> Result<(), AllocError>
+    ensures { OnOk result ((n : List ℕ) → value_of table.new n ≡ more_times (is_shown n part.now) (value_of table.old n)) }
 {
     match part {
         SyntaxPart::Literal(_) => Ok(()),
@@ -53,10 +53,10 @@ fn count_part(table: &mut IndexMap<Name, Times>, part: &SyntaxPart) -> Result<()
 }
 
 #[tactic(auto, using(crate::proofs::Counted::counted_item))]
-fn items_times(alloc: Global, items: &[CodingItem]) -> Result<IndexMap<Name, Times>, AllocError>
-    ensures { IfOk result (λ table. (n : List ℕ) → get same_name table n ≡ times_for (sum_by (item_count n) items.now)) }
+fn items_times(alloc: Global, items: &[CodingItem]) -> Result<BTreeMap<Name, Times>, AllocError>
+    ensures { IfOk result (λ table. (n : List ℕ) → value_of table n ≡ times_for (sum_by (item_count n) items.now)) }
 {
-    let mut table = IndexMap::new(alloc);
+    let mut table = BTreeMap::new(alloc);
     for item in items {
         count_item(&mut table, item)?;
     }
@@ -64,10 +64,10 @@ fn items_times(alloc: Global, items: &[CodingItem]) -> Result<IndexMap<Name, Tim
 }
 
 #[tactic(auto, using(crate::proofs::Counted::counted_part))]
-fn parts_times(alloc: Global, items: &[SyntaxItem]) -> Result<IndexMap<Name, Times>, AllocError>
-    ensures { IfOk result (λ table. (n : List ℕ) → get same_name table n ≡ times_for (sum_by (part_count n) items.now)) }
+fn parts_times(alloc: Global, items: &[SyntaxItem]) -> Result<BTreeMap<Name, Times>, AllocError>
+    ensures { IfOk result (λ table. (n : List ℕ) → value_of table n ≡ times_for (sum_by (part_count n) items.now)) }
 {
-    let mut table = IndexMap::new(alloc);
+    let mut table = BTreeMap::new(alloc);
     for item in items {
         count_part(&mut table, &item.part)?;
     }
@@ -77,23 +77,23 @@ fn parts_times(alloc: Global, items: &[SyntaxItem]) -> Result<IndexMap<Name, Tim
 fn coded_times(
     alloc: Global,
     part: Option<&CodingPart>,
-) -> Result<IndexMap<Name, Times>, AllocError>
-    ensures { IfOk result (λ table. (n : List ℕ) → get same_name table n ≡ times_for (coded_count n (option_map (λ part. coding_tree part.now) part.entry))) }
+) -> Result<BTreeMap<Name, Times>, AllocError>
+    ensures { IfOk result (λ table. (n : List ℕ) → value_of table n ≡ times_for (coded_count n (option_map (λ part. coding_tree part.now) part.entry))) }
 {
     match part {
         Some(CodingPart::Items(items)) => items_times(alloc, items),
-        _ => Ok(IndexMap::new(alloc)),
+        _ => Ok(BTreeMap::new(alloc)),
     }
 }
 
 fn shown_times(
     alloc: Global,
     items: Option<&[SyntaxItem]>,
-) -> Result<IndexMap<Name, Times>, AllocError>
-    ensures { IfOk result (λ table. (n : List ℕ) → get same_name table n ≡ times_for (shown_count n (option_map (λ all. all.now) items.entry))) }
+) -> Result<BTreeMap<Name, Times>, AllocError>
+    ensures { IfOk result (λ table. (n : List ℕ) → value_of table n ≡ times_for (shown_count n (option_map (λ all. all.now) items.entry))) }
 {
     match items {
-        None => Ok(IndexMap::new(alloc)),
+        None => Ok(BTreeMap::new(alloc)),
         Some(items) => parts_times(alloc, items),
     }
 }
@@ -111,10 +111,10 @@ fn is_once(times: Option<Times>) -> bool
 #[derive(Drop)]
 pub(crate) struct WrittenNames<'a> {
     pub names: CodedNames<'a>,
-    coded: IndexMap<Name, Times>,
-    shown: IndexMap<Name, Times>,
-    ghost of_coded: { (n : List ℕ) → get same_name coded n ≡ times_for (coded_count n (coding_in (map section_tree names.sections.now))) },
-    ghost of_shown: { (n : List ℕ) → get same_name shown n ≡ times_for (shown_count n (syntax_in (map section_tree names.sections.now))) },
+    coded: BTreeMap<Name, Times>,
+    shown: BTreeMap<Name, Times>,
+    ghost of_coded: { (n : List ℕ) → value_of coded n ≡ times_for (coded_count n (coding_in (map section_tree names.sections.now))) },
+    ghost of_shown: { (n : List ℕ) → value_of shown n ≡ times_for (shown_count n (syntax_in (map section_tree names.sections.now))) },
 }
 
 impl<'a> WrittenNames<'a> {

@@ -9,9 +9,9 @@ ghost use Rattle.coding_checks.specs.Widths.{has_width, shared_width, alternativ
 ghost use Rattle.coding_checks.specs.Steady.{width_count, widths_monotone, widths_end};
 
 use coded_names::pattern_width;
-use description_graph::edges;
+use description_graph::plain_edges;
 use description_types::{known_choice, known_operation, operation_count, sections};
-use graph_paths::order;
+use graph_paths::visiting_order;
 use least_fixed_points::{Rule, settle_along};
 use lisa_tree::{CodingItem, CodingPart, Names, What, coding};
 use lisa_words::{Name, NoMemory};
@@ -207,8 +207,8 @@ impl Widths {
         ensures { IfOk result (λ widths. AreWidths (N.tree names.now) (entry widths)) }
     {
         let count = width_count(names)?;
-        let next = edges(alloc, names)?;
-        let order = order(alloc, &next)?;
+        let next = plain_edges(alloc, names)?;
+        let order = visiting_order(alloc, &next)?;
         let table = settle_along(alloc, &Following { names }, count, &order)?;
         Ok(Widths { table })
     }

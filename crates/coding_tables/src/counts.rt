@@ -10,9 +10,9 @@ ghost use Rattle.coding_tables.specs.Instructions.{AreFormCounts, form_count};
 ghost use Rattle.coding_tables.specs.Products.{times, summed, item_forms, items_forms, coding_forms, form_step, step_count, forms_monotone, forms_end};
 
 use crate::roots::{choice_named, instruction_choice};
-use description_graph::edges;
+use description_graph::plain_edges;
 use description_types::{known_choice, known_operation, operation_count, sections};
-use graph_paths::order;
+use graph_paths::visiting_order;
 use least_fixed_points::{Rule, settle_along};
 use lisa_tree::{CodingItem, CodingPart, Names, coding};
 use lisa_words::NoMemory;
@@ -144,8 +144,8 @@ impl FormCounts {
         ensures { IfOk result (λ counts. AreFormCounts (N.tree names.now) (entry counts)) }
     {
         let count = step_count(names)?;
-        let next = edges(alloc, names)?;
-        let order = order(alloc, &next)?;
+        let next = plain_edges(alloc, names)?;
+        let order = visiting_order(alloc, &next)?;
         let table = settle_along(alloc, &Following { names }, count, &order)?;
         Ok(FormCounts { table })
     }

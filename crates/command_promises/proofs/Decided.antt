@@ -16,6 +16,7 @@ use Rattle.object_links.specs.LinkFaults.{link_fault}
 use Rattle.generator_commands.specs.lisa_assembler.Memories.{memory_items}
 use Rattle.verilog_text.specs.declared.faults.VerilogFault.{VerilogFault}
 use Rattle.verilog_text.specs.declared.faults.VerilogFault.TheVariants as faults
+use Rattle.vcd_trace.specs.declared.faults.VcdFault.TheVariants as vcds
 use Rattle.verilog_text.specs.Trees.{ModuleTree}
 use Rattle.verilog_text.specs.Faults.{VAccepts}
 use Rattle.verilog_reader.specs.Answers.{IsSameFault, HasOutcome, accepts, refuses}
@@ -44,6 +45,7 @@ own (refusals.Description f) = same f f refl
 own (refusals.Verilog f) = own_fault f
 own (refusals.Image (images.NotAnImage line)) = tt
 own (refusals.Object (objects.NotAnObject number line)) = refl
+own (refusals.Vcd (vcds.BadToken at)) = tt
 own _ = refl
 
 pub alike : (r s : Refusal) → r ≡ s → IsSameRefusal r s

@@ -3,6 +3,8 @@ mod Tasks
 mod Runs
 pub mod Refused
 pub mod RefusedPrograms
+pub mod RefusedTools
 mod Decided
 mod DecidedFiles
+mod DecidedTools
 mod Singles

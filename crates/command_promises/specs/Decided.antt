@@ -2,6 +2,7 @@
 use Rattle.std.specs.Prelude.{◌≡◌, ◌⊎◌}
 use Rattle.lisa_object.specs.declared.faults.ImageFault.TheVariants as images
 use Rattle.lisa_object.specs.declared.faults.ObjectFault.TheVariants as objects
+use Rattle.vcd_trace.specs.declared.faults.VcdFault.TheVariants as vcds
 use Rattle.verilog_reader.specs.Answers.{IsSameFault}
 use Rattle.lisa_outcomes.specs.declared.status.Refusal.{Refusal}
 use Rattle.lisa_outcomes.specs.declared.status.Refusal.TheVariants as refusals
@@ -13,6 +14,7 @@ IsSameRefusal (refusals.Description f) (refusals.Description g) = IsSameFirst f 
 IsSameRefusal (refusals.Verilog f) (refusals.Verilog g) = IsSameFault f g
 IsSameRefusal (refusals.Image (images.NotAnImage line)) (refusals.Image (images.NotAnImage other)) = Unit {0}
 IsSameRefusal (refusals.Object (objects.NotAnObject number line)) (refusals.Object (objects.NotAnObject count other)) = number ≡ count
+IsSameRefusal (refusals.Vcd (vcds.BadToken at)) (refusals.Vcd (vcds.BadToken other)) = Unit {0}
 IsSameRefusal r s = r ≡ s
 
 -- one thing is found at most, one refusal stands at most, and never both

@@ -30,6 +30,30 @@ const IMAGE: &[u8] =
 
 const STORE: &[u8] = b"module t (input clk); reg [7:0] m [0:15]; endmodule\n";
 
+// The memory of that image for other tools.
+const HEX: &[u8] = b":02000000850079\n:00000001FF\n";
+
+const MEMH: &[u8] = b"85\n00\n";
+
+// The waves of the counter.
+const DUMP: &[u8] =
+    b"$timescale 1 ns $end\n$scope module machine $end\n$var reg 8 ! n $end\n$upscope $end\n$enddefinitions $end\n#0\n$dumpvars\nb101 !\n$end\n#1\nb110 !\n";
+
+// A machine that shows each byte that it is given, as a description and as a module, and its board.
+const ECHO: &[u8] =
+    b"RESOURCE { REGISTER uint8 d; REGISTER uint1 s; REGISTER uint1 u; PIN uint8 byte; PIN uint1 valid; }
+OPERATION main { BEHAVIOR { if (valid) { d = byte; s = s + 1; u = u + 1; } } }
+";
+
+const ECHO_MODULE: &[u8] =
+    b"module t (input clk, input [7:0] byte, input valid); reg [7:0] d; reg s; reg u;
+initial begin d = 8'd0; s = 1'd0; u = 1'd0; end
+always @(posedge clk) begin if (valid) begin d <= byte; s <= s + 1'd1; u <= u + 1'd1; end end
+endmodule
+";
+
+const BOARD: &[u8] = b"console d s byte valid u\n";
+
 const LINES: &[u8] = b"step 5\nshow n\n";
 
 // The words that are asked, the numbers of the calls that fail of files, the input, the output and what is said, and what is to come: the
@@ -50,8 +74,8 @@ fn file(alloc: Global, name: &str, bytes: &[u8]) -> Result<MemFile, Fail> {
     Ok(MemFile::new(String::from_str(alloc, name)?, bytes.to_vec(alloc)?))
 }
 
-// The counter is the file D as a description and V as a module, the two instructions P, the module with their memory M, the source S, its
-// object O and its image J.
+// The counter is the file D as a description and V as a module, with its waves W; the two instructions P, the module with their memory M, the
+// source S, its object O and its image J, of which H and X are the memory; what shows its input E and L, with its board B.
 fn files(alloc: Global, failing: &[u64]) -> Result<MemFiles, Fail> {
     let all = vec![in alloc;
         file(alloc, "D", COUNTER)?,
@@ -61,6 +85,12 @@ fn files(alloc: Global, failing: &[u64]) -> Result<MemFiles, Fail> {
         file(alloc, "S", SOURCE)?,
         file(alloc, "O", OBJECT)?,
         file(alloc, "J", IMAGE)?,
+        file(alloc, "H", HEX)?,
+        file(alloc, "X", MEMH)?,
+        file(alloc, "W", DUMP)?,
+        file(alloc, "E", ECHO)?,
+        file(alloc, "L", ECHO_MODULE)?,
+        file(alloc, "B", BOARD)?,
     ]?;
     Ok(MemFiles::new(all, failing.to_vec(alloc)?))
 }
@@ -153,6 +183,36 @@ fn nothing_fails(rt: HostRuntime) -> Result<(), Fail> {
             b"",
             b"lisa: image 3 NoSuchMemory name=m\n",
         ),
+        ("tohex P J m", NONE, "done", HEX, b""),
+        ("fromhex P H m", NONE, "done", IMAGE, b""),
+        ("tomem P J m", NONE, "done", MEMH, b""),
+        ("frommem P X m", NONE, "done", IMAGE, b""),
+        (
+            "tohex P J n",
+            NONE,
+            "refused",
+            b"",
+            b"lisa: hex 1 NoSuchMemory name=n\n",
+        ),
+        ("vcd D - - 1", NONE, "done", DUMP, b""),
+        ("vvcd V - - 1", NONE, "done", DUMP, b""),
+        (
+            "unvcd W",
+            NONE,
+            "done",
+            b"edge 0\nn 0x5\nedge 1\nn 0x6\n",
+            b"",
+        ),
+        ("occupancy D - - 3", NONE, "done", b"", b""),
+        ("board E - B 3", NONE, "done", b"ste", b""),
+        ("vboard L - B 3", NONE, "done", b"ste", b""),
+        (
+            "board D - B 3",
+            NONE,
+            "refused",
+            b"",
+            b"lisa: board 2 UnknownItem line=1 name=d\n",
+        ),
     ];
     for case in cases {
         assert!(rt; is_so(rt.alloc(), case)?, "{}", case.0);
@@ -189,6 +249,13 @@ fn a_call_fails(rt: HostRuntime) -> Result<(), Fail> {
             [none, later, none, none],
             "read fault",
             b"edge 5\nn 0xa\n",
+            FAULT,
+        ),
+        (
+            "board E - B 3",
+            [none, once, none, none],
+            "read fault",
+            b"",
             FAULT,
         ),
         (
@@ -290,7 +357,7 @@ fn fails_well(alloc: Global, asked: &str, whole: &Seen, call: u64) -> Result<boo
 }
 
 // The words of each command that is built, with what is given and with what is refused.
-const COMMANDS: [&str; 31] = [
+const COMMANDS: [&str; 47] = [
     "",
     "fmt D",
     "fmt V",
@@ -322,6 +389,22 @@ const COMMANDS: [&str; 31] = [
     "soak P M 7 17 3",
     "soak P V 7 4 3",
     "soak P D 7 4 3",
+    "tohex P J m",
+    "tohex P J n",
+    "tomem P J m",
+    "fromhex P H m",
+    "fromhex P X m",
+    "frommem P X m",
+    "frommem P H m",
+    "vcd D - - 2",
+    "vvcd V - - 2",
+    "unvcd W",
+    "unvcd V",
+    "occupancy D - - 3",
+    "occupancy V - - 3",
+    "board E - B 3",
+    "board D - B 3",
+    "vboard L - B 3",
 ];
 
 #[test]

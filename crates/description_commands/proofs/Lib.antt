@@ -1,2 +1,4 @@
 pub mod Stopped
 pub mod Wanted
+mod Counting
+mod Watching

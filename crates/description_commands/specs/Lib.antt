@@ -1,6 +1,8 @@
 pub mod Formats
 pub mod Checks
 pub mod Runs
+pub mod Occupancies
+pub mod Occupied
 pub mod description_sizes
 pub mod lisa_forms
 pub mod lisa_meaning

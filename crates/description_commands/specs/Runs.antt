@@ -1,4 +1,4 @@
--- What each task gives over a description with an image, under a schedule.
+-- What each task gives over a description with an image, under a schedule or on a board.
 use Rattle.std.specs.Prelude.{ℕ, List, Option}
 use Rattle.lisa_tree.specs.Descriptions.{DescriptionTree}
 use Rattle.lisa_tree.specs.Texts.{SpellsText}
@@ -27,25 +27,26 @@ abbrev pub GivesChecked : Task → RunBytes → (input : List ℕ) → Checked �
 GivesChecked task bytes input c =
     AfterImage c.tree bytes.image (λ memories. GivesMade task (described_machine c memories) memories (schedule_bytes bytes.schedule) input)
 
--- over what the files of a run spell: the description is read and checked first, then its image, and then the schedule
+-- over what the files of a run spell: the description is read and checked first, then its image, and then the schedule or the
+-- board
 abbrev pub GivesRun : Task → RunBytes → (input : List ℕ) → Outcome → Type 0
 GivesRun task bytes input = AfterSpelling bytes.main (λ d. AfterChecks d (GivesChecked task bytes input))
 
--- ---- the input failed in a session
+-- ---- the input failed in a task
 
 -- over the machine of a description that is checked
-pub record IsCutChecked (c : Checked) (bytes : RunBytes) (left rest before after : Option (List ℕ)) : Type 0 where
+pub record IsCutChecked (task : Task) (c : Checked) (bytes : RunBytes) (left rest before after : Option (List ℕ)) : Type 0 where
   pub memories : List Memory
   pub image : IsImageFor c.tree bytes.image memories
-  pub cut : IsCutMade (described_machine c memories) memories (schedule_bytes bytes.schedule) left rest before after
+  pub cut : IsCutMade task (described_machine c memories) memories (schedule_bytes bytes.schedule) left rest before after
 
-pub record IsCutTree (d : DescriptionTree) (bytes : RunBytes) (left rest before after : Option (List ℕ)) : Type 0 where
+pub record IsCutTree (task : Task) (d : DescriptionTree) (bytes : RunBytes) (left rest before after : Option (List ℕ)) : Type 0 where
   pub checked : Checked
   pub is : IsChecked d checked
-  pub cut : IsCutChecked checked bytes left rest before after
+  pub cut : IsCutChecked task checked bytes left rest before after
 
 -- over what the files of a run spell
-pub record IsCutRun (bytes : RunBytes) (left rest before after : Option (List ℕ)) : Type 0 where
+pub record IsCutRun (task : Task) (bytes : RunBytes) (left rest before after : Option (List ℕ)) : Type 0 where
   pub tree : DescriptionTree
   pub spelled : SpellsText bytes.main tree
-  pub cut : IsCutTree tree bytes left rest before after
+  pub cut : IsCutTree task tree bytes left rest before after

@@ -32,7 +32,8 @@ impl Counts {
     }
 }
 
-fn put_number<O: Sink>(out: &mut O, value: u64) -> Result<(), Failed>
+/// Writes a number in decimal digits.
+pub(crate) fn put_number<O: Sink>(out: &mut O, value: u64) -> Result<(), Failed>
     ensures { Puts (O.written out.old) (O.written out.new) (O.faults out.old) (O.faults out.new) result (decimal_digits value) }
 {
     let mut digits = [0; 20];

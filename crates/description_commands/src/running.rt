@@ -27,22 +27,22 @@ fn do_with_image<I: Source, O: Flush>(
     tools: &Tools,
     image: &Image,
     task: Task,
-    schedule: &[u8],
+    third: &[u8],
     input: &mut I,
     out: &mut O,
 ) -> Result<(), End>
     requires tools { AreTools tools.now }
     requires kept { IsImage image.now }
-    requires short { length schedule.now < 2 ^ 32 }
-    ensures ends { Ends (IsHeard task (I.left input.old)) (GivesMade task (described_machine (checked_of tools.now) image.now) image.now schedule.now)
+    requires short { length third.now < 2 ^ 32 }
+    ensures ends { Ends (IsHeard task (I.left input.old)) (GivesMade task (described_machine (checked_of tools.now) image.now) image.now third.now)
         (HasFailed task (I.faults input.old) (I.faults input.new)
-        × IsCutMade (described_machine (checked_of tools.now) image.now) image.now schedule.now (I.left input.old) (I.left input.new) (O.written out.old) (O.written out.new))
+        × IsCutMade task (described_machine (checked_of tools.now) image.now) image.now third.now (I.left input.old) (I.left input.new) (O.written out.old) (O.written out.new))
         (O.written out.old) (O.written out.new) (O.faults out.old) (O.faults out.new) result }
     ensures input { takes_input task ≡ false → (I.left input.new ≡ I.left input.old) × (I.faults input.new ≡ I.faults input.old) }
     ensures later { I.faults input.old ≤ I.faults input.new }
 {
     let made = Simulator::make(alloc, &tools.machine, &tools.forms, &tools.coding, image);
-    do_made(alloc, made, task, schedule, input, out)
+    do_made(alloc, made, task, third, input, out)
 }
 
 // A task over a description that is checked.
@@ -59,7 +59,7 @@ fn do_with_tools<I: Source, O: Flush>(
     requires schedule { length (schedule_bytes (bytes_of bytes.now).schedule) < 2 ^ 32 }
     ensures ends { Ends (IsHeard task (I.left input.old)) (λ lines. GivesChecked task (bytes_of bytes.now) lines (checked_of tools.now))
         (HasFailed task (I.faults input.old) (I.faults input.new)
-        × IsCutChecked (checked_of tools.now) (bytes_of bytes.now) (I.left input.old) (I.left input.new) (O.written out.old) (O.written out.new))
+        × IsCutChecked task (checked_of tools.now) (bytes_of bytes.now) (I.left input.old) (I.left input.new) (O.written out.old) (O.written out.new))
         (O.written out.old) (O.written out.new) (O.faults out.old) (O.faults out.new) result }
     ensures input { takes_input task ≡ false → (I.left input.new ≡ I.left input.old) × (I.faults input.new ≡ I.faults input.old) }
     ensures later { I.faults input.old ≤ I.faults input.new }
@@ -84,7 +84,7 @@ fn do_with_tree<I: Source, O: Flush>(
     requires schedule { length (schedule_bytes (bytes_of bytes.now).schedule) < 2 ^ 32 }
     ensures ends { Ends (IsHeard task (I.left input.old)) (λ lines. AfterChecks (description_tree description) (GivesChecked task (bytes_of bytes.now) lines))
         (HasFailed task (I.faults input.old) (I.faults input.new)
-        × IsCutTree (description_tree description) (bytes_of bytes.now) (I.left input.old) (I.left input.new) (O.written out.old) (O.written out.new))
+        × IsCutTree task (description_tree description) (bytes_of bytes.now) (I.left input.old) (I.left input.new) (O.written out.old) (O.written out.new))
         (O.written out.old) (O.written out.new) (O.faults out.old) (O.faults out.new) result }
     ensures input { takes_input task ≡ false → (I.left input.new ≡ I.left input.old) × (I.faults input.new ≡ I.faults input.old) }
     ensures later { I.faults input.old ≤ I.faults input.new }
@@ -96,7 +96,8 @@ fn do_with_tree<I: Source, O: Flush>(
 }
 
 /// Does a task over the description that the first of a run's files spells, with an image and a schedule where these aren't left out:
-/// the text of its state after some edges, that of a trace, or the answers to the lines of the input.
+/// the text of its state after some edges, that of a trace, a value change dump, what the console of a board prints, which is the third
+/// file then, or the answers to the lines of the input.
 pub fn do_with_description<I: Source, O: Flush>(
     alloc: Global,
     bytes: &RunBytes<'_>,
@@ -108,7 +109,7 @@ pub fn do_with_description<I: Source, O: Flush>(
     requires image { IfSome (bytes_of bytes.now).image (λ image. length image < 2 ^ 32) }
     requires schedule { length (schedule_bytes (bytes_of bytes.now).schedule) < 2 ^ 32 }
     ensures ends { Ends (IsHeard task (I.left input.old)) (GivesRun task (bytes_of bytes.now))
-        (HasFailed task (I.faults input.old) (I.faults input.new) × IsCutRun (bytes_of bytes.now) (I.left input.old) (I.left input.new) (O.written out.old) (O.written out.new))
+        (HasFailed task (I.faults input.old) (I.faults input.new) × IsCutRun task (bytes_of bytes.now) (I.left input.old) (I.left input.new) (O.written out.old) (O.written out.new))
         (O.written out.old) (O.written out.new) (O.faults out.old) (O.faults out.new) result }
     ensures input { takes_input task ≡ false → (I.left input.new ≡ I.left input.old) × (I.faults input.new ≡ I.faults input.old) }
     ensures later { I.faults input.old ≤ I.faults input.new }

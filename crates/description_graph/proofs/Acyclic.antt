@@ -14,6 +14,7 @@ use Rattle.description_graph.specs.Graph.{IsGraph, is_at}
 use Rattle.description_graph.specs.Circles.{Reaches, edge, more, IsFirstCircularOperation}
 use Rattle.description_graph.proofs.Hits.{found, at_is}
 use Rattle.description_graph.proofs.Meant.{next_of}
+use Rattle.description_graph.proofs.Outlining.{outline_of}
 use Rattle.description_graph.proofs.Steps.{to_nodes}
 
 -- ---- the operations above one lead to it
@@ -184,4 +185,4 @@ module _ (d : DescriptionTree) (none : (o : ℕ) → Reaches d (Operation o) (Op
   no_circle (Declaring i) r = no_entry i (Declaring i) refl (from i (Declaring i) r)
 
 pub acyclic : (d : DescriptionTree) (next : List (Vec ℕ)) → IsGraph d next → IsFirstCircularOperation d None → IsAcyclic next
-acyclic d next graph none = λ a r. no_circle d none (node_at d a) (to_nodes d next graph a a r)
+acyclic d next graph none = λ a r. no_circle d none (node_at d a) (to_nodes d next (outline_of d next graph) a a r)

@@ -4,5 +4,6 @@ pub mod Numbered
 pub mod Hits
 pub mod Meant
 pub mod Nodes
+pub mod Outlining
 pub mod Steps
 pub mod Acyclic

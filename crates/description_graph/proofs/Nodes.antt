@@ -5,13 +5,13 @@ use Rattle.std.specs.List.{position_or_len}
 use Rattle.std.specs.Global.{Vec}
 use Rattle.std.proofs.lemmas.Bool.{or_cases, eqb-true, lt-ltb, le-ltb, ltb-true, ltb-false, and_parts, cases_Bool, cond-true, cond-false, false_from_ne_true}
 use Rattle.std.proofs.lemmas.Bool.Decides.{nat_tests}
-use Rattle.graph_paths.specs.Paths.{targets, is_in}
+use Rattle.graph_paths.specs.Paths.{targets, is_in, AreNodes}
 use Rattle.lisa_tree.specs.Descriptions.{DescriptionTree, OperationTree}
 use Rattle.lisa_tree.specs.Same.{same_name}
 use Rattle.lisa_tree.specs.Operations.{number_of, numbers_of}
 use Rattle.lisa_tree.specs.Declarations.{Choice, entries, choices, alternatives_at}
 use Rattle.lisa_tree.specs.Paths.{Node, Operation, Choosing, Declaring, node_at, node_count, leads}
-use Rattle.description_graph.specs.Graph.{IsGraph, ranged, first_choice, first_entry, to_choices, to_references, to_alternatives, to_chosen, to_chosen_by, to_meanings, to_meanings_of}
+use Rattle.description_graph.specs.Graph.{IsGraph, ranged, first_choice, first_entry, to_choices, to_references, to_alternatives, to_chosen, to_chosen_by, plain_edges, to_meanings, to_meanings_of}
 use Rattle.description_graph.proofs.Numbered.{ranged_low, ranged_high, ranged_at, ranged_off, each_owner, each_reference}
 
 -- ---- alternatives are operations
@@ -189,7 +189,7 @@ module _ (d : DescriptionTree) where
       (seen_at (first_entry d) (length (entries d)) b j (λ j. leads d (Declaring i) (Declaring j)) h e)
       ∙ ap (leads d (Declaring i)) (sym is)
 
-  edges_are : (a b : ℕ) → Place d a → Place d b → all_edges d a b ≡ leads d (node_at d a) (node_at d b)
+  pub edges_are : (a b : ℕ) → Place d a → Place d b → all_edges d a b ≡ leads d (node_at d a) (node_at d b)
   edges_are a b (operation h is) at = from_operation a b h ∙ operation_row a b at ∙ ap (λ (x : Node). leads d x (node_at d b)) (sym is)
   edges_are a b (choosing c h e is) at = from_choice a b c h e ∙ choice_row c b at ∙ ap (λ (x : Node). leads d x (node_at d b)) (sym is)
   edges_are a b (declaring i h e is) at = from_entry a b i h e ∙ entry_row i b at ∙ ap (λ (x : Node). leads d x (node_at d b)) (sym is)
@@ -203,7 +203,7 @@ module _ (d : DescriptionTree) where
       let l = ltb-true (b - base) n more.0 in
       (omega (arith, l), more.1)
 
-  edges_within : (a b : ℕ) → all_edges d a b ≡ true → b < node_count d
+  pub edges_within : (a b : ℕ) → all_edges d a b ≡ true → b < node_count d
   edges_within a b e = elim (or_cases (((to_choices d (length (choices d)) a b || to_references d (length (entries d)) a b) || to_alternatives d (length (choices d)) a b) || to_chosen d (length (entries d)) a b) (to_meanings d (length (entries d)) a b) e) [
     | inr meaning ↦ (let m = ranged_within (first_entry d) (length (entries d)) (λ i. to_meanings_of d i b) a meaning in
         let k = ranged_within (first_entry d) (length (entries d)) (λ j. leads d (Declaring (a - first_entry d)) (Declaring j)) b m.1 in omega (arith, k.0))
@@ -228,7 +228,9 @@ module _ (d : DescriptionTree) where
     nodes = λ a b e. let l = edges_within a b (sym (are a b) ∙ e) in omega (arith, l, count);
   }
 
+pub plain_nodes : (d : DescriptionTree) (next : List (Vec ℕ)) → length next ≡ node_count d → ((a b : ℕ) → is_in b (targets next a) ≡ plain_edges d a b) → AreNodes next
+plain_nodes d next count are = λ a b l. (let k = edges_within d a b (ap (λ (t : Bool). t || to_meanings d (length (entries d)) a b) (sym (are a b) ∙ l)) in omega (arith, k, count))
+
 -- edges that were added one sort after another
-pub added_up : (none one two three four five p q r s t : Bool) → none ≡ false → one ≡ (none || p) → two ≡ (one || q) → three ≡ (two || r) → four ≡ (three || s) → five ≡ (four || t)
-    → five ≡ ((((p || q) || r) || s) || t)
-added_up none one two three four five p q r s t e f g h i j = grind arith
+pub added_up : (none one two three four p q r s : Bool) → none ≡ false → one ≡ (none || p) → two ≡ (one || q) → three ≡ (two || r) → four ≡ (three || s) → four ≡ (((p || q) || r) || s)
+added_up none one two three four p q r s t e f g h = grind arith

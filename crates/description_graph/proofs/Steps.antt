@@ -9,11 +9,12 @@ use Rattle.graph_paths.proofs.Long.{within}
 use Rattle.lisa_tree.specs.Descriptions.{DescriptionTree}
 use Rattle.lisa_tree.specs.Declarations.{Entry, Choice, entries, choices}
 use Rattle.lisa_tree.specs.Paths.{Node, Operation, Choosing, Declaring, node_at, node_count, leads}
-use Rattle.description_graph.specs.Graph.{IsGraph, first_choice, first_entry}
+use Rattle.description_graph.specs.Graph.{IsOutline, first_choice, first_entry}
 use Rattle.description_graph.specs.Circles.{Reaches, edge, more, IsFirstCircularOperation}
 use Rattle.description_graph.proofs.Numbered.{chosen_within}
 use Rattle.description_graph.proofs.Nodes.{Place, operation, choosing, declaring, place_of, at_operation, at_choice, at_entry, alternatives_below}
 use Rattle.description_graph.proofs.Meant.{meant_below}
+use Rattle.description_graph.proofs.Outlining.{beyond}
 
 -- a node that has a number
 record Numbered (d : DescriptionTree) (x : Node) : Type 0 where
@@ -67,12 +68,12 @@ one_number d b o h is = by (place_of d b h)
     by (choosing c l e at) = absurd (cc (at, is))
     by (declaring i l e at) = absurd (cc (at, is))
 
-module _ (d : DescriptionTree) (next : List (Vec ℕ)) (graph : IsGraph d next) where
+module _ (d : DescriptionTree) (next : List (Vec ℕ)) (graph : IsOutline d next) where
   below : (a b : ℕ) → Leads next a b → a < node_count d
   below a b e = let l = within next a b e in omega (arith, l, graph.count)
 
   leads_there : (a b : ℕ) → Leads next a b → leads d (node_at d a) (node_at d b) ≡ true
-  leads_there a b e = let l = graph.nodes a b e in sym (graph.exact a b (below a b e) (omega (arith, l, graph.count))) ∙ e
+  leads_there a b e = graph.edges a b e
 
   pub to_nodes : (a b : ℕ) → numbers.Reaches next a b → Reaches d (node_at d a) (node_at d b)
   to_nodes a b (numbers.edge e) = edge (leads_there a b e)
@@ -87,11 +88,11 @@ module _ (d : DescriptionTree) (next : List (Vec ℕ)) (graph : IsGraph d next) 
   to_numbers : (a : ℕ) (x y : Node) → a < node_count d → node_at d a ≡ x → Reaches d x y → Reached a y
   to_numbers a x y h is (edge e) =
       let n = next_number d x y e in
-      record { number = n.number; below = n.below; stands = n.stands; path = numbers.edge (graph.exact a n.number h n.below ∙ ap₂ (leads d) is n.stands ∙ e) }
+      record { number = n.number; below = n.below; stands = n.stands; path = graph.reached a n.number h n.below (ap₂ (leads d) is n.stands ∙ e) }
   to_numbers a x y h is (more {b = m} r e) =
       let p = to_numbers a x m h is r in
       let n = next_number d m y e in
-      record { number = n.number; below = n.below; stands = n.stands; path = numbers.more p.path (graph.exact p.number n.number p.below n.below ∙ ap₂ (leads d) p.stands n.stands ∙ e) }
+      record { number = n.number; below = n.below; stands = n.stands; path = beyond p.path (graph.reached p.number n.number p.below n.below (ap₂ (leads d) p.stands n.stands ∙ e)) }
 
   circle : (o : ℕ) → Reaches d (Operation o) (Operation o) → (o < length d.operations) × numbers.Reaches next o o
   circle o r =

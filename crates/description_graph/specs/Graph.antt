@@ -1,11 +1,11 @@
 -- The graph of nodes, and what its edges are made of.
-use Rattle.std.specs.Prelude.{ℕ, ◌+◌, ◌-◌, ◌<◌, ◌≡◌, Bool, false, not, ◌&&◌, nat_eq, nat_lt, List, length, map, Option, None, Some}
+use Rattle.std.specs.Prelude.{ℕ, ◌+◌, ◌-◌, ◌<◌, ◌≡◌, Bool, false, true, not, ◌&&◌, ◌||◌, nat_eq, nat_lt, List, length, map, Option, None, Some}
 use Rattle.std.specs.List.{list_any}
 use Rattle.std.specs.Global.{Vec}
 use Rattle.lisa_tree.specs.Descriptions.{DescriptionTree}
-use Rattle.graph_paths.specs.Paths.{targets, is_in, AreNodes}
+use Rattle.graph_paths.specs.Paths.{targets, is_in, Leads, Reaches, AreNodes}
 use Rattle.lisa_tree.specs.Declarations.{Choice, choices, entries, what_at, is_reference, owner_at, entry_name_at, declared_at, alternatives_at, above}
-use Rattle.lisa_tree.specs.Paths.{Operation, Choosing, Declaring, node_at, node_count, leads}
+use Rattle.lisa_tree.specs.Paths.{Operation, Choosing, Declaring, node_at, node_count, entry_node, leads}
 
 -- next has the edges between all nodes, by their numbers
 pub record IsGraph (d : DescriptionTree) (next : List (Vec ℕ)) : Type 0 where
@@ -13,9 +13,26 @@ pub record IsGraph (d : DescriptionTree) (next : List (Vec ℕ)) : Type 0 where
   pub exact : (a b : ℕ) → a < node_count d → b < node_count d → is_in b (targets next a) ≡ leads d (node_at d a) (node_at d b)
   pub nodes : AreNodes next
 
+-- a path of edges between declared names
+pub data Hands (d : DescriptionTree) (next : List (Vec ℕ)) : ℕ → ℕ → Type 0 where
+  directly : {i j : ℕ} → Leads next (entry_node d i) (entry_node d j) → Hands d next i j
+  further : {i k j : ℕ} → Hands d next i k → Leads next (entry_node d k) (entry_node d j) → Hands d next i j
+
+-- next has edges between nodes, by their numbers, by which all that they lead to is reached, and no other ones
+pub record IsOutline (d : DescriptionTree) (next : List (Vec ℕ)) : Type 0 where
+  pub count : length next ≡ node_count d
+  pub edges : (a b : ℕ) → Leads next a b → leads d (node_at d a) (node_at d b) ≡ true
+  pub reached : (a b : ℕ) → a < node_count d → b < node_count d → leads d (node_at d a) (node_at d b) ≡ true → Reaches next a b
+  pub handed : (i j : ℕ) → leads d (Declaring i) (Declaring j) ≡ true → Hands d next i j
+  pub nodes : AreNodes next
+
 -- a number is one of so many that begin at a base, and what it stands for passes the test
 abbrev pub ranged : ℕ → ℕ → (ℕ → Bool) → ℕ → Bool
 ranged base count test a = not (nat_lt a base) && (nat_lt (a - base) count && test (a - base))
+
+-- a number stands in a list that is counted from a base
+abbrev pub shifted : ℕ → List ℕ → ℕ → Bool
+shifted base numbers b = not (nat_lt b base) && is_in (b - base) numbers
 
 -- the numbers where choices and declared names begin
 abbrev pub first_choice : DescriptionTree → ℕ
@@ -52,6 +69,17 @@ to_meanings_of d i b = ranged (first_entry d) (length (entries d)) (λ j. leads 
 abbrev pub to_meanings : DescriptionTree → ℕ → ℕ → ℕ → Bool
 to_meanings d k a b = ranged (first_entry d) k (λ i. to_meanings_of d i b) a
 
+-- those of all other sorts
+abbrev pub plain_edges : DescriptionTree → ℕ → ℕ → Bool
+plain_edges d a b = ((to_choices d (length (choices d)) a b || to_references d (length (entries d)) a b) || to_alternatives d (length (choices d)) a b) || to_chosen d (length (entries d)) a b
+
+-- from a declared name to those of its row
+abbrev pub to_row : DescriptionTree → List (Vec ℕ) → ℕ → ℕ → Bool
+to_row d rows i b = shifted (first_entry d) (targets rows i) b
+
+abbrev pub to_rows : DescriptionTree → List (Vec ℕ) → ℕ → ℕ → ℕ → Bool
+to_rows d rows k a b = ranged (first_entry d) k (λ i. to_row d rows i b) a
+
 -- ---- declared names by their numbers
 
 abbrev pub is_reference_at : DescriptionTree → ℕ → Bool
@@ -87,7 +115,3 @@ means d i j = is_first d i && list_any (λ p. hits d p i j) (above d (owner_at d
 -- the operations that declare choices
 abbrev pub owners : List Choice → List ℕ
 owners cs = map (λ (c : Choice). c.operation) cs
-
--- a number stands in a list that is counted from a base
-abbrev pub shifted : ℕ → List ℕ → ℕ → Bool
-shifted base numbers b = not (nat_lt b base) && is_in (b - base) numbers

@@ -10,5 +10,5 @@ mod references;
 mod rows;
 
 pub use circles::{first_circular_among, first_circular_operation};
-pub use graph::edges;
+pub use graph::{edges, outline, plain_edges};
 pub use laws::nodes_are_acyclic;

@@ -4,10 +4,10 @@ use Rattle.std.proofs.lemmas.List.{take-append-le}
 use Rattle.std.proofs.lemmas.Grind.{common_steps}
 use Rattle.std.specs.Option.{is_some}
 use Rattle.std.specs.Map.{lookup}
-use Rattle.indexmap.specs.IndexMap.{insert_entry}
 use Rattle.lisa_tree.specs.declared.tokens.Shape.{Shape}
 use Rattle.lisa_tree.specs.Statements.{HeadTree, StmtTree, Empty, Block, Assign, If, IfElse, While, For, Call, Stall, Flush, Execute, Shift}
 use Rattle.lisa_tree.specs.Statements as stmts
+use Rattle.name_tables.specs.NamedValues.{with_value}
 use Rattle.description_places.specs.declared.scopes.Local.{Local}
 use Rattle.lisa_tree.specs.Same.{same_name}
 use Rattle.description_places.specs.Scopes.{Scope, local_named, entered}
@@ -19,16 +19,16 @@ pub looked_up : (n : List ℕ) (s : Scope) → lookup (same_name n) s ≡ local_
 looked_up n [] = refl
 looked_up n (e ∷ s) = ap (cond (same_name n e.0) (Some e.1)) (looked_up n s)
 
-pub new_entry : (s : Scope) (n : List ℕ) (l : Local) → is_some (local_named n s) ≡ false → insert_entry same_name s n l ≡ s ++ (n, l) ∷ []
+pub new_entry : (s : Scope) (n : List ℕ) (l : Local) → is_some (local_named n s) ≡ false → with_value s n l ≡ s ++ (n, l) ∷ []
 new_entry [] n l none = refl
 new_entry (e ∷ s) n l none = by (same_name n e.0) refl none (new_entry s n l)
   where
-    by : (b : Bool) → same_name n e.0 ≡ b → is_some (cond b (Some e.1) (local_named n s)) ≡ false → (is_some (local_named n s) ≡ false → insert_entry same_name s n l ≡ s ++ (n, l) ∷ [])
-        → insert_entry same_name (e ∷ s) n l ≡ (e ∷ s) ++ (n, l) ∷ []
+    by : (b : Bool) → same_name n e.0 ≡ b → is_some (cond b (Some e.1) (local_named n s)) ≡ false → (is_some (local_named n s) ≡ false → with_value s n l ≡ s ++ (n, l) ∷ [])
+        → with_value (e ∷ s) n l ≡ (e ∷ s) ++ (n, l) ∷ []
     by true is gone more = absurd (cc gone)
     by false is gone more = rw is (ap (λ (rest : Scope). e ∷ rest) (more gone))
 
-pub entered_new : (s : Scope) (n : List ℕ) (l : Local) → is_some (local_named n s) ≡ false → insert_entry same_name s n l ≡ entered s n l
+pub entered_new : (s : Scope) (n : List ℕ) (l : Local) → is_some (local_named n s) ≡ false → with_value s n l ≡ entered s n l
 entered_new s n l none = new_entry s n l none ∙ ap (λ (b : Bool). cond b s (s ++ (n, l) ∷ [])) (sym none)
 
 pub entered_old : (s : Scope) (n : List ℕ) (l : Local) → is_some (local_named n s) ≡ true → s ≡ entered s n l

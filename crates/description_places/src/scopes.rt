@@ -4,9 +4,9 @@ ghost use Rattle.std.specs.Prelude.{◌≡◌, ◌≤◌, List, ℕ, [], OnOk, t
 ghost use Rattle.description_places.specs.declared.scopes.Local.{Local};
 ghost use Rattle.description_places.specs.Scopes.{local_named, entered};
 
-use indexmap::IndexMap;
 use lisa_tree::Shape;
 use lisa_words::Name;
+use name_tables::NamedValues;
 use std::alloc::{AllocError, Global};
 use std::marker::Model;
 
@@ -22,13 +22,13 @@ pub struct Local {
 /// Contracts see it as the list of names with their locals, in the order of their declarations.
 #[derive(Drop)]
 pub struct Scope {
-    locals: IndexMap<Name, Local>,
+    locals: NamedValues<Local>,
 }
 
 impl Model for Scope {
     ghost Value = { List (List ℕ × Local) };
 
-    ghost view = { λ s. s.locals.entries };
+    ghost view = { λ s. s.locals.entries.items };
 }
 
 impl Scope {
@@ -37,7 +37,7 @@ impl Scope {
         ensures { result ≡ [] }
     {
         Scope {
-            locals: IndexMap::new(alloc),
+            locals: NamedValues::new(alloc),
         }
     }
 
@@ -46,7 +46,7 @@ impl Scope {
     pub fn find(&self, name: &Name) -> Option<Local>
         ensures { result ≡ local_named name.now self.now }
     {
-        self.locals.get(name).copied()
+        self.locals.get(name)
     }
 
     /// How many locals there are.
@@ -64,8 +64,7 @@ impl Scope {
         if self.find(name).is_some() {
             return Ok(());
         }
-        self.locals.insert(name.clone()?, local)?;
-        Ok(())
+        self.locals.put(name, local)
     }
 
     // Lets go of the last locals but so many.

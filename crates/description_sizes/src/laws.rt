@@ -1,10 +1,10 @@
 //! What holds of the sizes of every description.
 
-ghost use Rattle.std.specs.Prelude.{◌≡◌, ◌<◌, ◌↔◌, ◌-◌, ◌^◌, ℕ, None, Option, length, min};
+ghost use Rattle.std.specs.Prelude.{◌≡◌, ◌<◌, ◌↔◌, ℕ, None, Option, length};
 ghost use Rattle.lisa_tree.specs.Descriptions.{DescriptionTree};
 ghost use Rattle.activation_trees.specs.description_graph.Circles.{IsFirstCircularOperation};
 ghost use Rattle.activation_trees.specs.lisa_machine.Machines.{IsResetShort};
-ghost use Rattle.description_sizes.specs.Sizes.{first_too_many, size_fault};
+ghost use Rattle.description_sizes.specs.Sizes.{first_too_many};
 ghost use Rattle.description_sizes.specs.Laws.{AreWithinLimits, AreCounted};
 
 /// Nothing is too much exactly where each count is within its limit.
@@ -15,11 +15,6 @@ pub fn sizes_are_within_limits()
 /// Where nothing is too much and no operation reaches itself, `reset` has few enough statements and nodes to be evaluated.
 pub fn reset_is_short()
     ensures { (d : DescriptionTree) (width : Option ℕ) (forms : ℕ) → IsFirstCircularOperation d None → first_too_many d width forms ≡ None → IsResetShort d }
-{}
-
-/// A count of forms that is told as 2^64 - 1 leads to the same fault as the count itself.
-pub fn further_forms_count_alike()
-    ensures { (d : DescriptionTree) (width : Option ℕ) (forms : ℕ) → size_fault d width (min forms (2 ^ 64 - 1)) ≡ size_fault d width forms }
 {}
 
 /// Where no operation reaches itself, the texts of each operation have counts.

@@ -11,9 +11,7 @@ mod unfolding;
 pub use activation_trees::{
     Occurrence, activating_names, activators_come_first, first_root_twice, places,
 };
-pub use laws::{
-    further_forms_count_alike, reset_is_short, sizes_are_within_limits, texts_are_counted,
-};
+pub use laws::{reset_is_short, sizes_are_within_limits, texts_are_counted};
 pub use sizes::{Measure, Size};
 pub use typed_values::Value;
-pub use unfolding::{Unfolded, first_too_many, unfold};
+pub use unfolding::{Unfolded, unfold};

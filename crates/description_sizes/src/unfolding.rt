@@ -129,19 +129,3 @@ pub fn unfold<N: Names>(
         }
     }
 }
-
-/// The fault of the first size that exceeds its limit, if one does.
-pub fn first_too_many<N: Names>(
-    alloc: Global,
-    names: &N,
-    forms: u64,
-    width: Option<u32>,
-) -> Result<Option<DescFault>, NoMemory>
-    requires acyclic { IsFirstCircularOperation (N.tree names.now) None }
-    ensures { IfOk result (λ found. found ≡ size_fault (N.tree names.now) width forms) }
-{
-    match unfold(alloc, names, forms, width)? {
-        Ok(_) => Ok(None),
-        Err(fault) => Ok(Some(fault)),
-    }
-}

@@ -1,16 +1,12 @@
 -- What the tables of a description say.
-use Rattle.std.specs.Prelude.{ℕ, zero, suc, ◌≡◌, Bool, false, not, ◌&&◌, nat_eq, nat_lt, List, [], ◌∷◌, ◌++◌, Option, Some, None, cond, filter}
+use Rattle.std.specs.Prelude.{ℕ, zero, suc, ◌≡◌, Bool, false, not, ◌&&◌, nat_eq, nat_lt, List, [], ◌∷◌, ◌++◌, Option, None, cond, filter}
 use Rattle.std.specs.List.{list_all, dedup}
-use Rattle.std.specs.Option.{option_or}
-use Rattle.indexmap.specs.IndexMap.{IndexMap, get}
+use Rattle.std.specs.BTreeMap.{BTreeMap}
 use Rattle.lisa_tree.specs.Descriptions.{DescriptionTree}
 use Rattle.lisa_tree.specs.Same.{same_name}
 use Rattle.lisa_tree.specs.Operations.{numbers_of, is_alias}
+use Rattle.name_tables.specs.TableViews.{value_of}
 use Rattle.lisa_tree.specs.Declarations.{Choice, Entry, listings}
-
--- what a name has after it is noted that it stands at a place, if it stood nowhere yet
-abbrev pub noted : Option ℕ → List ℕ → List ℕ → ℕ → Option ℕ
-noted before n name place = option_or before (cond (same_name n name) (Some place) None)
 
 -- a choice with its operations by their numbers, and those of them that are no aliases
 pub record Chosen : Type 0 where
@@ -25,9 +21,9 @@ abbrev pub chosen : DescriptionTree → Choice → Chosen
 chosen d c = record { operation = c.operation; alternatives = numbers_of d c.alternatives; plain = no_aliases d (numbers_of d c.alternatives) }
 
 -- what the table of an operation says of a name
-abbrev pub find_in : {S : Type 0} → List (IndexMap (List ℕ) ℕ S) → ℕ → List ℕ → Option ℕ
+abbrev pub find_in : List (BTreeMap (List ℕ) ℕ) → ℕ → List ℕ → Option ℕ
 find_in [] o n = None
-find_in (t ∷ ts) zero n = get same_name t n
+find_in (t ∷ ts) zero n = value_of t n
 find_in (t ∷ ts) (suc o) n = find_in ts o n
 
 -- an operation declares the name

@@ -2,7 +2,7 @@
 
 ghost use Rattle.std.specs.Prelude.{◌≡◌, ℕ, List, Option, Some, None, IfOk, OnOk, cond, map, option_map, position, slice_get};
 ghost use Rattle.std.specs.Option.{option_or};
-ghost use Rattle.indexmap.specs.IndexMap.{get};
+ghost use Rattle.name_tables.specs.TableViews.{value_of};
 ghost use Rattle.lisa_tree.specs.declared.tokens.Shape.{Shape};
 ghost use Rattle.lisa_tree.specs.declared.descriptions.Operation.{Operation};
 ghost use Rattle.lisa_tree.specs.Descriptions.{DescriptionTree, description_tree, resource_tree, operation_tree};
@@ -10,11 +10,12 @@ ghost use Rattle.lisa_tree.specs.Same.{same_name};
 ghost use Rattle.lisa_tree.specs.Resources.{is_named, resource_at, stages_in, stage_at, fields_in, fields as all_fields, field_shape};
 ghost use Rattle.lisa_tree.specs.Operations.{number_of, operation_at, is_alias, own_stage};
 
-use crate::places::{enter, place_of};
-use indexmap::IndexMap;
+use crate::places::place_of;
 use lisa_tree::{Description, Operation, Resource, Shape};
 use lisa_words::Name;
+use name_tables::note_value;
 use std::alloc::{AllocError, Global};
+use std::collections::BTreeMap;
 
 // The stages of the pipeline.
 #[tactic(auto, using(crate::proofs::Lists::one_resource))]
@@ -44,31 +45,31 @@ fn boundary_fields(resources: &[Resource]) -> &[(Shape, Name)]
 
 // Notes the name of a resource, if it has one.
 fn enter_resource(
-    table: &mut IndexMap<Name, usize>,
+    table: &mut BTreeMap<Name, usize>,
     resource: &Resource,
     place: usize,
 ) -> Result<(), AllocError>
-    ensures { OnOk result ((n : List ℕ) → get same_name table.new n ≡ option_or (get same_name table.old n) (cond (is_named n (resource_tree resource.now)) (Some place) None)) }
+    ensures { OnOk result ((n : List ℕ) → value_of table.new n ≡ option_or (value_of table.old n) (cond (is_named n (resource_tree resource.now)) (Some place) None)) }
 {
     match resource {
         Resource::Register(_, _, name, _) => {
-            enter(table, name, place)?;
+            note_value(table, name, place)?;
             Ok(())
         }
         Resource::Clocked(_, _, name) => {
-            enter(table, name, place)?;
+            note_value(table, name, place)?;
             Ok(())
         }
         Resource::Memory(_, _, name, _) => {
-            enter(table, name, place)?;
+            note_value(table, name, place)?;
             Ok(())
         }
         Resource::Pin(_, name) => {
-            enter(table, name, place)?;
+            note_value(table, name, place)?;
             Ok(())
         }
         Resource::Pipeline(name, _) => {
-            enter(table, name, place)?;
+            note_value(table, name, place)?;
             Ok(())
         }
         Resource::Fields(_, _) => Ok(()),
@@ -79,10 +80,10 @@ fn enter_resource(
 fn resource_places(
     alloc: Global,
     resources: &[Resource],
-) -> Result<IndexMap<Name, usize>, AllocError>
-    ensures { IfOk result (λ table. (n : List ℕ) → get same_name table n ≡ position (λ r. is_named n (resource_tree r)) resources.now) }
+) -> Result<BTreeMap<Name, usize>, AllocError>
+    ensures { IfOk result (λ table. (n : List ℕ) → value_of table n ≡ position (λ r. is_named n (resource_tree r)) resources.now) }
 {
-    let mut table = IndexMap::new(alloc);
+    let mut table = BTreeMap::new(alloc);
     for (place, resource) in resources.iter().enumerate() {
         enter_resource(&mut table, resource, place)?;
     }
@@ -90,12 +91,12 @@ fn resource_places(
 }
 
 // Where each stage stands first.
-fn stage_places(alloc: Global, stages: &[Name]) -> Result<IndexMap<Name, usize>, AllocError>
-    ensures { IfOk result (λ table. (n : List ℕ) → get same_name table n ≡ position (same_name n) stages.now) }
+fn stage_places(alloc: Global, stages: &[Name]) -> Result<BTreeMap<Name, usize>, AllocError>
+    ensures { IfOk result (λ table. (n : List ℕ) → value_of table n ≡ position (same_name n) stages.now) }
 {
-    let mut table = IndexMap::new(alloc);
+    let mut table = BTreeMap::new(alloc);
     for (place, stage) in stages.iter().enumerate() {
-        enter(&mut table, stage, place)?;
+        note_value(&mut table, stage, place)?;
     }
     Ok(table)
 }
@@ -104,12 +105,12 @@ fn stage_places(alloc: Global, stages: &[Name]) -> Result<IndexMap<Name, usize>,
 fn field_places(
     alloc: Global,
     fields: &[(Shape, Name)],
-) -> Result<IndexMap<Name, usize>, AllocError>
-    ensures { IfOk result (λ table. (n : List ℕ) → get same_name table n ≡ position (λ (f : Shape × List ℕ). same_name n f.1) fields.now) }
+) -> Result<BTreeMap<Name, usize>, AllocError>
+    ensures { IfOk result (λ table. (n : List ℕ) → value_of table n ≡ position (λ (f : Shape × List ℕ). same_name n f.1) fields.now) }
 {
-    let mut table = IndexMap::new(alloc);
+    let mut table = BTreeMap::new(alloc);
     for (place, field) in fields.iter().enumerate() {
-        enter(&mut table, &field.1, place)?;
+        note_value(&mut table, &field.1, place)?;
     }
     Ok(table)
 }
@@ -118,12 +119,12 @@ fn field_places(
 fn operation_places(
     alloc: Global,
     operations: &[Operation],
-) -> Result<IndexMap<Name, usize>, AllocError>
-    ensures { IfOk result (λ table. (n : List ℕ) → get same_name table n ≡ position (λ (o : Operation). same_name n o.name) operations.now) }
+) -> Result<BTreeMap<Name, usize>, AllocError>
+    ensures { IfOk result (λ table. (n : List ℕ) → value_of table n ≡ position (λ (o : Operation). same_name n o.name) operations.now) }
 {
-    let mut table = IndexMap::new(alloc);
+    let mut table = BTreeMap::new(alloc);
     for (place, operation) in operations.iter().enumerate() {
-        enter(&mut table, &operation.name, place)?;
+        note_value(&mut table, &operation.name, place)?;
     }
     Ok(table)
 }
@@ -156,16 +157,16 @@ fn shape_at(fields: &[(Shape, Name)], place: usize) -> Option<Shape>
 #[derive(Drop)]
 pub(crate) struct Globals<'a> {
     pub description: &'a Description,
-    resources: IndexMap<Name, usize>,
-    stages: IndexMap<Name, usize>,
+    resources: BTreeMap<Name, usize>,
+    stages: BTreeMap<Name, usize>,
     boundary: &'a [(Shape, Name)],
-    fields: IndexMap<Name, usize>,
-    operations: IndexMap<Name, usize>,
-    ghost of_resources: { (n : List ℕ) → get same_name resources n ≡ resource_at (description_tree description.now) n },
-    ghost of_stages: { (n : List ℕ) → get same_name stages n ≡ stage_at (description_tree description.now) n },
+    fields: BTreeMap<Name, usize>,
+    operations: BTreeMap<Name, usize>,
+    ghost of_resources: { (n : List ℕ) → value_of resources n ≡ resource_at (description_tree description.now) n },
+    ghost of_stages: { (n : List ℕ) → value_of stages n ≡ stage_at (description_tree description.now) n },
     ghost of_boundary: { boundary.now ≡ all_fields (description_tree description.now) },
-    ghost of_fields: { (n : List ℕ) → get same_name fields n ≡ position (λ (f : Shape × List ℕ). same_name n f.1) (all_fields (description_tree description.now)) },
-    ghost of_operations: { (n : List ℕ) → get same_name operations n ≡ number_of (description_tree description.now) n },
+    ghost of_fields: { (n : List ℕ) → value_of fields n ≡ position (λ (f : Shape × List ℕ). same_name n f.1) (all_fields (description_tree description.now)) },
+    ghost of_operations: { (n : List ℕ) → value_of operations n ≡ number_of (description_tree description.now) n },
 }
 
 impl<'a> Globals<'a> {

@@ -14,10 +14,10 @@ use crate::finding::{find, index_names};
 use crate::globals::Globals;
 use crate::listing::{Declared, Listing, list};
 use crate::listings::list_above;
-use indexmap::IndexMap;
 use lisa_tree::{Description, Meaning, Names, Shape, What};
 use lisa_words::Name;
 use std::alloc::{AllocError, Global};
+use std::collections::BTreeMap;
 
 /// The names of a description in tables.
 #[derive(Drop)]
@@ -26,7 +26,7 @@ pub struct Tables<'a> {
     entries: Vec<Declared<'a>>,
     choices: Vec<Choice>,
     before: Vec<usize>,
-    declared: Vec<IndexMap<Name, usize>>,
+    declared: Vec<BTreeMap<Name, usize>>,
     above: Vec<Vec<usize>>,
     ghost of_entries: { entries.items ≡ all_entries (description_tree globals.description.now) },
     ghost of_choices: { choices.items ≡ map (chosen (description_tree globals.description.now)) (all_choices (description_tree globals.description.now)) },

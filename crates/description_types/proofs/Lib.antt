@@ -6,3 +6,6 @@ pub mod MeantMarks
 pub mod KnownMarks
 pub mod KnownTypes
 pub mod OneKnown
+pub mod Joining
+pub mod Joins
+pub mod SameValues

@@ -10,7 +10,7 @@ use Rattle.description_types.specs.declared.values.Assignable.{Assignable}
 use Rattle.description_types.specs.Facts.{Fact}
 use Rattle.description_types.specs.Kinds.{type_fact, assignable_fact}
 use Rattle.description_types.specs.Uses.{holds}
-use Rattle.description_types.specs.Tables.{AreValues, AreMeant, AreTraits, AreTypes, AreAssignables, apart, unfit, LacksType, MayNotAssign, DifferInType, DifferInAssigning, IsSettled, Known, AreKinds}
+use Rattle.description_types.specs.Tables.{AreValues, AreTraits, AreTypes, AreAssignables, apart, unfit, IsTypeless, IsUnassignable, DifferInType, DifferInAssigning, IsSettled, Known, AreKinds}
 
 pub same_option : {T : Type 0} (x y : Option T) → ((t : T) → x ≡ Some t → y ≡ Some t) → ((t : T) → y ≡ Some t → x ≡ Some t) → x ≡ y
 same_option None None f g = refl
@@ -52,13 +52,15 @@ pub one_known : (d : DescriptionTree) (known other : Known) → AreKinds d known
 one_known d known other w v =
     let traits = one_traits d known.traits other.traits w.traits v.traits in
     let types = one_table d (type_fact d (apart known.traits)) known.types other.types w.types (subst (λ (t : ℕ → Traits). AreTypes d t other.types) (sym traits) v.types) in
-    let typeless = one_marks _ known.typeless other.typeless w.typeless (subst (λ (t : ℕ → Option TypeOf). AreMeant d (LacksType d t) other.typeless) (sym types) v.typeless) in
+    let typeless = one_marks (IsTypeless d known.types) known.typeless other.typeless w.typeless
+    (subst (λ (t : ℕ → Option TypeOf). (i : ℕ) → (other.typeless i ≡ true) ↔ IsTypeless d t i) (sym types) v.typeless) in
     let types_differ = one_marks (λ i. IsSettled d known.types i × DifferInType d known.types i) known.types_differ other.types_differ w.types_differ
     (subst (λ (t : ℕ → Option TypeOf). (i : ℕ) → (other.types_differ i ≡ true) ↔ (IsSettled d t i × DifferInType d t i)) (sym types) v.types_differ) in
     let of_other : AreAssignables d known.traits known.typeless other.assignables =
     subst (λ (m : ℕ → Bool). AreAssignables d known.traits m other.assignables) (sym typeless) (subst (λ (t : ℕ → Traits). AreAssignables d t other.typeless other.assignables) (sym traits) v.assignables) in
-    let assignables = one_table d (assignable_fact d (unfit known.traits known.typeless)) known.assignables other.assignables w.assignables of_other in
-    let unassignable = one_marks _ known.unassignable other.unassignable w.unassignable (subst (λ (t : ℕ → Option Assignable). AreMeant d (MayNotAssign d t) other.unassignable) (sym assignables) v.unassignable) in
+    let assignables = one_table d (assignable_fact d (apart known.traits) (unfit known.traits known.typeless)) known.assignables other.assignables w.assignables of_other in
+    let unassignable = one_marks (IsUnassignable d known.assignables) known.unassignable other.unassignable w.unassignable
+    (subst (λ (t : ℕ → Option Assignable). (i : ℕ) → (other.unassignable i ≡ true) ↔ IsUnassignable d t i) (sym assignables) v.unassignable) in
     let assignables_differ = one_marks (λ i. IsSettled d known.assignables i × DifferInAssigning d known.assignables i) known.assignables_differ other.assignables_differ w.assignables_differ
     (subst (λ (t : ℕ → Option Assignable). (i : ℕ) → (other.assignables_differ i ≡ true) ↔ (IsSettled d t i × DifferInAssigning d t i)) (sym assignables) v.assignables_differ) in
     λ i. record {

@@ -6,10 +6,10 @@ use Rattle.lisa_tree.specs.Declarations.{entries, choices, what_at}
 use Rattle.lisa_tree.specs.Paths.{Operation, Choosing, Declaring, node_count}
 use Rattle.description_types.specs.Facts.{Fact, entry_value, node_value, follows}
 
-what_past : (d : DescriptionTree) (i : ℕ) → length (entries d) ≤ i → what_at d i ≡ None
+pub what_past : (d : DescriptionTree) (i : ℕ) → length (entries d) ≤ i → what_at d i ≡ None
 what_past d i h = rw (slice_get_past (entries d) i h) refl
 
-past : (a n : ℕ) → n ≤ a → nat_lt a n ≡ false
+pub past : (a n : ℕ) → n ≤ a → nat_lt a n ≡ false
 past a n h = grind arith
 
 module _ {T : Type 0} (d : DescriptionTree) (fact : Fact T) (known : ℕ → Option T) where

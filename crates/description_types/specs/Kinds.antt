@@ -8,6 +8,8 @@ use Rattle.lisa_tree.specs.Expressions as exprs
 use Rattle.lisa_tree.specs.Expressions.{ExprTree}
 use Rattle.lisa_tree.specs.Descriptions as trees
 use Rattle.lisa_tree.specs.Descriptions.{ResourceTree, DescriptionTree}
+use Rattle.lisa_tree.specs.declared.declared.What.{What}
+use Rattle.lisa_tree.specs.declared.declared.What.TheVariants as whats
 use Rattle.lisa_tree.specs.declared.declared.Meaning.{Meaning}
 use Rattle.lisa_tree.specs.declared.declared.Meaning.TheVariants as meanings
 use Rattle.lisa_tree.specs.Operations.{expression_in, sections_at}
@@ -22,6 +24,7 @@ use Rattle.description_types.specs.Shapes.{same_shape}
 use Rattle.description_types.specs.Types.{Types, type_of, meant_element}
 use Rattle.description_types.specs.Refused.{is_refused, is_open, rests_on_refused, rests_on_open}
 use Rattle.description_types.specs.Codings.{coding_at}
+use Rattle.description_types.specs.Known.{has_no_type}
 use Rattle.description_types.specs.Facts.{Fact, known_together, any_open}
 
 -- ---- types
@@ -47,6 +50,14 @@ both_types _ _ = types.NoType
 -- some of these operations has no expression
 abbrev pub lacks_expression : DescriptionTree → List ℕ → Bool
 lacks_expression d all = list_any (λ o. is_none (expression_in (sections_at d o))) all
+
+-- a child has an alternative without an expression, or a label no field, so that it has no type
+abbrev pub is_incomplete : DescriptionTree → ℕ → Option What → Bool
+is_incomplete d i None = false
+is_incomplete d i (Some (whats.Group c)) = lacks_expression d (plain_at d c)
+is_incomplete d i (Some (whats.Instance c)) = lacks_expression d (plain_at d c)
+is_incomplete d i (Some whats.Label) = has_no_type (Some (coding_at d i).label)
+is_incomplete d i (Some whats.Reference) = false
 
 abbrev pub is_refused_type : Option TypeOf → Bool
 is_refused_type (Some types.Refused) = true
@@ -111,10 +122,11 @@ value_assignable known d o (exprs.Named n) = meant_assignable known d (meaning d
 value_assignable known d o (exprs.Element n index) = array_assignable (meant_element d (meaning d o n))
 value_assignable known d o _ = Some assigns.No
 
--- an operation without an expression may not
-abbrev pub expression_assignable : (ℕ → Bool) → (ℕ → Option Assignable) → DescriptionTree → ℕ → Option ExprTree → Option Assignable
-expression_assignable unfit known d o None = Some assigns.No
-expression_assignable unfit known d o (Some e) = cond (is_refused unfit d o e) (Some assigns.Refused) (value_assignable known d o e)
+-- An operation without an expression may not; one whose expression is something open is open, whatever else is known of that.
+abbrev pub expression_assignable : (apart unfit : ℕ → Bool) → (ℕ → Option Assignable) → DescriptionTree → ℕ → Option ExprTree → Option Assignable
+expression_assignable apart unfit known d o None = Some assigns.No
+expression_assignable apart unfit known d o (Some e) =
+    cond (is_open apart known d o e) None (cond (is_refused unfit d o e) (Some assigns.Refused) (value_assignable known d o e))
 
 -- two alternatives of a choice may be assigned where both may, and may not where one of them may not
 abbrev pub both_assignable : Assignable → Assignable → Assignable
@@ -124,11 +136,16 @@ both_assignable assigns.Refused assigns.Yes = assigns.Refused
 both_assignable assigns.Refused assigns.Refused = assigns.Refused
 both_assignable _ _ = assigns.No
 
--- whether a choice may be, by whether some alternative is open and by what they make together; one of aliases alone is refused
-abbrev pub choice_assignable : Bool → Option Assignable → Option Assignable
-choice_assignable true others = None
-choice_assignable false None = Some assigns.Refused
-choice_assignable false others = others
+-- Whether a choice may be, by whether an alternative has no expression or one is open, and by what they make together. One without an
+-- expression decides, as it does of types; one of aliases alone is refused.
+abbrev pub choice_assignable : (lacks some_open : Bool) → Option Assignable → Option Assignable
+choice_assignable true some_open others = Some assigns.No
+choice_assignable false true others = None
+choice_assignable false false None = Some assigns.Refused
+choice_assignable false false (Some others) = Some others
+
+abbrev pub assignable_of_choice : DescriptionTree → (ℕ → Option Assignable) → List ℕ → Option Assignable
+assignable_of_choice d known all = choice_assignable (lacks_expression d all) (any_open known all) (known_together both_assignable known all)
 
 abbrev pub either_assignable : Assignable → Assignable → Assignable
 either_assignable assigns.Yes assigns.Yes = assigns.Yes
@@ -137,10 +154,11 @@ either_assignable assigns.Refused _ = assigns.Refused
 either_assignable _ assigns.Refused = assigns.Refused
 either_assignable _ _ = assigns.Mixed
 
-abbrev pub assignable_fact : DescriptionTree → (ℕ → Bool) → Fact Assignable
-assignable_fact d unfit = record {
-  of_operation = λ known o. expression_assignable unfit known d o (expression_in (sections_at d o));
-  of_choice = λ known c. choice_assignable (any_open known (plain_at d c)) (known_together both_assignable known (plain_at d c));
+-- by the declared names that are apart, and by all that may be no value
+abbrev pub assignable_fact : DescriptionTree → (apart unfit : ℕ → Bool) → Fact Assignable
+assignable_fact d apart unfit = record {
+  of_operation = λ known o. expression_assignable apart unfit known d o (expression_in (sections_at d o));
+  of_choice = λ known c. assignable_of_choice d known (plain_at d c);
   of_label = λ i. assigns.No;
   of_child = λ i value. value;
   either = either_assignable;

@@ -86,7 +86,7 @@ module _ {T : Type 0} where
     child_less : (f : T → T) (c : ℕ) → Less (option_map f (known (choice_node d c))) (option_map f (table (choice_node d c)))
     child_less f c = strict_less (option_map f) refl _ _ (within_less known table within (choice_node d c))
 
-    entry_less : (fact : Fact T) (i : ℕ) (what : Option What) → Less (entry_value d fact known i what) (entry_value d fact table i what)
+    pub entry_less : (fact : Fact T) (i : ℕ) (what : Option What) → Less (entry_value d fact known i what) (entry_value d fact table i what)
     entry_less fact i None = same_less _
     entry_less fact i (Some (whats.Group c)) = child_less (fact.of_child i) c
     entry_less fact i (Some (whats.Instance c)) = child_less (fact.of_child i) c

@@ -9,4 +9,5 @@ pub mod Known
 pub mod Larger
 pub mod Ends
 pub mod Steady
+pub mod Sourced
 pub mod Tables

@@ -34,6 +34,11 @@ unless_refused : {T : Type 0} (refused : Bool) (own x y : Option T) → Less x y
 unless_refused true own x y l = same_less _
 unless_refused false own x y l = l
 
+-- what is there once nothing is open
+once_closed : {T : Type 0} (some_open still : Bool) (x y : Option T) → (some_open ≡ false → still ≡ false) → Less x y → Less (cond some_open None x) (cond still None y)
+once_closed true still x y off l = none_less _
+once_closed false still x y off l = record { keeps = λ t e. ap (λ (b : Bool). cond b None y) (off refl) ∙ l.keeps t e }
+
 -- ---- where nothing is open
 
 both_off : (a b a' b' : Bool) → (a ≡ false → a' ≡ false) → (b ≡ false → b' ≡ false) → (a || b) ≡ false → (a' || b') ≡ false
@@ -84,6 +89,21 @@ two_same operators.Or a b x y x' y' p q p' q' f g e h = pair_same a b x y x' y' 
 two_same operators.Xor a b x y x' y' p q p' q' f g e h = pair_same a b x y x' y' p q p' q' f g e h
 two_same _ a b x y x' y' p q p' q' f g e h = refl
 
+-- what is closed stays so
+module _ {T : Type 0} (d : DescriptionTree) (known table : ℕ → Option T) (within : IsWithin known table) where
+  meant_closes : (unfit : ℕ → Bool) (m : Meaning) → meant_open unfit known d m ≡ false → meant_open unfit table d m ≡ false
+  meant_closes unfit meanings.Nothing e = refl
+  meant_closes unfit (meanings.Resource k) e = refl
+  meant_closes unfit (meanings.Declared i) e = one_closes (unfit i) (known (entry_node d i)) (table (entry_node d i)) (within_less known table within (entry_node d i)) e
+    where
+      one_closes : (apart : Bool) (x y : Option T) → Less x y → (not apart && is_none x) ≡ false → (not apart && is_none y) ≡ false
+      one_closes true x y l e = refl
+      one_closes false x y l e = sym (ap is_none (same_known x y l e)) ∙ e
+
+  closes : (unfit : ℕ → Bool) (o : ℕ) (e : ExprTree) → is_open unfit known d o e ≡ false → is_open unfit table d o e ≡ false
+  closes unfit o (exprs.Named n) e = meant_closes unfit (meaning d o n) e
+  closes unfit o _ e = refl
+
 module _ (d : DescriptionTree) (known table : Types) (within : IsWithin known table) where
   -- where nothing that it rests on is open, or refused, an expression has the same type in both tables
   meant_same : (unfit : ℕ → Bool) (m : Meaning) → meant_open unfit known d m ≡ false → meant_refused unfit m ≡ false → meant_type known d m ≡ meant_type table d m
@@ -92,19 +112,6 @@ module _ (d : DescriptionTree) (known table : Types) (within : IsWithin known ta
   meant_same unfit (meanings.Declared i) e h =
       let closed : is_none (known (entry_node d i)) ≡ false = ap (λ (b : Bool). not b && is_none (known (entry_node d i))) (sym h) ∙ e in
       ap typed (same_known (known (entry_node d i)) (table (entry_node d i)) (within_less known table within (entry_node d i)) closed)
-
-  meant_closes : (unfit : ℕ → Bool) (m : Meaning) → meant_open unfit known d m ≡ false → meant_open unfit table d m ≡ false
-  meant_closes unfit meanings.Nothing e = refl
-  meant_closes unfit (meanings.Resource k) e = refl
-  meant_closes unfit (meanings.Declared i) e = closes (unfit i) (known (entry_node d i)) (table (entry_node d i)) (within_less known table within (entry_node d i)) e
-    where
-      closes : (apart : Bool) (x y : Option TypeOf) → Less x y → (not apart && is_none x) ≡ false → (not apart && is_none y) ≡ false
-      closes true x y l e = refl
-      closes false x y l e = sym (ap is_none (same_known x y l e)) ∙ e
-
-  closes : (unfit : ℕ → Bool) (o : ℕ) (e : ExprTree) → is_open unfit known d o e ≡ false → is_open unfit table d o e ≡ false
-  closes unfit o (exprs.Named n) e = meant_closes unfit (meaning d o n) e
-  closes unfit o _ e = refl
 
   type_same : (unfit : ℕ → Bool) (o : ℕ) (e : ExprTree) → rests_on_open unfit known d o e ≡ false → rests_on_refused unfit d o e ≡ false → type_of known d o [] e ≡ type_of table d o [] e
   type_same unfit o (exprs.Named n) e h = meant_same unfit (meaning d o n) e h
@@ -134,7 +141,7 @@ module _ (d : DescriptionTree) (known table : Types) (within : IsWithin known ta
   expression_less unfit o None = same_less _
   expression_less unfit o (Some e) =
       unless_open (rests_on_open unfit known d o e) (rests_on_open unfit table d o e) _ _
-      (rests_less (is_open unfit known d o) (is_open unfit table d o) (closes unfit o) e)
+      (rests_less (is_open unfit known d o) (is_open unfit table d o) (closes d known table within unfit o) e)
       (λ closed. settled_same (rests_on_refused unfit d o e) _ _ (λ fit. ap as_type (type_same unfit o e closed fit)))
 
 -- ---- alternatives of a type
@@ -180,21 +187,23 @@ module _ (d : DescriptionTree) (known table : ℕ → Option Assignable) (within
   value_less o (exprs.Element n index) = same_less _
   value_less o _ = same_less _
 
-  assigned_less : (unfit : ℕ → Bool) (o : ℕ) (e : Option ExprTree) → Less (expression_assignable unfit known d o e) (expression_assignable unfit table d o e)
-  assigned_less unfit o None = same_less _
-  assigned_less unfit o (Some e) = unless_refused (is_refused unfit d o e) _ _ _ (value_less o e)
+  assigned_less : (apart unfit : ℕ → Bool) (o : ℕ) (e : Option ExprTree) → Less (expression_assignable apart unfit known d o e) (expression_assignable apart unfit table d o e)
+  assigned_less apart unfit o None = same_less _
+  assigned_less apart unfit o (Some e) =
+      once_closed (is_open apart known d o e) (is_open apart table d o e) _ _ (closes d known table within apart o e) (unless_refused (is_refused unfit d o e) _ _ _ (value_less o e))
 
 -- ---- alternatives that may be assigned
 
-choice_assignable_less : (some_open still : Bool) (k m : Option Assignable) → (some_open ≡ false → still ≡ false) → (some_open ≡ false → k ≡ m) → Less (choice_assignable some_open k) (choice_assignable still m)
-choice_assignable_less true still k m off alike = none_less _
-choice_assignable_less false still k m off alike = record { keeps = λ t e. ap₂ choice_assignable (off refl) (sym (alike refl)) ∙ e }
+choice_assignable_less : (lacks some_open still : Bool) (k m : Option Assignable) → (some_open ≡ false → still ≡ false) → (some_open ≡ false → k ≡ m) → Less (choice_assignable lacks some_open k) (choice_assignable lacks still m)
+choice_assignable_less true some_open still k m off alike = same_less _
+choice_assignable_less false true still k m off alike = none_less _
+choice_assignable_less false false still k m off alike = record { keeps = λ t e. ap₂ (choice_assignable false) (off refl) (sym (alike refl)) ∙ e }
 
-pub assignables_steady : (d : DescriptionTree) (unfit : ℕ → Bool) → IsSteady (assignable_fact d unfit)
-assignables_steady d unfit = record {
-  operations = λ known table within o t e. (assigned_less d known table within unfit o (expression_in (sections_at d o))).keeps t e;
+pub assignables_steady : (d : DescriptionTree) (apart unfit : ℕ → Bool) → IsSteady (assignable_fact d apart unfit)
+assignables_steady d apart unfit = record {
+  operations = λ known table within o t e. (assigned_less d known table within apart unfit o (expression_in (sections_at d o))).keeps t e;
   choices = λ known table within c t e.
-      (choice_assignable_less (any_open known (plain_at d c)) (any_open table (plain_at d c)) _ _
+      (choice_assignable_less (lacks_expression d (plain_at d c)) (any_open known (plain_at d c)) (any_open table (plain_at d c)) _ _
       (none_open known table (within_less known table within) (plain_at d c))
       (same_together known table (within_less known table within) both_assignable (λ (x : Option Assignable). x) (plain_at d c))).keeps t e;
 }

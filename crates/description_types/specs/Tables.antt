@@ -1,7 +1,8 @@
 -- What is known of operations, choices and declared names. An open node has no value.
-use Rattle.std.specs.Prelude.{ℕ, ◌≡◌, ◌≢◌, ◌↔◌, ◌||◌, Bool, true, List, Option, Some}
+use Rattle.std.specs.Prelude.{ℕ, ◌≡◌, ◌≢◌, ◌↔◌, ◌||◌, ◌⊎◌, Bool, true, List, Option, Some}
 use Rattle.std.specs.Option.{is_some}
 use Rattle.lisa_tree.specs.Descriptions.{DescriptionTree}
+use Rattle.lisa_tree.specs.Declarations.{what_at}
 use Rattle.lisa_tree.specs.Paths.{entry_node}
 use Rattle.graph_paths.specs.Paths.{saw}
 use Rattle.least_fixed_points.specs.Settles.{entry, Settles}
@@ -14,7 +15,7 @@ use Rattle.description_types.specs.declared.values.Trait.{Trait}
 use Rattle.description_types.specs.declared.values.Traits.{Traits}
 use Rattle.description_types.specs.Refused.{is_apart}
 use Rattle.description_types.specs.Facts.{Fact, follows}
-use Rattle.description_types.specs.Kinds.{type_fact, assignable_fact}
+use Rattle.description_types.specs.Kinds.{is_incomplete, type_fact, assignable_fact}
 use Rattle.description_types.specs.Uses.{holds, own_traits, TraitMarks, traits_by}
 
 -- exactly the values that nodes have
@@ -39,6 +40,18 @@ AreTypes d traits known = AreValues d (type_fact d (apart traits)) known
 abbrev pub LacksType : DescriptionTree → (ℕ → Option TypeOf) → ℕ → Type 0
 LacksType d known j = known (entry_node d j) ≡ Some types.NoType
 
+-- an alternative of the declaration has no expression, or it is a label without a field
+abbrev pub IsIncomplete : DescriptionTree → ℕ → Type 0
+IsIncomplete d j = is_incomplete d j (what_at d j) ≡ true
+
+-- a declared name has a value, so nothing that it may mean is open
+abbrev pub IsSettled : {T : Type 0} → DescriptionTree → (ℕ → Option T) → ℕ → Type 0
+IsSettled d known i = is_some (known (entry_node d i)) ≡ true
+
+-- Some declaration that a name may mean has no type. Where one is open this is said only of one that is incomplete.
+abbrev pub IsTypeless : DescriptionTree → (ℕ → Option TypeOf) → ℕ → Type 0
+IsTypeless d known i = SomeMeant d (IsIncomplete d) i ⊎ (IsSettled d known i × SomeMeant d (LacksType d known) i)
+
 -- two declarations that a name may mean have different types, and no use makes them refused; no type differs from every type
 pub record DifferInType (d : DescriptionTree) (known : ℕ → Option TypeOf) (i : ℕ) : Type 0 where
   pub one : ℕ
@@ -58,7 +71,7 @@ abbrev pub unfit : (ℕ → Traits) → (ℕ → Bool) → ℕ → Bool
 unfit traits typeless i = typeless i || is_apart (traits i)
 
 abbrev pub AreAssignables : DescriptionTree → (ℕ → Traits) → (ℕ → Bool) → (ℕ → Option Assignable) → Type 0
-AreAssignables d traits typeless known = AreValues d (assignable_fact d (unfit traits typeless)) known
+AreAssignables d traits typeless known = AreValues d (assignable_fact d (apart traits) (unfit traits typeless)) known
 
 -- the declaration may be assigned, or not
 abbrev pub MayAssign : DescriptionTree → (ℕ → Option Assignable) → ℕ → Type 0
@@ -71,9 +84,9 @@ MayNotAssign d known j = known (entry_node d j) ≡ Some assigns.No
 abbrev pub DifferInAssigning : DescriptionTree → (ℕ → Option Assignable) → ℕ → Type 0
 DifferInAssigning d known i = SomeMeant d (MayAssign d known) i × SomeMeant d (MayNotAssign d known) i
 
--- a declared name has a value, so nothing that it may mean is open
-abbrev pub IsSettled : {T : Type 0} → DescriptionTree → (ℕ → Option T) → ℕ → Type 0
-IsSettled d known i = is_some (known (entry_node d i)) ≡ true
+-- some declaration that a name may mean may not be assigned, and none is open
+abbrev pub IsUnassignable : DescriptionTree → (ℕ → Option Assignable) → ℕ → Type 0
+IsUnassignable d known i = IsSettled d known i × SomeMeant d (MayNotAssign d known) i
 
 pub record Known : Type 0 where
   -- of nodes
@@ -82,8 +95,8 @@ pub record Known : Type 0 where
   -- of declared names, by their numbers: what holds of some declaration that the name may mean
   pub traits : ℕ → Traits
   pub typeless : ℕ → Bool
+  -- the same where none is open, and what two of them differ in then
   pub unassignable : ℕ → Bool
-  -- what two such declarations differ in, where none is open
   pub types_differ : ℕ → Bool
   pub assignables_differ : ℕ → Bool
 
@@ -91,10 +104,10 @@ pub record Known : Type 0 where
 pub record AreKinds (d : DescriptionTree) (known : Known) : Type 0 where
   pub traits : AreTraits d known.traits
   pub types : AreTypes d known.traits known.types
-  pub typeless : AreMeant d (LacksType d known.types) known.typeless
+  pub typeless : (i : ℕ) → (known.typeless i ≡ true) ↔ IsTypeless d known.types i
   pub types_differ : (i : ℕ) → (known.types_differ i ≡ true) ↔ (IsSettled d known.types i × DifferInType d known.types i)
   pub assignables : AreAssignables d known.traits known.typeless known.assignables
-  pub unassignable : AreMeant d (MayNotAssign d known.assignables) known.unassignable
+  pub unassignable : (i : ℕ) → (known.unassignable i ≡ true) ↔ IsUnassignable d known.assignables i
   pub assignables_differ : (i : ℕ) → (known.assignables_differ i ≡ true) ↔ (IsSettled d known.assignables i × DifferInAssigning d known.assignables i)
 
 -- tables with an entry for each node, and some with one for each declared name

@@ -5,14 +5,16 @@ ghost use Rattle.lisa_tree.specs.Expressions.{expr_tree};
 ghost use Rattle.lisa_tree.specs.Descriptions.{resource_tree};
 ghost use Rattle.least_fixed_points.specs.Settles.{entry};
 ghost use Rattle.description_types.specs.Facts.{added, known_together};
-ghost use Rattle.description_types.specs.Kinds.{resource_assignable, settled_assignable, meant_assignable, array_assignable, value_assignable, expression_assignable, both_assignable, choice_assignable, either_assignable, assignable_fact};
+ghost use Rattle.description_types.specs.Kinds.{resource_assignable, settled_assignable, meant_assignable, array_assignable, value_assignable, expression_assignable, both_assignable, choice_assignable, assignable_of_choice, either_assignable, assignable_fact};
 ghost use Rattle.description_types.specs.Steady.{assignables_steady};
 
-use crate::bases::add_named;
+use crate::bases::{add_named, bases_of_choice};
 use crate::facts::Facts;
-use crate::lookups::{any_open, known_entry, known_operation, resource, sections};
+use crate::lookups::{
+    any_open, known_entry, known_operation, lacks_expression, resource, sections,
+};
 use crate::meant::Property;
-use crate::refused::is_refused;
+use crate::refused::{is_open, is_refused};
 use crate::types::meant_element;
 use crate::values::Assignable;
 use lisa_tree::{Expr, Meaning, Names, Resource, Shape, expression};
@@ -20,8 +22,10 @@ use std::alloc::AllocError;
 
 /// The rules of what may be assigned.
 #[derive(Drop)]
-pub struct AssignableFacts<'a, N, P> {
+pub(crate) struct AssignableFacts<'a, N, A, P> {
     pub names: &'a N,
+    /// Which declared names may be no value by their traits alone.
+    pub apart: &'a A,
     /// Which declared names may be no value.
     pub unfit: &'a P,
 }
@@ -90,18 +94,22 @@ fn value_assignable<N: Names>(
 }
 
 // Whether an operation's expression may be assigned.
-fn expression_assignable<N: Names, P: Property>(
+fn expression_assignable<N: Names, A: Property, P: Property>(
     names: &N,
+    apart: &A,
     unfit: &P,
     table: &[Option<Assignable>],
     operation: usize,
     expression: Option<&Expr>,
 ) -> Option<Assignable>
-    ensures { result ≡ expression_assignable (P.holds unfit.now) (entry table.now) (N.tree names.now) operation (option_map (λ e. expr_tree e.now) expression.entry) }
+    ensures { result ≡ expression_assignable (A.holds apart.now) (P.holds unfit.now) (entry table.now) (N.tree names.now) operation (option_map (λ e. expr_tree e.now) expression.entry) }
 {
     match expression {
         None => Some(Assignable::No),
         Some(expression) => {
+            if is_open(names, apart, table, operation, expression) {
+                return None;
+            }
             if is_refused(names, unfit, operation, expression) {
                 return Some(Assignable::Refused);
             }
@@ -157,10 +165,13 @@ fn known_together(table: &[Option<Assignable>], operations: &[usize]) -> Option<
     so_far
 }
 
-// Whether a choice may be assigned, by whether an alternative is open and by what they make together.
-fn choice_assignable(some_open: bool, others: Option<Assignable>) -> Option<Assignable>
-    ensures { result ≡ choice_assignable some_open others }
+// Whether a choice may be assigned, by whether an alternative has no expression or one is open, and by what they make together.
+fn choice_assignable(lacks: bool, some_open: bool, others: Option<Assignable>) -> Option<Assignable>
+    ensures { result ≡ choice_assignable lacks some_open others }
 {
+    if lacks {
+        return Some(Assignable::No);
+    }
     if some_open {
         return None;
     }
@@ -170,13 +181,28 @@ fn choice_assignable(some_open: bool, others: Option<Assignable>) -> Option<Assi
     }
 }
 
-impl<'a, N: Names, P: Property> Facts<Assignable> for AssignableFacts<'a, N, P> {
-    ghost fact = { λ c. assignable_fact (N.tree c.names.now) (P.holds c.unfit.now) };
+fn assignable_of_choice<N: Names>(
+    names: &N,
+    table: &[Option<Assignable>],
+    operations: &[usize],
+) -> Option<Assignable>
+    ensures { result ≡ assignable_of_choice (N.tree names.now) (entry table.now) operations.now }
+{
+    choice_assignable(
+        lacks_expression(names, operations),
+        any_open(table, operations),
+        known_together(table, operations),
+    )
+}
+
+impl<'a, N: Names, A: Property, P: Property> Facts<Assignable> for AssignableFacts<'a, N, A, P> {
+    ghost fact = { λ c. assignable_fact (N.tree c.names.now) (A.holds c.apart.now) (P.holds c.unfit.now) };
 
     fn of_operation(&self, table: &[Option<Assignable>], operation: usize) -> Option<Assignable> {
         let sections = sections(self.names, operation);
         expression_assignable(
             self.names,
+            self.apart,
             self.unfit,
             table,
             operation,
@@ -185,8 +211,7 @@ impl<'a, N: Names, P: Property> Facts<Assignable> for AssignableFacts<'a, N, P> 
     }
 
     fn of_choice(&self, table: &[Option<Assignable>], choice: usize) -> Option<Assignable> {
-        let plain = self.names.plain_at(choice);
-        choice_assignable(any_open(table, plain), known_together(table, plain))
+        assignable_of_choice(self.names, table, self.names.plain_at(choice))
     }
 
     fn of_label(&self, _entry: usize) -> Assignable {
@@ -203,14 +228,14 @@ impl<'a, N: Names, P: Property> Facts<Assignable> for AssignableFacts<'a, N, P> 
 
     fn add_bases(&self, operation: usize, into: &mut Vec<usize>) -> Result<(), AllocError> {
         match expression(sections(self.names, operation)) {
-            Some(Expr::Named(name)) => add_named(self.names, self.unfit, operation, name, into),
+            Some(Expr::Named(name)) => add_named(self.names, self.apart, operation, name, into),
             _ => Ok(()),
         }
     }
 
     fn bases_of_choice(&self, choice: usize) -> &[usize] {
-        self.names.plain_at(choice)
+        bases_of_choice(self.names, choice)
     }
 
-    ghost steady = { λ c. assignables_steady (N.tree c.names.now) (P.holds c.unfit.now) };
+    ghost steady = { λ c. assignables_steady (N.tree c.names.now) (A.holds c.apart.now) (P.holds c.unfit.now) };
 }

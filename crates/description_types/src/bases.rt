@@ -1,8 +1,8 @@
 //! The order in which nodes are gone over: each behind those that it rests on, so that most have their value at once. Nothing is claimed
-//! of it, since any order leads to the same values.
+//! of it, since any order leads to the same values: so these functions, which no other crate sees, have no clauses.
 
 use crate::facts::{Facts, Following};
-use crate::lookups::operation_count;
+use crate::lookups::{lacks_expression, operation_count, row_at};
 use crate::meant::Property;
 use lisa_tree::{Expr, Meaning, Names, Operator, What};
 use lisa_words::Name;
@@ -64,14 +64,24 @@ pub(crate) fn add_typed<N: Names, P: Property>(
     }
 }
 
-// Adds what a reference rests on: what the operations above its own declare by its name.
-fn add_meant<N: Names>(names: &N, entry: usize, into: &mut Vec<usize>) -> Result<(), AllocError> {
-    if let Some(name) = names.name_at(entry) {
-        for &operation in names.above(names.owner_at(entry)) {
-            if let Some(meant) = names.declared_at(operation, name) {
-                into.push(entry_node(names, meant))?;
-            }
-        }
+/// The operations on which a choice rests. One that has an alternative without an expression rests on nothing.
+pub(crate) fn bases_of_choice<N: Names>(names: &N, choice: usize) -> &[usize] {
+    let plain = names.plain_at(choice);
+    if lacks_expression(names, plain) {
+        &[]
+    } else {
+        plain
+    }
+}
+
+// Adds what a reference rests on.
+fn add_sources<N: Names>(
+    names: &N,
+    row: &[usize],
+    into: &mut Vec<usize>,
+) -> Result<(), AllocError> {
+    for &entry in row {
+        into.push(entry_node(names, entry))?;
     }
     Ok(())
 }
@@ -98,7 +108,7 @@ fn add_bases<T: Copy, N: Names, F: Facts<T>>(
             into.push(operations.saturating_add(choice))?;
             Ok(())
         }
-        Some(What::Reference) => add_meant(names, entry, into),
+        Some(What::Reference) => add_sources(names, row_at(rule.sources, entry), into),
         _ => Ok(()),
     }
 }

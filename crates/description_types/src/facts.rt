@@ -1,22 +1,21 @@
 //! Facts about operations, choices and declared names that rest on each other, by one rule for all of them.
 
 ghost use Rattle.std.specs.Prelude.{◌≡◌, ◌≤◌, ◌-◌, ℕ, List, Option, length, option_map};
+ghost use Rattle.std.specs.Global.{Vec};
 ghost use Rattle.lisa_tree.specs.Descriptions.{DescriptionTree};
 ghost use Rattle.lisa_tree.specs.Declarations.{what_at};
-ghost use Rattle.lisa_tree.specs.Paths.{choice_node, node_count};
+ghost use Rattle.lisa_tree.specs.Paths.{choice_node, entry_node, node_count};
 ghost use Rattle.least_fixed_points.specs.Settles.{entry};
-ghost use Rattle.description_types.specs.Facts.{Fact, IsSteady, together, merged, merged_from, declared_value, reference_value, entry_value, follows};
-ghost use Rattle.description_types.specs.Larger.{follows_monotone};
-ghost use Rattle.description_types.specs.Ends.{follows_ends};
+ghost use Rattle.description_types.specs.Facts.{Fact, IsSteady, together, merged_from};
+ghost use Rattle.description_types.specs.Sourced.{source_value, sourced_value, sourced_entry, follows_sources, sources_monotone, sources_end};
 
-use crate::lookups::{known_choice, known_entry, operation_count};
+use crate::lookups::{known_choice, known_entry, mark_at, operation_count, row_at};
 use least_fixed_points::Rule;
 use lisa_tree::{Names, What};
-use lisa_words::Name;
 use std::alloc::AllocError;
 
 /// How a fact of a node follows from those of others.
-pub trait Facts<T: Copy> {
+pub(crate) trait Facts<T: Copy> {
     ghost fact: { Self → Fact T };
 
     /// Of an operation.
@@ -50,9 +49,13 @@ pub trait Facts<T: Copy> {
 
 /// The rule by which a fact follows for each node.
 #[derive(Drop)]
-pub struct Following<'a, N, F> {
+pub(crate) struct Following<'a, N, F> {
     pub names: &'a N,
     pub facts: &'a F,
+    /// To which declared names references lead.
+    pub sources: &'a [Vec<usize>],
+    /// Which references have no fact, since an operation above their own lacks their name.
+    pub lacking: &'a [bool],
 }
 
 // What two declarations make together, where both are known.
@@ -65,57 +68,39 @@ fn together<T: Copy, F: Facts<T>>(facts: &F, left: Option<T>, right: Option<T>) 
     }
 }
 
-// What is known of a name that an operation declares.
-fn declared_value<T: Copy, N: Names>(
-    names: &N,
-    table: &[Option<T>],
-    name: &Name,
-    operation: usize,
-) -> Option<T>
-    ensures { result ≡ declared_value (N.tree names.now) (entry table.now) name.now operation }
-{
-    match names.declared_at(operation, name) {
-        None => None,
-        Some(number) => known_entry(names, table, number),
-    }
-}
-
-// What the declarations of a name by some operations make together with what is known so far.
+// What declared names make together with what is known so far.
 fn merged_from<T: Copy, N: Names, F: Facts<T>>(
     names: &N,
     facts: &F,
     table: &[Option<T>],
-    name: &Name,
     first: Option<T>,
-    above: &[usize],
+    row: &[usize],
 ) -> Option<T>
-    ensures { result ≡ merged_from (F.fact facts.now).either (declared_value (N.tree names.now) (entry table.now) name.now) first above.now }
+    ensures { result ≡ merged_from (F.fact facts.now).either (λ k. entry table.now (entry_node (N.tree names.now) k)) first row.now }
 {
     let mut so_far = first;
-    for &operation in above {
-        so_far = together(facts, so_far, declared_value(names, table, name, operation));
+    for &number in row {
+        so_far = together(facts, so_far, known_entry(names, table, number));
     }
     so_far
 }
 
-// What the declarations of a name by the operations above one make together.
-fn reference_value<T: Copy, N: Names, F: Facts<T>>(
+// What declared names make together.
+fn source_value<T: Copy, N: Names, F: Facts<T>>(
     names: &N,
     facts: &F,
     table: &[Option<T>],
-    name: &Name,
-    above: &[usize],
+    row: &[usize],
 ) -> Option<T>
-    ensures { result ≡ merged (F.fact facts.now).either (declared_value (N.tree names.now) (entry table.now) name.now) above.now }
+    ensures { result ≡ source_value (N.tree names.now) (F.fact facts.now).either (entry table.now) row.now }
 {
-    match above {
+    match row {
         [] => None,
-        [operation, rest @ ..] => merged_from(
+        [number, rest @ ..] => merged_from(
             names,
             facts,
             table,
-            name,
-            declared_value(names, table, name, *operation),
+            known_entry(names, table, *number),
             rest,
         ),
     }
@@ -137,33 +122,40 @@ fn child_value<T: Copy, N: Names, F: Facts<T>>(
     }
 }
 
-// What follows for a declared name.
-fn entry_value<T: Copy, N: Names, F: Facts<T>>(
-    names: &N,
-    facts: &F,
+// What follows for a reference.
+fn sourced_value<T: Copy, N: Names, F: Facts<T>>(
+    rule: &Following<'_, N, F>,
     table: &[Option<T>],
     number: usize,
 ) -> Option<T>
-    ensures { result ≡ entry_value (N.tree names.now) (F.fact facts.now) (entry table.now) number (what_at (N.tree names.now) number) }
+    ensures { result ≡ sourced_value (N.tree rule.now.names.now) rule.now.sources.now rule.now.lacking.now (F.fact rule.now.facts.now).either (entry table.now) number }
 {
-    match names.what_at(number) {
+    if mark_at(rule.lacking, number) {
+        return None;
+    }
+    source_value(rule.names, rule.facts, table, row_at(rule.sources, number))
+}
+
+// What follows for a declared name.
+fn sourced_entry<T: Copy, N: Names, F: Facts<T>>(
+    rule: &Following<'_, N, F>,
+    table: &[Option<T>],
+    number: usize,
+) -> Option<T>
+    ensures { result ≡ sourced_entry (N.tree rule.now.names.now) rule.now.sources.now rule.now.lacking.now (F.fact rule.now.facts.now) (entry table.now) number (what_at (N.tree rule.now.names.now) number) }
+{
+    match rule.names.what_at(number) {
         None => None,
         Some(What::Group(choice)) | Some(What::Instance(choice)) => {
-            child_value(names, facts, table, number, choice)
+            child_value(rule.names, rule.facts, table, number, choice)
         }
-        Some(What::Label) => Some(facts.of_label(number)),
-        Some(What::Reference) => match names.name_at(number) {
-            None => None,
-            Some(name) => {
-                let above = names.above(names.owner_at(number));
-                reference_value(names, facts, table, name, above)
-            }
-        },
+        Some(What::Label) => Some(rule.facts.of_label(number)),
+        Some(What::Reference) => sourced_value(rule, table, number),
     }
 }
 
 impl<'a, T: Copy, N: Names, F: Facts<T>> Rule<T> for Following<'a, N, F> {
-    ghost step = { λ c. follows (N.tree c.names.now) (F.fact c.facts.now) };
+    ghost step = { λ c. follows_sources (N.tree c.names.now) c.sources.now c.lacking.now (F.fact c.facts.now) };
 
     ghost count = { λ c. node_count (N.tree c.names.now) };
 
@@ -176,10 +168,10 @@ impl<'a, T: Copy, N: Names, F: Facts<T>> Rule<T> for Following<'a, N, F> {
         if node - operations < choices {
             return self.facts.of_choice(table, node - operations);
         }
-        entry_value(self.names, self.facts, table, node - operations - choices)
+        sourced_entry(self, table, node - operations - choices)
     }
 
-    ghost monotone = { λ c. follows_monotone (N.tree c.names.now) (F.fact c.facts.now) (F.steady c.facts.now) };
+    ghost monotone = { λ c. sources_monotone (N.tree c.names.now) c.sources.now c.lacking.now (F.fact c.facts.now) (F.steady c.facts.now) };
 
-    ghost ends = { λ c. follows_ends (N.tree c.names.now) (F.fact c.facts.now) };
+    ghost ends = { λ c. sources_end (N.tree c.names.now) c.sources.now c.lacking.now (F.fact c.facts.now) };
 }

@@ -8,11 +8,12 @@ ghost use Rattle.lisa_tree.specs.Declarations.{entries};
 ghost use Rattle.lisa_tree.specs.Paths.{entry_node, node_count};
 ghost use Rattle.lisa_tree.specs.Expressions.{expr_tree};
 ghost use Rattle.meant_declarations.specs.Meanings.{AreMeanings};
+ghost use Rattle.meant_declarations.specs.Lacking.{lacks};
 ghost use Rattle.description_types.specs.Types.{type_of};
 ghost use Rattle.description_types.specs.Kinds.{unrefused};
 ghost use Rattle.description_types.specs.Codings.{AreCodings};
 ghost use Rattle.description_types.specs.Uses.{traits_by};
-ghost use Rattle.description_types.specs.Tables.{AreMeant, AreTypes, LacksType, DifferInType, AreAssignables, MayAssign, MayNotAssign, IsSettled, Tables, known_by, AreKinds};
+ghost use Rattle.description_types.specs.Tables.{AreMeant, AreTypes, LacksType, IsIncomplete, IsTypeless, DifferInType, AreAssignables, MayAssign, MayNotAssign, IsUnassignable, IsSettled, Tables, known_by, AreKinds};
 
 use crate::assignable_facts::AssignableFacts;
 use crate::bases::order;
@@ -22,14 +23,14 @@ use crate::lookups::{known_entry, mark_at, operation_count};
 use crate::meant::{marks, some_meant};
 use crate::type_facts::{TypeFacts, unrefused};
 use crate::types::type_of;
-use crate::unfit::{Apart, Assigned, Settled, Typeless, Unfit};
+use crate::unfit::{Apart, Assigned, Incomplete, Lacking, Settled, Typeless, Unfit};
 use crate::uses::UseTables;
 use crate::values::{Assignable, CodedName, Traits, TypeOf};
 use description_places::Scope;
 use least_fixed_points::settle_along;
 use lisa_tree::{Expr, Names, Shape};
 use lisa_words::NoMemory;
-use meant_declarations::Meanings;
+use meant_declarations::{Meanings, lacking_references};
 use std::alloc::{AllocError, Global};
 use std::marker::Model;
 
@@ -74,8 +75,12 @@ fn types<N: Names>(
     names: &N,
     codings: &[CodedName],
     uses: &UseTables,
+    meanings: &Meanings,
+    lacking: &[bool],
 ) -> Result<Vec<Option<TypeOf>>, NoMemory>
-    requires { AreCodings (N.tree names.now) codings.now }
+    requires codings { AreCodings (N.tree names.now) codings.now }
+    requires meanings { AreMeanings (N.tree names.now) meanings.now }
+    requires lacking { (i : ℕ) → saw lacking.now i ≡ lacks (N.tree names.now) i }
     ensures { IfOk result (λ types. AreTypes (N.tree names.now) (traits_by uses.now) (entry types.items)) }
 {
     let count = node_count(names)?;
@@ -89,6 +94,8 @@ fn types<N: Names>(
     let rule = Following {
         names,
         facts: &facts,
+        sources: meanings.sources(),
+        lacking,
     };
     let types = settle_along(alloc, &rule, count, &order(alloc, &rule, count)?)?;
     Ok(types)
@@ -100,18 +107,26 @@ fn assignables<N: Names>(
     names: &N,
     uses: &UseTables,
     typeless: &[bool],
+    meanings: &Meanings,
+    lacking: &[bool],
 ) -> Result<Vec<Option<Assignable>>, NoMemory>
+    requires meanings { AreMeanings (N.tree names.now) meanings.now }
+    requires lacking { (i : ℕ) → saw lacking.now i ≡ lacks (N.tree names.now) i }
     ensures { IfOk result (λ assignables. AreAssignables (N.tree names.now) (traits_by uses.now) (saw typeless.now) (entry assignables.items)) }
 {
     let count = node_count(names)?;
+    let apart = Apart { uses };
     let unfit = Unfit { uses, typeless };
     let facts = AssignableFacts {
         names,
+        apart: &apart,
         unfit: &unfit,
     };
     let rule = Following {
         names,
         facts: &facts,
+        sources: meanings.sources(),
+        lacking,
     };
     let assignables = settle_along(alloc, &rule, count, &order(alloc, &rule, count)?)?;
     Ok(assignables)
@@ -164,8 +179,23 @@ fn differ_in_type<N: Names>(
     Ok(marks)
 }
 
-// Which declared names may mean a declaration that has no type.
-fn typeless<N: Names>(
+// Which declared names may mean a declaration that lacks an EXPRESSION or a field.
+fn incomplete<N: Names>(
+    alloc: Global,
+    names: &N,
+    codings: &[CodedName],
+    meanings: &Meanings,
+) -> Result<Vec<bool>, NoMemory>
+    requires codings { AreCodings (N.tree names.now) codings.now }
+    requires meanings { AreMeanings (N.tree names.now) meanings.now }
+    ensures { IfOk result (λ marks. AreMeant (N.tree names.now) (IsIncomplete (N.tree names.now)) (saw marks.items)) }
+{
+    let marks = some_meant(alloc, names, meanings, &Incomplete { names, codings })?;
+    Ok(marks)
+}
+
+// Which declared names may mean a declaration that has no type, be the others open or not.
+fn without_type<N: Names>(
     alloc: Global,
     names: &N,
     meanings: &Meanings,
@@ -175,6 +205,30 @@ fn typeless<N: Names>(
     ensures { IfOk result (λ marks. AreMeant (N.tree names.now) (LacksType (N.tree names.now) (entry types.now)) (saw marks.items)) }
 {
     let marks = some_meant(alloc, names, meanings, &Typeless { names, types })?;
+    Ok(marks)
+}
+
+// Which declared names have no type by what they may mean.
+fn typeless<N: Names>(
+    alloc: Global,
+    names: &N,
+    codings: &[CodedName],
+    meanings: &Meanings,
+    types: &[Option<TypeOf>],
+) -> Result<Vec<bool>, NoMemory>
+    requires codings { AreCodings (N.tree names.now) codings.now }
+    requires meanings { AreMeanings (N.tree names.now) meanings.now }
+    ensures { IfOk result (λ marks. (i : ℕ) → (saw marks.items i ≡ true) ↔ IsTypeless (N.tree names.now) (entry types.now) i) }
+{
+    let incomplete = incomplete(alloc, names, codings, meanings)?;
+    let typeless = without_type(alloc, names, meanings, types)?;
+    let lacking = Lacking {
+        names,
+        types,
+        incomplete: &incomplete,
+        typeless: &typeless,
+    };
+    let marks = marks(alloc, &lacking, names.entry_count())?;
     Ok(marks)
 }
 
@@ -197,8 +251,8 @@ fn assignable<N: Names>(
     Ok(marks)
 }
 
-// Which declared names may mean one that may not.
-fn unassignable<N: Names>(
+// Which declared names may mean one that may not, be the others open or not.
+fn not_assignable<N: Names>(
     alloc: Global,
     names: &N,
     meanings: &Meanings,
@@ -213,6 +267,21 @@ fn unassignable<N: Names>(
         may: false,
     };
     let marks = some_meant(alloc, names, meanings, &assigned)?;
+    Ok(marks)
+}
+
+// Which declared names may mean one that may not, where none is open.
+fn unassignable<N: Names>(
+    alloc: Global,
+    names: &N,
+    meanings: &Meanings,
+    assignables: &[Option<Assignable>],
+) -> Result<Vec<bool>, NoMemory>
+    requires { AreMeanings (N.tree names.now) meanings.now }
+    ensures { IfOk result (λ marks. (i : ℕ) → (saw marks.items i ≡ true) ↔ IsUnassignable (N.tree names.now) (entry assignables.now) i) }
+{
+    let marked = not_assignable(alloc, names, meanings, assignables)?;
+    let marks = among_settled(alloc, names, assignables, &marked)?;
     Ok(marks)
 }
 
@@ -240,15 +309,15 @@ impl Kinds {
     {
         let codings = codings(alloc, names)?;
         let meanings = Meanings::make(alloc, names)?;
+        let lacking = lacking_references(alloc, names, &meanings)?;
         let uses = UseTables::make(alloc, names, &codings, &meanings)?;
-        let types = types(alloc, names, &codings, &uses)?;
-        let typeless = typeless(alloc, names, &meanings, &types)?;
+        let types = types(alloc, names, &codings, &uses, &meanings, &lacking)?;
+        let typeless = typeless(alloc, names, &codings, &meanings, &types)?;
         let types_differ = differ_in_type(alloc, names, &meanings, &types)?;
-        let assignables = assignables(alloc, names, &uses, &typeless)?;
+        let assignables = assignables(alloc, names, &uses, &typeless, &meanings, &lacking)?;
         let assignable = assignable(alloc, names, &meanings, &assignables)?;
         let unassignable = unassignable(alloc, names, &meanings, &assignables)?;
-        let marked = both(alloc, &assignable, &unassignable)?;
-        let assignables_differ = among_settled(alloc, names, &assignables, &marked)?;
+        let assignables_differ = both(alloc, &assignable, &unassignable)?;
         Ok(Kinds {
             types,
             assignables,
@@ -287,14 +356,15 @@ impl Kinds {
         self.uses.at(entry)
     }
 
-    /// Whether some declaration that a name may mean has no type.
+    /// Whether some declaration that a name may mean has no type. Where one is open, this is said only of one that lacks an EXPRESSION or a
+    /// field.
     pub fn is_typeless(&self, entry: usize) -> bool
         ensures { result ≡ (known_by self.now).typeless entry }
     {
         mark_at(&self.typeless, entry)
     }
 
-    /// Whether some declaration that a name may mean may not be assigned.
+    /// Whether some declaration that a name may mean may not be assigned. It isn't said of a name that may mean what is open.
     pub fn is_unassignable(&self, entry: usize) -> bool
         ensures { result ≡ (known_by self.now).unassignable entry }
     {

@@ -16,12 +16,10 @@ mod unfit;
 mod uses;
 mod values;
 
-pub use facts::{Facts, Following};
 pub use kinds::Kinds;
 pub use lookups::{
     known_choice, known_entry, known_operation, operation_count, operation_name, resource, sections,
 };
-pub use meant::Property;
 pub use refused::{are_apart, is_apart, is_pipeline, may_input};
 pub use shapes::{beside, number_shape};
 pub use types::{element_type, literal, name_type, type_of, typed};

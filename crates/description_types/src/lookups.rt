@@ -4,11 +4,12 @@ ghost use Rattle.std.specs.Prelude.{◌≡◌, ◌+◌, length, map, option_map,
 ghost use Rattle.lisa_tree.specs.Descriptions.{resource_tree, section_tree};
 ghost use Rattle.lisa_tree.specs.Operations.{name_at, sections_at};
 ghost use Rattle.lisa_tree.specs.Paths.{choice_node, entry_node};
-ghost use Rattle.graph_paths.specs.Paths.{saw};
+ghost use Rattle.graph_paths.specs.Paths.{saw, targets};
 ghost use Rattle.least_fixed_points.specs.Settles.{entry};
 ghost use Rattle.description_types.specs.Facts.{any_open};
+ghost use Rattle.description_types.specs.Kinds.{lacks_expression};
 
-use lisa_tree::{Names, Resource, Section};
+use lisa_tree::{Names, Resource, Section, expression};
 use lisa_words::{Name, NoMemory};
 use std::alloc::Global;
 
@@ -105,6 +106,18 @@ pub fn any_open<T: Copy>(table: &[Option<T>], operations: &[usize]) -> bool
     false
 }
 
+/// Whether some of these operations has no expression.
+pub(crate) fn lacks_expression<N: Names>(names: &N, operations: &[usize]) -> bool
+    ensures { result ≡ lacks_expression (N.tree names.now) operations.now }
+{
+    for &operation in operations {
+        if expression(sections(names, operation)).is_none() {
+            return true;
+        }
+    }
+    false
+}
+
 /// What is known of a choice.
 pub fn known_choice<T: Copy, N: Names>(names: &N, table: &[Option<T>], choice: usize) -> Option<T>
     ensures { result ≡ entry table.now (choice_node (N.tree names.now) choice) }
@@ -132,5 +145,17 @@ pub(crate) fn mark_at(marks: &[bool], entry: usize) -> bool
         marks[entry]
     } else {
         false
+    }
+}
+
+/// A row by its number, which is empty where there is none.
+#[tactic(auto, using(meant_declarations::proofs::Walks::row_past))]
+pub(crate) fn row_at(rows: &[Vec<usize>], number: usize) -> &[usize]
+    ensures { result.now ≡ targets rows.now number }
+{
+    if number < rows.len() {
+        graph_paths::row(rows, number)
+    } else {
+        &[]
     }
 }

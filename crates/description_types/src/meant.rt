@@ -12,7 +12,7 @@ use meant_declarations::Meanings;
 use std::alloc::{AllocError, Global};
 
 /// Something that may hold of declared names.
-pub trait Property {
+pub(crate) trait Property {
     ghost holds: { Self → ℕ → Bool };
 
     /// Whether it holds of a declared name, by its number.

@@ -111,8 +111,8 @@ fn meant_open<T: Copy, N: Names, P: Property>(
     }
 }
 
-// Whether an expression is itself a use of what is open, and none that is refused.
-fn is_open<T: Copy, N: Names, P: Property>(
+/// Whether an expression is itself a use of what is open, and none that is refused.
+pub(crate) fn is_open<T: Copy, N: Names, P: Property>(
     names: &N,
     unfit: &P,
     table: &[Option<T>],

@@ -4,14 +4,14 @@ ghost use Rattle.std.specs.Prelude.{◌≡◌, [], option_map};
 ghost use Rattle.lisa_tree.specs.Expressions.{expr_tree};
 ghost use Rattle.least_fixed_points.specs.Settles.{entry};
 ghost use Rattle.description_types.specs.Facts.{added, known_together};
-ghost use Rattle.description_types.specs.Kinds.{as_type, expression_type, both_types, lacks_expression, is_refused_type, any_refused, unrefused, choice_type, type_of_choice, type_fact};
+ghost use Rattle.description_types.specs.Kinds.{as_type, expression_type, both_types, is_refused_type, any_refused, unrefused, choice_type, type_of_choice, type_fact};
 ghost use Rattle.description_types.specs.Codings.{AreCodings};
 ghost use Rattle.description_types.specs.Steady.{types_steady};
 
-use crate::bases::add_typed;
+use crate::bases::{add_typed, bases_of_choice};
 use crate::codings::coding_at;
 use crate::facts::Facts;
-use crate::lookups::{any_open, known_operation, sections};
+use crate::lookups::{any_open, known_operation, lacks_expression, sections};
 use crate::meant::Property;
 use crate::refused::{rests_on_open, rests_on_refused};
 use crate::shapes::same_shape;
@@ -23,7 +23,7 @@ use std::alloc::AllocError;
 
 /// The rules of types.
 #[derive(Drop)]
-pub struct TypeFacts<'a, N: Names, P> {
+pub(crate) struct TypeFacts<'a, N: Names, P> {
     pub names: &'a N,
     /// Which declared names may be no value.
     pub unfit: &'a P,
@@ -86,18 +86,6 @@ fn both_types(left: TypeOf, right: TypeOf) -> TypeOf
         (TypeOf::Refused, _) | (_, TypeOf::Refused) => TypeOf::Refused,
         _ => TypeOf::NoType,
     }
-}
-
-// Whether some of these operations has no expression.
-fn lacks_expression<N: Names>(names: &N, operations: &[usize]) -> bool
-    ensures { result ≡ lacks_expression (N.tree names.now) operations.now }
-{
-    for &operation in operations {
-        if expression(sections(names, operation)).is_none() {
-            return true;
-        }
-    }
-    false
 }
 
 fn is_refused_type(value: Option<TypeOf>) -> bool
@@ -230,12 +218,7 @@ impl<'a, N: Names, P: Property> Facts<TypeOf> for TypeFacts<'a, N, P> {
     }
 
     fn bases_of_choice(&self, choice: usize) -> &[usize] {
-        let plain = self.names.plain_at(choice);
-        if lacks_expression(self.names, plain) {
-            &[]
-        } else {
-            plain
-        }
+        bases_of_choice(self.names, choice)
     }
 
     ghost steady = { λ c. types_steady (N.tree c.names.now) (P.holds c.unfit.now) };

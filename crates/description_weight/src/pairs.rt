@@ -11,7 +11,7 @@ ghost use Rattle.description_weight.specs.Weights.{reads_of, writes_of, pairs};
 
 use crate::chosen::Chosen;
 use access_counts::{Ledger, count_accesses, zeros};
-use description_graph::edges;
+use description_graph::plain_edges;
 use description_sizes::Occurrence;
 use description_types::operation_count;
 use lisa_tree::Names;
@@ -59,7 +59,7 @@ fn accesses<N: Names>(
     ensures writes { IfOk result (λ ledger. (k : ℕ) → capped (get_or ledger.writes.items k 0) ≡ capped (writes_of (N.tree names.now) k)) }
 {
     let times = times(alloc, operation_count(names), all)?;
-    let next = edges(alloc, names)?;
+    let next = plain_edges(alloc, names)?;
     let chosen = Chosen { names, meanings };
     let ledger = count_accesses(alloc, names, &chosen, next.len() + 1, &times)?;
     Ok(ledger)

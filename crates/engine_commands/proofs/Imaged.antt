@@ -1,13 +1,11 @@
 -- Reading an image as a step of a command.
-use Rattle.std.proofs.Common.{◌≡◌, ◌≢◌, ◌∙◌, sym, ap, refl, subst, List, ℕ, Option, Some, None, Result, Ok, Err, ◌⊎◌, inl, inr, ⊎_elim}
+use Rattle.std.proofs.Common.{◌≡◌, ◌∙◌, sym, ap, refl, List, ℕ, Option, Some, None, Ok, Err}
 use Rattle.lisa_object.specs.Rules.{IsStamped}
 use Rattle.lisa_object.specs.Texts.{image_text}
 use Rattle.lisa_object.specs.Gives.{IsThis, IsRefusal}
 use Rattle.lisa_object.specs.declared.parts.Stamped.{Stamped}
 use Rattle.lisa_object.specs.declared.faults.ImageFault.{ImageFault}
 use Rattle.lisa_object.specs.declared.faults.ImageFault.TheVariants as images
-use Rattle.lisa_outcomes.specs.declared.status.End.TheVariants as ends
-use Rattle.lisa_outcomes.specs.declared.status.Refusal.{Refusal}
 use Rattle.lisa_outcomes.specs.declared.status.Refusal.TheVariants as refusals
 use Rattle.lisa_outcomes.specs.Stages.{Finds}
 use Rattle.lisa_outcomes.proofs.Finding.{found_ok, found_memory, found_refused}

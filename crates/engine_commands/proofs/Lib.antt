@@ -1,4 +1,9 @@
 mod Scheduled
+mod Boarded
+mod Replayed
+mod Heard
+mod Driven
+mod WholeInputs
 mod Tracing
 mod SessionEnds
 mod Imaged

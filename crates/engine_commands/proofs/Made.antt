@@ -14,7 +14,8 @@ use Rattle.lisa_outcomes.proofs.Told.{none_is_no_some}
 use Rattle.engine_commands.specs.Images.{IsMissing}
 use Rattle.lisa_engine.specs.Machines.{Machine}
 use Rattle.engine_commands.specs.Making.{IsMade, IsCutMade, Makes}
-use Rattle.engine_commands.specs.Tasks.{IsCutUnder}
+use Rattle.engine_commands.specs.Tasks.{IsCutUnder, IsSmall}
+use Rattle.engine_commands.specs.declared.tasks.Task.{Task}
 use Rattle.engine_commands.specs.Unread.{unmade_end}
 
 pub made_finds : {E : Type 0} (view : E → Machine) (wanted : Machine) (memories : List Memory) (e : E) → Makes view wanted memories (Ok e)
@@ -28,12 +29,12 @@ unmade_finds view wanted memories (makes.NoSuchMemory name) made = found_refused
     (image_refusal (images.NoSuchMemory name) (λ e. cc)) (name, made.missing name refl, refl) (λ m is. none_is_no_some _ (sym is.0 ∙ made.missing name refl))
 unmade_finds view wanted memories makes.NoMemory made = found_memory view (IsMade wanted memories) (IsMissing wanted.arrays memories)
 
--- a session over the engine that was made is one over the machine that is wanted
-pub cut_wanted : {E : Type 0} (view : E → Machine) (wanted : Machine) (memories : List Memory) (e : E) (schedule : List ℕ) (left rest before after : Option (List ℕ)) → Makes view wanted memories (Ok e)
-    → IsCutUnder (view e) schedule left rest before after → IsCutMade wanted memories schedule left rest before after
-cut_wanted view wanted memories e schedule left rest before after makes cut = record {
+-- a task over the engine that was made is one over the machine that is wanted
+pub cut_wanted : {E : Type 0} (task : Task) (view : E → Machine) (wanted : Machine) (memories : List Memory) (e : E) (third : List ℕ) (left rest before after : Option (List ℕ)) → Makes view wanted memories (Ok e)
+    → IsCutUnder task (view e) third left rest before after → IsCutMade task wanted memories third left rest before after
+cut_wanted task view wanted memories e third left rest before after makes cut = record {
   found = makes.found;
-  cut = subst (λ (m : Machine). IsCutUnder m schedule left rest before after) makes.is cut;
+  cut = subst (λ (m : Machine). IsCutUnder task m third left rest before after) makes.is cut;
 }
 
 -- ---- from what making an engine answers
@@ -53,3 +54,8 @@ pub made_first : {E : Type 0} (present : E → State) (view : E → Machine) (wa
     → IfOk made (λ e. present e ≡ wanted.defined []) → IfOk made (λ e. view e ≡ wanted) → IfOk made (λ e. present e ≡ (view e).defined [])
 made_first present view wanted (Ok e) first is = first ∙ sym (λ i. (is i).defined [])
 made_first present view wanted (Err fault) first is = tt
+
+-- it is as small as the machine that is wanted
+pub made_small : {E : Type 0} (view : E → Machine) (wanted : Machine) (made : Result E MakeFault) → IfOk made (λ e. view e ≡ wanted) → IsSmall wanted → IfOk made (λ e. IsSmall (view e))
+made_small view wanted (Ok e) is small = subst IsSmall (sym is) small
+made_small view wanted (Err fault) is small = tt

@@ -1,5 +1,5 @@
 -- Reading a schedule as a step of a command.
-use Rattle.std.proofs.Common.{◌≡◌, ◌∙◌, sym, ap, refl, subst, List, ℕ, Result, Ok, Err, IsOk, ◌⊎◌, inl, inr, ⊎_elim}
+use Rattle.std.proofs.Common.{◌≡◌, ◌∙◌, sym, refl, subst, List, ℕ, Result, Ok, Err, ◌⊎◌, inl, inr, ⊎_elim}
 use Rattle.lisa_engine.specs.ScheduleLine.{Line}
 use Rattle.lisa_engine.specs.Schedules.{schedule_of, IsUnlessNoMemory}
 use Rattle.lisa_engine.specs.declared.parts.Item.{Item}
@@ -7,7 +7,6 @@ use Rattle.lisa_engine.specs.declared.schedule.ScheduleFault.{ScheduleFault}
 use Rattle.lisa_engine.specs.declared.schedule.ScheduleFault.TheVariants as schedules
 use Rattle.lisa_outcomes.specs.declared.status.End.{End}
 use Rattle.lisa_outcomes.specs.declared.status.End.TheVariants as ends
-use Rattle.lisa_outcomes.specs.declared.status.Refusal.{Refusal}
 use Rattle.lisa_outcomes.specs.declared.status.Refusal.TheVariants as refusals
 use Rattle.lisa_outcomes.specs.Stages.{Finds}
 use Rattle.lisa_outcomes.proofs.Finding.{found_ok, found_memory, found_refused}

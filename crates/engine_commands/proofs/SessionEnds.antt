@@ -1,24 +1,22 @@
 -- From what a session gives of an input to how its command ends.
-use Rattle.std.proofs.Common.{◌≡◌, ◌≢◌, ◌∙◌, sym, ap, refl, subst, List, ℕ, Option, Some, Result, Ok, Err, IsOk, OnOk, inr, Bool, true, false}
-use Rattle.std.specs.Io.KnownBytes.{Appends}
+use Rattle.std.proofs.Common.{◌≡◌, ◌∙◌, sym, ap, refl, subst, List, ℕ, Option, Some, Ok, Err, inr, Bool, true, false}
 use Rattle.lisa_io.specs.Causes.{Rose}
 use Rattle.lisa_io.specs.Contents.{AppendsFront}
 use Rattle.lisa_engine.specs.Machines.{Course}
-use Rattle.lisa_debug.specs.Sessions.{is_too_long, session_text}
+use Rattle.lisa_debug.specs.Sessions.{session_text}
 use Rattle.lisa_debug.specs.Runs.{Ran, Gives, HasCauses}
 use Rattle.lisa_debug.specs.declared.ends.SessionEnd.{SessionEnd}
 use Rattle.lisa_debug.specs.declared.ends.SessionEnd.TheVariants as session_ends
-use Rattle.lisa_outcomes.specs.declared.status.End.{End}
 use Rattle.lisa_outcomes.specs.declared.status.End.TheVariants as ends
 use Rattle.lisa_outcomes.specs.declared.status.Refusal.{Refusal}
 use Rattle.lisa_outcomes.specs.declared.status.Refusal.TheVariants as refusals
 use Rattle.lisa_outcomes.specs.declared.status.InputFault.TheVariants as input_faults
-use Rattle.lisa_outcomes.specs.Outcomes.{Outcome, Finished, Refusing, written_of}
+use Rattle.lisa_outcomes.specs.Outcomes.{Finished, Refusing, written_of}
 use Rattle.lisa_outcomes.specs.Ends.{Ends}
 use Rattle.lisa_outcomes.specs.Refusals.{IsRefusal}
 use Rattle.lisa_outcomes.proofs.Refusals.{input_refusal}
 use Rattle.lisa_outcomes.proofs.Told.{err_is, not_ok}
-use Rattle.engine_commands.specs.Sessions.{given_up, session_outcome, IsCutOff, end_of, ended}
+use Rattle.engine_commands.specs.Sessions.{given_up, session_outcome, IsCutOff, end_of}
 
 -- an end is of one kind
 is_refusal : (e : SessionEnd) (refusal : Refusal) → end_of e ≡ ends.Refused refusal → (e ≡ session_ends.TooLong) × (refusal ≡ refusals.Input input_faults.TooLong)

@@ -1,8 +1,7 @@
 -- What a command writes that writes a trace.
-use Rattle.std.proofs.Common.{◌≡◌, ◌≢◌, refl, subst, List, ℕ, Option, Result, Ok, Err}
+use Rattle.std.proofs.Common.{◌≡◌, refl, List, ℕ, Option, Ok, Err}
 use Rattle.lisa_engine.specs.Traces.{PutsUnless}
 use Rattle.lisa_engine.specs.declared.trace.TraceEnd.TheVariants as traces
-use Rattle.lisa_outcomes.specs.declared.status.End.{End}
 use Rattle.lisa_outcomes.specs.declared.status.End.TheVariants as ends
 use Rattle.lisa_outcomes.specs.declared.status.Refusal.{Refusal}
 use Rattle.lisa_outcomes.specs.Writes.{Writes}

@@ -1,6 +1,9 @@
 pub mod Schedules
+pub mod Boards
+pub mod Inputs
 pub mod Sessions
 pub mod Tasks
 pub mod Images
 pub mod Making
+pub mod Replays
 pub mod Unread

@@ -14,15 +14,15 @@ use Rattle.engine_commands.specs.Tasks.{GivesUnder, IsCutUnder}
 abbrev pub IsMade : Machine → List Memory → Machine → Type 0
 IsMade wanted memories machine = (missing_memory wanted.arrays memories ≡ None) × (machine ≡ wanted)
 
--- what a task gives over it, under a schedule; the first memory that is none of its arrays is the refusal
-abbrev pub GivesMade : Task → Machine → List Memory → (schedule input : List ℕ) → Outcome → Type 0
-GivesMade task wanted memories schedule input =
-    After (IsMade wanted memories) (IsMissing wanted.arrays memories) (λ machine. GivesUnder task machine schedule input)
+-- what a task gives over it, under the bytes of the third file; the first memory that is none of its arrays is the refusal
+abbrev pub GivesMade : Task → Machine → List Memory → (third input : List ℕ) → Outcome → Type 0
+GivesMade task wanted memories third input =
+    After (IsMade wanted memories) (IsMissing wanted.arrays memories) (λ machine. GivesUnder task machine third input)
 
--- the input failed in a session over it
-pub record IsCutMade (wanted : Machine) (memories : List Memory) (schedule : List ℕ) (left rest before after : Option (List ℕ)) : Type 0 where
+-- the input failed in a task over it
+pub record IsCutMade (task : Task) (wanted : Machine) (memories : List Memory) (third : List ℕ) (left rest before after : Option (List ℕ)) : Type 0 where
   pub found : missing_memory wanted.arrays memories ≡ None
-  pub cut : IsCutUnder wanted schedule left rest before after
+  pub cut : IsCutUnder task wanted third left rest before after
 
 -- ---- in code
 

@@ -6,7 +6,6 @@ use Rattle.lisa_engine.specs.declared.parts.Item.{Item}
 use Rattle.lisa_engine.specs.declared.schedule.ScheduleFault.{ScheduleFault}
 use Rattle.lisa_outcomes.specs.declared.status.Refusal.{Refusal}
 use Rattle.lisa_outcomes.specs.declared.status.Refusal.TheVariants as refusals
-use Rattle.lisa_outcomes.specs.Outcomes.{Outcome, After}
 
 -- a schedule that is left out has no lines
 abbrev pub schedule_bytes : Option (List ℕ) → List ℕ
@@ -19,7 +18,3 @@ IsSchedule pins bytes lines = schedule_of pins bytes ≡ Ok lines
 
 abbrev pub IsNoSchedule : List Item → List ℕ → Refusal → Type 0
 IsNoSchedule pins bytes refusal = (fault : ScheduleFault) × (schedule_of pins bytes ≡ Err fault) × (refusal ≡ refusals.Schedule fault)
-
--- the outcome of a command that first reads a schedule
-abbrev pub AfterSchedule : List Item → List ℕ → (List Line → Outcome → Type 0) → Outcome → Type 0
-AfterSchedule pins bytes Then = After (IsSchedule pins bytes) (IsNoSchedule pins bytes) Then

@@ -1,7 +1,6 @@
 -- What a session of the debugger gives over a machine.
-use Rattle.std.specs.Prelude.{ℕ, ◌≡◌, Bool, true, false, List, Option, Result, Ok, Err}
+use Rattle.std.specs.Prelude.{ℕ, Bool, true, false, List, Option, Result, Ok, Err}
 use Rattle.std.specs.Io.KnownBytes.{Consumes}
-use Rattle.lisa_io.specs.Causes.{Rose}
 use Rattle.lisa_debug.specs.Sessions.{is_too_long, session_text}
 use Rattle.lisa_debug.specs.Runs.{GoesOn}
 use Rattle.lisa_debug.specs.declared.ends.SessionEnd.{SessionEnd}

@@ -1,7 +1,8 @@
-//! The text of an engine's state after some edges, and of a trace.
-ghost use Rattle.std.specs.Prelude.{◌≡◌, []};
+//! The text of an engine's state after some edges, of a trace, and of a value change dump.
+ghost use Rattle.std.specs.Prelude.{◌≡◌, ◌≤◌, [], length};
 ghost use Rattle.lisa_engine.specs.PinValues.{IsFor};
 ghost use Rattle.lisa_engine.specs.Text.{state_text, trace_text};
+ghost use Rattle.vcd_trace.specs.VcdText.{vcd_text};
 ghost use Rattle.lisa_outcomes.specs.Writes.{Writes};
 ghost use Rattle.lisa_engine.specs.Machines.{course_of, state_at};
 
@@ -9,6 +10,7 @@ use lisa_engine::{Engine, Schedule, TraceEnd, run_edges, write_state, write_trac
 use lisa_io::Sink;
 use lisa_outcomes::End;
 use std::alloc::Global;
+use vcd_trace::write_vcd;
 
 /// Writes the state after some edges of a schedule.
 pub fn put_state<E: Engine, O: Sink>(
@@ -48,6 +50,28 @@ pub fn put_trace<E: Engine, O: Sink>(
         (trace_text (E.machine engine.old).items (E.machine engine.old).arrays (state_at (course_of (E.machine engine.old) schedule.now)) edges) }
 {
     match write_trace(alloc, engine, schedule, edges, out) {
+        Ok(()) => Ok(()),
+        Err(TraceEnd::WriteFault) => Err(End::WriteFault),
+        Err(TraceEnd::NoMemory) => Err(End::NoMemory),
+    }
+}
+
+/// Writes the value change dump of the items over some edges of a schedule.
+pub fn put_waves<E: Engine, O: Sink>(
+    alloc: Global,
+    engine: &mut E,
+    schedule: &Schedule,
+    edges: u32,
+    out: &mut O,
+) -> Result<(), End>
+    requires first { E.present engine.old ≡ (E.machine engine.old).defined [] }
+    requires fits { IsFor (E.machine engine.old).pins schedule.now }
+    requires few { length (E.machine engine.old).items ≤ 8192 }
+    ensures { let state = state_at (course_of (E.machine engine.old) schedule.now) in
+        Writes (O.written out.old) (O.written out.new) (O.faults out.old) (O.faults out.new) result
+        (vcd_text (E.machine engine.old).items (λ k. (state k).items) edges) }
+{
+    match write_vcd(alloc, engine, schedule, edges, out) {
         Ok(()) => Ok(()),
         Err(TraceEnd::WriteFault) => Err(End::WriteFault),
         Err(TraceEnd::NoMemory) => Err(End::NoMemory),

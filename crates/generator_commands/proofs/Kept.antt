@@ -1,7 +1,6 @@
 -- The text of a state that was kept, its digest, and what is told of it.
-use Rattle.std.proofs.Common.{◌≡◌, ◌∙◌, ℕ, List, [], ◌++◌, Some, Option, Result, refl, sym, ap, subst}
+use Rattle.std.proofs.Common.{◌≡◌, ◌∙◌, ℕ, List, [], ◌++◌, Some, Option, Result, refl, ap, subst}
 use Rattle.std.specs.Io.KnownBytes.{Appends}
-use Rattle.sha2.specs.Sha256.{sha256}
 use Rattle.lisa_engine.specs.Text.{state_text}
 use Rattle.lisa_engine.specs.ScheduleLine.{Line}
 use Rattle.lisa_engine.specs.declared.parts.Item.{Item}
@@ -19,11 +18,10 @@ use Rattle.generator_commands.specs.Reports.{final_text}
 pub no_lines : (pins : List Item) → IsSchedule pins [] []
 no_lines pins = refl
 
-pub kept_digest : (m : Machine) (edges : ℕ) (lines : List Line) (start text : List ℕ) → lines ≡ [] → start ≡ []
-    → Appends (Some start) (Some text) (state_text m.items m.arrays edges (state_at (course_of m lines) edges)) → sha256 text ≡ sha256 (final_text m edges)
-kept_digest m edges lines start text none empty appends = ap sha256
-    (appends ∙ ap (λ (s : List ℕ). s ++ state_text m.items m.arrays edges (state_at (course_of m lines) edges)) empty
-    ∙ ap (λ (l : List Line). state_text m.items m.arrays edges (state_at (course_of m l) edges)) none)
+pub kept_text : (m : Machine) (edges : ℕ) (lines : List Line) (start text : List ℕ) → lines ≡ [] → start ≡ []
+    → Appends (Some start) (Some text) (state_text m.items m.arrays edges (state_at (course_of m lines) edges)) → text ≡ final_text m edges
+kept_text m edges lines start text none empty appends = appends ∙ ap (λ (s : List ℕ). s ++ state_text m.items m.arrays edges (state_at (course_of m lines) edges)) empty
+    ∙ ap (λ (l : List Line). state_text m.items m.arrays edges (state_at (course_of m l) edges)) none
 
 -- reports with the same parts
 pub report_is : (r s : Report) → r.cells ≡ s.cells → r.edges ≡ s.edges → r.image ≡ s.image → r.state ≡ s.state → r.clock ≡ s.clock → r ≡ s

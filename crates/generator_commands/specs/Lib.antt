@@ -5,6 +5,7 @@ pub mod Soaks
 pub mod assembler_commands
 pub mod description_commands
 pub mod description_sizes
+pub mod engine_commands
 pub mod generated_programs
 pub mod lisa_assembler
 pub mod lisa_forms

@@ -3,10 +3,11 @@ ghost use Rattle.std.specs.Prelude.{◌≡◌, [], List, ℕ, Some, Err, IfOk};
 ghost use Rattle.sha2.specs.Sha256.{sha256};
 ghost use Rattle.lisa_engine.specs.declared.image.MakeFault.TheVariants as makes;
 ghost use Rattle.lisa_engine.specs.Machines.{Machine};
+ghost use Rattle.lisa_engine.specs.PinValues.{IsFor};
 ghost use Rattle.generator_commands.specs.Reports.{final_text};
 
 use engine_commands::{put_state, schedule_for};
-use lisa_engine::{Engine, MakeFault};
+use lisa_engine::{Engine, Item, MakeFault, Schedule};
 use lisa_io::{Failed, Sink};
 use lisa_words::NoMemory;
 use sha2::{Digest, Sha256};
@@ -47,6 +48,36 @@ impl Sink for Kept {
     }
 }
 
+// The schedule without lines, by which all pins are 0 in each edge.
+fn quiet_schedule(alloc: Global, pins: &[Item]) -> Result<Schedule, NoMemory>
+    ensures lines { IfOk result (λ lines. lines ≡ []) }
+    ensures fits { IfOk result (IsFor pins.now) }
+{
+    match schedule_for(alloc, &[], pins) {
+        Ok(schedule) => Ok(schedule),
+        Err(_) => Err(NoMemory),
+    }
+}
+
+// The text of an engine's state after some edges of a schedule.
+fn keep_state<E: Engine>(
+    alloc: Global,
+    engine: &mut E,
+    schedule: &Schedule,
+    edges: u32,
+) -> Result<Kept, NoMemory>
+    requires first { E.present engine.old ≡ (E.machine engine.old).defined [] }
+    requires fits { IsFor (E.machine engine.old).pins schedule.now }
+    ensures { schedule.now ≡ [] → IfOk result (λ kept. kept.text.items ≡ final_text (E.machine engine.old) edges) }
+{
+    let text = Vec::new(alloc);
+    let mut kept = Kept { text, faults: 0 };
+    match put_state(alloc, engine, schedule, edges, &mut kept) {
+        Ok(()) => Ok(kept),
+        Err(_) => Err(NoMemory),
+    }
+}
+
 /// The digest of the text of an engine's state after some edges in which all pins are 0.
 pub fn state_digest<E: Engine>(
     alloc: Global,
@@ -56,16 +87,9 @@ pub fn state_digest<E: Engine>(
     requires { E.present engine.old ≡ (E.machine engine.old).defined [] }
     ensures { IfOk result (λ digest. digest ≡ sha256 (final_text (E.machine engine.old) edges)) }
 {
-    let schedule = match schedule_for(alloc, &[], engine.pins()) {
-        Ok(schedule) => schedule,
-        Err(_) => return Err(NoMemory),
-    };
-    let text = Vec::new(alloc);
-    let mut kept = Kept { text, faults: 0 };
-    match put_state(alloc, engine, &schedule, edges, &mut kept) {
-        Ok(()) => Ok(digest_of(&kept.text)),
-        Err(_) => Err(NoMemory),
-    }
+    let schedule = quiet_schedule(alloc, engine.pins())?;
+    let kept = keep_state(alloc, engine, &schedule, edges)?;
+    Ok(digest_of(&kept.text))
 }
 
 /// The digest of the text of the state of an engine that was made, after some edges in which all pins are 0. No memory was missing.

@@ -13,7 +13,10 @@ pub use assembler_commands::{
     assemble_source, link_objects, list_image, objects_of_sources_keep_rules, sizes_are_limited,
     sources_have_one_answer,
 };
-pub use description_commands::{check_description, do_with_description, format_description};
+pub use description_commands::{
+    check_description, count_stages, do_with_description, format_description,
+};
+pub use engine_commands::replay_waves;
 pub use generating::write_program;
 pub use module_commands::do_with_module;
 pub use soaking::soak;

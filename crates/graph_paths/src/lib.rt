@@ -12,6 +12,6 @@ mod reversing;
 
 pub use circles::first_circular;
 pub use laws::paths_are_short;
-pub use ordering::order;
+pub use ordering::visiting_order;
 pub use reaching::{reached_from, row};
 pub use reversing::{add_edge, no_edges, reversed};

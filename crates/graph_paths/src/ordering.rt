@@ -1,4 +1,4 @@
-//! Nodes in an order in which each comes after what it leads to.
+//! Nodes in an order in which they are best visited.
 
 ghost use Rattle.std.specs.Prelude.{IfOk, OnOk, length};
 ghost use Rattle.graph_paths.specs.Paths.{AreNodes};
@@ -22,9 +22,10 @@ fn add_unseen(seen: &[bool], all: &mut Vec<usize>) -> Result<(), AllocError>
     Ok(())
 }
 
-/// The nodes in an order in which each comes after all that it leads to, and at the end those from which a circle is reached. What is
-/// proved is only that they are nodes; the time is in proportion to the nodes and edges.
-pub fn order(alloc: Global, next: &[Vec<usize>]) -> Result<Vec<usize>, AllocError>
+/// Nodes in an order in which a pass over them has least to do again: each behind all that it leads to, and at the end those from
+/// which a circle is reached. No answer may rest on that, so what is proved is only that they are nodes; the time is in proportion to
+/// the nodes and edges.
+pub fn visiting_order(alloc: Global, next: &[Vec<usize>]) -> Result<Vec<usize>, AllocError>
     requires { AreNodes next.now }
     ensures { IfOk result (λ all. AreBelow (length next.now) all.items) }
 {

@@ -1,15 +1,14 @@
 -- The headline by files.
-use Rattle.std.proofs.Common.{◌≡◌, ◌≤◌, ◌∙◌, ℕ, false, List, [], ◌∷◌, length, Option, None, Some, refl, sym, ap, subst}
-use Rattle.lisa_outcomes.specs.Outcomes.{Outcome, Finished, FileMap, IsFile, passed, stopped}
+use Rattle.std.proofs.Common.{◌≡◌, ◌≤◌, ◌∙◌, ℕ, false, List, ◌∷◌, length, Option, None, Some, refl, sym, subst}
+use Rattle.lisa_outcomes.specs.Outcomes.{Finished, FileMap, IsFile, passed}
 use Rattle.lisa_outcomes.specs.NamedFiles.{file_at}
 use Rattle.lisa_outcomes.specs.RunFiles.{RunNames, RunBytes, run_bytes}
 use Rattle.engine_commands.specs.declared.tasks.Task.{Task}
-use Rattle.engine_commands.specs.Tasks.{takes_input}
 use Rattle.verilog_command.specs.checked_descriptions.Descriptions.{AfterSpelling}
 use Rattle.description_commands.specs.Runs.{GivesRun}
 use Rattle.module_commands.specs.Clocks.{module_limit, GivesClock}
 use Rattle.verilog_command.specs.Modules.{WritesVerilog}
-use Rattle.headline_laws.specs.Headline.{Writes, over}
+use Rattle.headline_laws.specs.Headline.{Writes, over, is_session, AreBytes}
 use Rattle.headline_laws.specs.Files.{FileWrites, FilesRun, FilesClock, over_file}
 use Rattle.headline_laws.proofs.Written.{AreUnique, written_so, print_alike}
 use Rattle.headline_laws.proofs.Fitting.{AreLimited, text_fits}
@@ -43,18 +42,18 @@ same_bytes main verilog None schedule first text others = refl
 same_bytes main verilog (Some image) schedule first text others = refl
 
 module _ (unique : AreUnique) (before after : FileMap) (names : RunNames) (verilog text : List ℕ) (source : IsSource before names.main text) (same : after names.main ≡ before names.main) (held : IsFile after verilog module_limit text) where
-  module _ (task : Task) (silent : takes_input task ≡ false) (input shown : List ℕ) where
+  module _ (task : Task) (silent : is_session task ≡ false) (input shown : List ℕ) (bytes : AreBytes input) where
     -- over the bytes of the files
     over_bytes : (first : List ℕ) (others : List (List ℕ)) → first ≡ source.bytes → GivesRun task (run_bytes names (first ∷ others)) input (Finished shown)
         → GivesClock task (run_bytes (over_file verilog names) (text ∷ others)) input (Finished shown)
     over_bytes first others is gives =
         let run : RunBytes = run_bytes names (first ∷ others) in
-        let writes : Writes run.main text = subst (λ (bytes : List ℕ). Writes bytes text) (sym is) source.writes in
-        subst (λ (bytes : RunBytes). GivesClock task bytes input (Finished shown)) (same_bytes names.main verilog names.image names.schedule first text others)
-        (print_alike unique run text (written_so run text writes) task silent input shown gives)
+        let writes : Writes run.main text = subst (λ (main : List ℕ). Writes main text) (sym is) source.writes in
+        subst (λ (files : RunBytes). GivesClock task files input (Finished shown)) (same_bytes names.main verilog names.image names.schedule first text others)
+        (print_alike unique run text (written_so run text writes) task silent input bytes shown gives)
 
     pub files_print_alike : FilesRun after task names input (Finished shown) → FilesClock after task (over_file verilog names) input (Finished shown)
-    files_print_alike (passed {a = bytes} are gives) =
+    files_print_alike (passed {a = all} are gives) =
         let is : are.0 ≡ source.bytes = some_same are.0 source.bytes (sym are.3.0 ∙ same ∙ source.held) in
         passed {a = text ∷ are.1} (text, are.1, refl, held, are.4)
         (over_bytes are.0 are.1 is (subst (λ (all : List (List ℕ)). GivesRun task (run_bytes names all) input (Finished shown)) are.2 gives))

@@ -1,5 +1,5 @@
 -- The text that `verilog` gave is no longer than a module may be.
-use Rattle.std.proofs.Common.{◌≡◌, ◌≤◌, ◌+◌, ◌*◌, ◌∙◌, ℕ, List, Option, length, refl, ap, arith}
+use Rattle.std.proofs.Common.{◌≡◌, ◌≤◌, ◌+◌, ◌*◌, ℕ, List, Option, length, refl, ap, arith}
 use Rattle.lisa_tree.specs.Descriptions.{DescriptionTree}
 use Rattle.machine_parts.specs.Parts.{arrays_of, pins_of}
 use Rattle.instruction_forms.specs.Widths.{HasWidth}

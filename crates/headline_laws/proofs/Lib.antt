@@ -1,3 +1,5 @@
+pub mod Boards
+pub mod Widths
 pub mod Agreeing
 pub mod Machines
 pub mod Meaning
@@ -5,3 +7,4 @@ pub mod Written
 pub mod Fitting
 pub mod Filed
 pub mod Single
+pub mod Replaying

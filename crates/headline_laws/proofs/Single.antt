@@ -1,27 +1,28 @@
 -- What is printed for the bytes of files is one text.
-use Rattle.std.proofs.Common.{◌≡◌, ◌∙◌, ℕ, false, List, [], ◌∷◌, Option, None, Some, Result, Ok, Err, refl, sym, ap, ap₂, subst}
+use Rattle.std.proofs.Common.{◌≡◌, ◌∙◌, ℕ, Bool, true, false, List, [], ◌∷◌, Option, None, Some, Result, Ok, sym, ap, ap₂, subst}
 use Rattle.lisa_tree.specs.Descriptions.{DescriptionTree}
 use Rattle.lisa_reader.proofs.ByteLaws.{one_description}
 use Rattle.lisa_engine.specs.Memory.{Memory}
 use Rattle.lisa_engine.specs.ScheduleLine.{Line}
+use Rattle.lisa_engine.specs.declared.parts.Item.{Item}
 use Rattle.lisa_engine.specs.declared.schedule.ScheduleFault.{ScheduleFault}
+use Rattle.lisa_board.specs.Boards.{Devices}
+use Rattle.lisa_board.specs.declared.fault.BoardFault.{BoardFault}
 use Rattle.lisa_object.specs.declared.parts.Stamped.{Stamped}
 use Rattle.lisa_object.specs.Rules.{IsStamped}
 use Rattle.lisa_object.specs.Texts.{image_text}
 use Rattle.module_commands.proofs.verilog_reader_proofs.TextLaws.{one_spelled}
-use Rattle.lisa_outcomes.specs.Outcomes.{Finished, FileMap, passed, stopped}
+use Rattle.lisa_outcomes.specs.Outcomes.{Finished, FileMap, passed}
 use Rattle.lisa_outcomes.specs.NamedFiles.{NamedFile, AreFiles}
 use Rattle.lisa_outcomes.specs.RunFiles.{RunNames, RunBytes, run_files, run_bytes}
 use Rattle.engine_commands.specs.declared.tasks.Task.{Task}
-use Rattle.engine_commands.specs.declared.tasks.Task.TheVariants as tasks
 use Rattle.engine_commands.specs.Images.{IsImageOf, memories_of}
 use Rattle.lisa_engine.specs.Machines.{Machine}
 use Rattle.engine_commands.specs.Schedules.{schedule_bytes}
-use Rattle.engine_commands.specs.Tasks.{takes_input, GivesTask, GivesUnder}
+use Rattle.engine_commands.specs.Tasks.{is_on_board, Driver, IsDriver, GivesTask, GivesUnder}
 use Rattle.engine_commands.specs.Making.{GivesMade}
 use Rattle.verilog_command.specs.checked_descriptions.Checked.{Checked, AfterChecks}
 use Rattle.verilog_command.specs.checked_descriptions.Descriptions.{description_limit}
-use Rattle.verilog_command.specs.checked_descriptions.DescriptionImages.{IsImageFor}
 use Rattle.description_commands.specs.Runs.{described_machine, GivesChecked, GivesRun}
 use Rattle.module_commands.specs.Designs.{Design, IsDesign, clock_machine}
 use Rattle.module_commands.specs.Clocks.{module_limit, GivesClock}
@@ -31,24 +32,28 @@ use Rattle.headline_laws.proofs.Written.{AreUnique}
 
 -- ---- over a machine
 
-ok_same : (a b : List Line) → ◌≡◌ {A = Result (List Line) ScheduleFault} (Ok a) (Ok b) → a ≡ b
-ok_same a b e = cc
+lines_same : (a b : List Line) → ◌≡◌ {A = Result (List Line) ScheduleFault} (Ok a) (Ok b) → a ≡ b
+lines_same a b e = cc
 
-module _ (task : Task) (silent : takes_input task ≡ false) (input first second : List ℕ) where
-  task_one : (t : Task) → takes_input t ≡ false → (m : Machine) (lines : List Line) → GivesTask t m input lines (Finished first) → GivesTask t m input lines (Finished second) → first ≡ second
-  task_one (tasks.State edges) quiet m lines x y = finished_same first second (x ∙ sym y)
-  task_one (tasks.Trace edges) quiet m lines x y = finished_same first second (x ∙ sym y)
-  task_one tasks.Answers quiet m lines x y = cc
+boards_same : (a b : Devices) → ◌≡◌ {A = Result Devices BoardFault} (Ok a) (Ok b) → a ≡ b
+boards_same a b e = cc
 
-  under_one : (m : Machine) (schedule : List ℕ) → GivesUnder task m schedule input (Finished first) → GivesUnder task m schedule input (Finished second) → first ≡ second
-  under_one m schedule (passed {a = l} read x) (passed {a = k} again y) =
-      task_one task silent m l x (subst (λ (lines : List Line). GivesTask task m input lines (Finished second)) (ok_same k l (sym again ∙ read)) y)
+-- bytes write one schedule, and one board
+driver_one : (board : Bool) (items pins : List Item) (bytes : List ℕ) (x y : Driver board) → IsDriver board items pins bytes x → IsDriver board items pins bytes y → x ≡ y
+driver_one true items pins bytes x y read again = boards_same x y (sym read ∙ again)
+driver_one false items pins bytes x y read again = lines_same x y (sym read ∙ again)
 
-  made_one : (wanted : Machine) (memories : List Memory) (schedule : List ℕ) → GivesMade task wanted memories schedule input (Finished first) → GivesMade task wanted memories schedule input (Finished second)
+module _ (task : Task) (input first second : List ℕ) where
+  under_one : (m : Machine) (third : List ℕ) → GivesUnder task m third input (Finished first) → GivesUnder task m third input (Finished second) → first ≡ second
+  under_one m third (passed {a = d} read x) (passed {a = e} again y) =
+      finished_same first second
+      (x ∙ sym (subst (λ (driver : Driver (is_on_board task)). GivesTask task m input driver (Finished second)) (driver_one (is_on_board task) m.items m.pins third e d again read) y))
+
+  made_one : (wanted : Machine) (memories : List Memory) (third : List ℕ) → GivesMade task wanted memories third input (Finished first) → GivesMade task wanted memories third input (Finished second)
       → first ≡ second
-  made_one wanted memories schedule (passed {a = m} made x) (passed {a = n} again y) =
-      under_one wanted schedule (subst (λ (machine : Machine). GivesUnder task machine schedule input (Finished first)) made.1 x)
-      (subst (λ (machine : Machine). GivesUnder task machine schedule input (Finished second)) again.1 y)
+  made_one wanted memories third (passed {a = m} made x) (passed {a = n} again y) =
+      under_one wanted third (subst (λ (machine : Machine). GivesUnder task machine third input (Finished first)) made.1 x)
+      (subst (λ (machine : Machine). GivesUnder task machine third input (Finished second)) again.1 y)
 
 -- ---- images and files
 
@@ -76,7 +81,7 @@ files_one files (file ∷ named) xs ys are again =
 
 -- ---- over a module
 
-module _ (images : ImagesUnique) (task : Task) (silent : takes_input task ≡ false) (input first second : List ℕ) where
+module _ (images : ImagesUnique) (task : Task) (input first second : List ℕ) where
   design_one : (bytes : RunBytes) (d e : Design) → IsDesign bytes d → IsDesign bytes e → d ≡ e
   design_one bytes d e is other =
       let tree = one_spelled bytes.main d.tree e.tree is.accepted.spelling other.accepted.spelling in
@@ -85,7 +90,7 @@ module _ (images : ImagesUnique) (task : Task) (silent : takes_input task ≡ fa
 
   clock_one : (bytes : RunBytes) → GivesClock task bytes input (Finished first) → GivesClock task bytes input (Finished second) → first ≡ second
   clock_one bytes (passed {a = d} is x) (passed {a = e} other y) =
-      made_one task silent input first second (clock_machine d) d.memories (schedule_bytes bytes.schedule) x
+      made_one task input first second (clock_machine d) d.memories (schedule_bytes bytes.schedule) x
       (subst (λ (design : Design). GivesMade task (clock_machine design) design.memories (schedule_bytes bytes.schedule) input (Finished second)) (design_one bytes e d other is) y)
 
   pub clocks_print_one : (files : FileMap) (names : RunNames) → FilesClock files task names input (Finished first) → FilesClock files task names input (Finished second) → first ≡ second
@@ -98,7 +103,7 @@ module _ (images : ImagesUnique) (task : Task) (silent : takes_input task ≡ fa
   module _ (checks : AreUnique) where
     checked_one : (bytes : RunBytes) (c : Checked) → GivesChecked task bytes input c (Finished first) → GivesChecked task bytes input c (Finished second) → first ≡ second
     checked_one bytes c (passed {a = m} image x) (passed {a = n} other y) =
-        made_one task silent input first second (described_machine c m) m (schedule_bytes bytes.schedule) x
+        made_one task input first second (described_machine c m) m (schedule_bytes bytes.schedule) x
         (subst (λ (memories : List Memory). GivesMade task (described_machine c memories) memories (schedule_bytes bytes.schedule) input (Finished second))
         (memories_one images bytes.image other.image image.image n m other.spelled image.spelled other.are image.are) y)
 

@@ -1,5 +1,5 @@
 -- What is given over a description is given over the text that `verilog` gave, and the other way round.
-use Rattle.std.proofs.Common.{◌≡◌, ◌∙◌, ℕ, false, List, [], Option, None, Some, ◌⊎◌, inl, inr, ⊎_elim, refl, sym, ap, subst}
+use Rattle.std.proofs.Common.{◌≡◌, ◌∙◌, ℕ, false, List, [], Option, None, Some, inl, inr, sym, ap, subst}
 use Rattle.lisa_tree.specs.Descriptions.{DescriptionTree}
 use Rattle.lisa_tree.specs.Texts.{SpellsText}
 use Rattle.description_digest.specs.Digests.{digest_of}
@@ -8,23 +8,23 @@ use Rattle.lisa_engine.specs.Memory.{Memory}
 use Rattle.lisa_engine.specs.Images.{IsImage}
 use Rattle.lisa_object.specs.declared.parts.Stamped.{Stamped}
 use Rattle.verilog_text.specs.Trees.{ModuleTree}
-use Rattle.verilog_text.specs.Faults.{VAccepts}
+use Rattle.verilog_text.specs.Clockable.{IsClockable}
+use Rattle.verilog_rules.proofs.Clockable.{accepted}
 use Rattle.module_commands.proofs.verilog_reader_proofs.TextLaws.{one_spelled, accepted_unbroken}
 use Rattle.lisa_outcomes.specs.declared.status.Refusal.{Refusal}
 use Rattle.lisa_outcomes.specs.Outcomes.{Outcome, Finished, Refusing, passed, stopped}
 use Rattle.lisa_outcomes.specs.RunFiles.{RunBytes}
 use Rattle.engine_commands.specs.declared.tasks.Task.{Task}
-use Rattle.engine_commands.specs.Images.{IsImageOf, memories_of}
+use Rattle.engine_commands.specs.Images.{IsImageOf}
 use Rattle.engine_commands.specs.Schedules.{schedule_bytes}
-use Rattle.engine_commands.specs.Tasks.{takes_input}
 use Rattle.engine_commands.specs.Making.{GivesMade}
 use Rattle.verilog_command.specs.checked_descriptions.Checked.{Checked, IsChecked, IsFaulty, AfterChecks}
 use Rattle.verilog_command.specs.checked_descriptions.DescriptionImages.{HasDigest, IsImageFor, IsForAnother}
 use Rattle.description_commands.specs.Runs.{described_machine, GivesChecked, GivesRun}
-use Rattle.module_commands.specs.Designs.{Design, IsDesign, no_module, no_image, clock_machine}
+use Rattle.module_commands.specs.Designs.{Design, no_module, no_image, clock_machine}
 use Rattle.module_commands.specs.Clocks.{GivesClock}
-use Rattle.verilog_command.specs.Modules.{IsLightText, WritesModule, written}
-use Rattle.headline_laws.specs.Headline.{Writes, over, IsOwnImage}
+use Rattle.verilog_command.specs.Modules.{IsLightText, written}
+use Rattle.headline_laws.specs.Headline.{Writes, over, is_session, AreBytes, IsOwnImage}
 use Rattle.headline_laws.proofs.Machines.{memories_kept, to_module, from_module}
 
 -- a description is checked in one way, and not where it is refused
@@ -48,7 +48,7 @@ pub record IsWritten (run : RunBytes) (text : List ℕ) : Type 0 where
 pub written_so : (run : RunBytes) (text : List ℕ) → Writes run.main text → IsWritten run text
 written_so run text (passed {a = d} spelled (passed {a = c} is (written light))) = record { tree = d; spelled = spelled; checked = c; is = is; light = light }
 
-module _ (checks : AreUnique) (run : RunBytes) (text : List ℕ) (w : IsWritten run text) (task : Task) (silent : takes_input task ≡ false) (input : List ℕ) where
+module _ (checks : AreUnique) (run : RunBytes) (text : List ℕ) (w : IsWritten run text) (task : Task) (silent : is_session task ≡ false) (input : List ℕ) (bytes : AreBytes input) where
   -- ---- from the description to the module
 
   from_checks : (outcome : Outcome) → AfterChecks w.tree (GivesChecked task run input) outcome → GivesChecked task run input w.checked outcome
@@ -60,6 +60,9 @@ module _ (checks : AreUnique) (run : RunBytes) (text : List ℕ) (w : IsWritten 
       from_checks outcome (subst (λ (x : DescriptionTree). AfterChecks x (GivesChecked task run input) outcome) (one_description run.main d w.tree spelled w.spelled) gives)
   from_description _ (stopped unread) = absurd (spelled_unbroken run.main w.tree unread.0 w.spelled unread.1)
 
+  clockable : IsClockable w.light.text.tree
+  clockable = accepted text w.light.text.tree w.light.text.accepted
+
   abbrev design : List Memory → Design
   design memories = record { tree = w.light.text.tree; memories = memories }
 
@@ -67,7 +70,7 @@ module _ (checks : AreUnique) (run : RunBytes) (text : List ℕ) (w : IsWritten 
       → GivesMade task (described_machine w.checked memories) memories (schedule_bytes run.schedule) input outcome → GivesClock task (over text run) input outcome
   to_design outcome memories image gives =
       passed {a = design memories} (record { accepted = w.light.text.accepted; image = image.image; spelled = image.spelled; memories = image.are })
-      (to_module w.checked w.light.text.tree w.light.text.is_module memories (subst IsImage (sym image.are) (memories_kept run.image image.image image.spelled)) (schedule_bytes run.schedule) task input outcome silent gives)
+      (to_module w.checked w.light.text.tree w.light.text.is_module clockable memories (subst IsImage (sym image.are) (memories_kept run.image image.image image.spelled)) (schedule_bytes run.schedule) task input outcome silent bytes gives)
 
   printed : (shown : List ℕ) → GivesChecked task run input w.checked (Finished shown) → GivesClock task (over text run) input (Finished shown)
   printed shown (passed {a = memories} image gives) = to_design (Finished shown) memories image gives
@@ -103,7 +106,7 @@ module _ (checks : AreUnique) (run : RunBytes) (text : List ℕ) (w : IsWritten 
     pub from_clock : (outcome : Outcome) → GivesClock task (over text run) input outcome → GivesRun task run input outcome
     from_clock outcome (passed {a = d} is gives) =
         to_run outcome (passed {a = d.memories} (record { image = is.image; spelled = is.spelled; digest = has_digest is.image is.spelled; are = is.memories })
-        (from_module w.checked w.light.text.tree w.light.text.is_module d.memories (subst IsImage (sym is.memories) (memories_kept run.image is.image is.spelled)) (schedule_bytes run.schedule) task input outcome silent
+        (from_module w.checked w.light.text.tree w.light.text.is_module clockable d.memories (subst IsImage (sym is.memories) (memories_kept run.image is.image is.spelled)) (schedule_bytes run.schedule) task input outcome silent bytes
         (of_tree outcome d (one_spelled text d.tree w.light.text.tree is.accepted.spelling w.light.text.accepted.spelling) gives)))
     from_clock _ (stopped (no_module unread)) = absurd (accepted_unbroken text w.light.text.tree unread.0 w.light.text.accepted unread.1)
     from_clock _ (stopped {refusal = refusal} (no_image accepted wrong)) = to_run (Refusing refusal []) (stopped (inl wrong))

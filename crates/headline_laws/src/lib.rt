@@ -5,4 +5,5 @@ mod laws;
 
 pub use laws::{
     modules_do_what_descriptions_do, modules_print_what_descriptions_print, runs_print_one_text,
+    waves_are_replayed,
 };

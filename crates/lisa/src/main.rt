@@ -33,10 +33,7 @@ fn command_words(rt: &HostRuntime) -> Option<Vec<String>> {
         }
     };
     let _ = args.next();
-    match args.collect(rt.alloc()) {
-        Ok(words) => Some(words),
-        Err(_) => None,
-    }
+    args.collect(rt.alloc()).ok()
 }
 
 fn main(rt: HostRuntime) -> ExitCode {

@@ -13,21 +13,29 @@ ghost use Rattle.lisa_assembler.specs.Sourced.{IsObjectOfBytes, IsFaultOfBytes};
 
 use crate::line::assemble_line;
 use crate::tools::Tools;
-use asm_source::{SourceFault, read_line, read_source};
+use asm_source::{SourceFault, read_line};
 use lisa_object::Object;
 use std::alloc::Global;
 use std::collections::BTreeSet;
 use text_lines::next_line;
 
 // The first fault of a source in which a line has this one, and none before it: that of the first line that says nothing, if there is one.
+// A line is dropped once it is read.
 fn first_fault(alloc: Global, bytes: &[u8], fault: SourceFault) -> SourceFault
     requires { length (lines bytes.now) < 2 ^ 32 }
     ensures { Misses result (source_of bytes.now) ⊎ ((ls : List PlainLine) × (source_of bytes.now ≡ Ok ls) × (result ≡ fault)) }
 {
-    match read_source(alloc, bytes) {
-        Ok(_) => fault,
-        Err(unread) => unread,
+    let mut number: u32 = 0;
+    let mut rest = bytes;
+    'each: while let Some((text, after)) = next_line(rest) {
+        number += 1;
+        match read_line(alloc, number, text) {
+            Ok(line) => drop(line),
+            Err(unread) => return unread,
+        }
+        rest = after;
     }
+    fault
 }
 
 /// The object of the source that bytes are, of a description with this digest, or the fault of its first line that says nothing, or else

@@ -10,7 +10,7 @@ use Rattle.lisa_outcomes.specs.RunFiles.{any_file, image_limit, schedule_limit}
 use Rattle.verilog_command.specs.checked_descriptions.Descriptions.{description_limit}
 use Rattle.generator_commands.specs.module_commands.Clocks.{module_limit}
 use Rattle.generator_commands.specs.assembler_commands.Links.{object_limit}
-use Rattle.command_words.specs.Requests.{Request, Format, Check, Verilog, Assemble, Link, Disassemble, Generate, Soak, Simulate, Clock, IsAllowed}
+use Rattle.command_words.specs.Requests.{Request, Format, Check, Verilog, Assemble, Link, Disassemble, Generate, Soak, Export, Import, Replay, Occupancy, Simulate, Clock, IsAllowed}
 use Rattle.lisa_cli.specs.Files.{files_of}
 
 run_few : (first : NamedFile) (a b : Option (List ℕ)) (k l : ℕ) → length (first ∷ (any_file a k ++ any_file b l)) < 2 ^ 32
@@ -28,6 +28,10 @@ few_files (Link description objects) h = let same = length-map objects (λ (obje
 few_files (Disassemble description image) h = omega arith
 few_files (Generate description number count) h = omega arith
 few_files (Soak description verilog number count edges) h = omega arith
+few_files (Export format description image memory) h = omega arith
+few_files (Import format description file memory) h = omega arith
+few_files (Replay dump) h = omega arith
+few_files (Occupancy names edges) h = run_few (named names.main description_limit) names.image names.schedule image_limit schedule_limit
 few_files (Simulate task names) h = run_few (named names.main description_limit) names.image names.schedule image_limit schedule_limit
 few_files (Clock task names) h = run_few (named names.main module_limit) names.image names.schedule image_limit schedule_limit
 

@@ -1,3 +1,4 @@
 mod Ran
 mod Flushed
 mod FileCounts
+mod Watched

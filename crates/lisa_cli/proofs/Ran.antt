@@ -14,7 +14,7 @@ use Rattle.lisa_outcomes.proofs.Told.{not_ok}
 use Rattle.generator_commands.proofs.description_commands_proofs.Stopped.{run_kept}
 use Rattle.generator_commands.proofs.module_commands_proofs.Stopped.{clock_kept}
 use Rattle.lisa_outcomes.specs.RunFiles.{run_bytes}
-use Rattle.command_words.specs.Requests.{Request, Format, Check, Verilog, Assemble, Link, Disassemble, Generate, Soak, Simulate, Clock, Asks, reads_input}
+use Rattle.command_words.specs.Requests.{Request, Format, Check, Verilog, Assemble, Link, Disassemble, Generate, Soak, Export, Import, Replay, Occupancy, Simulate, Clock, Asks, reads_input}
 use Rattle.lisa_cli.specs.Gives.{Gives}
 use Rattle.lisa_cli.specs.Statuses.{status_of}
 use Rattle.lisa_cli.specs.Sent.{IsSentOn}
@@ -40,8 +40,12 @@ cut_kept (Link description objects) bytes left rest before after sent keeps cut 
 cut_kept (Disassemble description image) bytes left rest before after sent keeps cut = cut
 cut_kept (Generate description number count) bytes left rest before after sent keeps cut = cut
 cut_kept (Soak description verilog number count edges) bytes left rest before after sent keeps cut = cut
-cut_kept (Simulate task names) bytes left rest before after sent keeps cut = run_kept (run_bytes names bytes) left rest before after sent keeps cut
-cut_kept (Clock task names) bytes left rest before after sent keeps cut = clock_kept (run_bytes names bytes) left rest before after sent keeps cut
+cut_kept (Export format description image memory) bytes left rest before after sent keeps cut = cut
+cut_kept (Import format description file memory) bytes left rest before after sent keeps cut = cut
+cut_kept (Replay dump) bytes left rest before after sent keeps cut = cut
+cut_kept (Occupancy names edges) bytes left rest before after sent keeps cut = cut
+cut_kept (Simulate task names) bytes left rest before after sent keeps cut = run_kept task (run_bytes names bytes) left rest before after sent keeps cut
+cut_kept (Clock task names) bytes left rest before after sent keeps cut = clock_kept task (run_bytes names bytes) left rest before after sent keeps cut
 
 blamed_kept : (r : Readings) (before after sent : Option (List ℕ)) (request : Request) → Keeps after sent → Blamed r before after request → Blamed r before sent request
 blamed_kept r before after sent request keeps (file_failed failed nothing) = file_failed failed (appends_kept _ _ _ _ nothing keeps)

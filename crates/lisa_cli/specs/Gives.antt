@@ -7,6 +7,7 @@ use Rattle.verilog_command.specs.checked_descriptions.Descriptions.{AfterSpellin
 use Rattle.generator_commands.specs.description_commands.Formats.{Formats}
 use Rattle.generator_commands.specs.description_commands.Checks.{Checks}
 use Rattle.generator_commands.specs.description_commands.Runs.{GivesRun}
+use Rattle.generator_commands.specs.description_commands.Occupancies.{GivesOccupancy}
 use Rattle.verilog_command.specs.Modules.{WritesVerilog}
 use Rattle.generator_commands.specs.module_commands.Clocks.{GivesClock}
 use Rattle.generator_commands.specs.assembler_commands.Assembled.{GivesObject}
@@ -14,7 +15,10 @@ use Rattle.generator_commands.specs.assembler_commands.Links.{GivesLink}
 use Rattle.generator_commands.specs.assembler_commands.Listed.{GivesListing}
 use Rattle.generator_commands.specs.Generates.{GivesProgram}
 use Rattle.generator_commands.specs.Soaks.{GivesSoak}
-use Rattle.command_words.specs.Requests.{Request, Format, Check, Verilog, Assemble, Link, Disassemble, Generate, Soak, Simulate, Clock}
+use Rattle.generator_commands.specs.engine_commands.Replays.{GivesReplay}
+use Rattle.memory_commands.specs.Exports.{GivesExport}
+use Rattle.memory_commands.specs.Imports.{GivesImport}
+use Rattle.command_words.specs.Requests.{Request, Format, Check, Verilog, Assemble, Link, Disassemble, Generate, Soak, Export, Import, Replay, Occupancy, Simulate, Clock}
 use Rattle.lisa_cli.specs.Files.{files_of}
 
 -- for the bytes of its files, in their order, and the bytes of the input
@@ -27,6 +31,10 @@ GivesOver (Link description objects) bytes input = GivesLink (file_at bytes 0) (
 GivesOver (Disassemble description image) bytes input = GivesListing (file_at bytes 0) (file_at bytes 1)
 GivesOver (Generate description number count) bytes input = GivesProgram (file_at bytes 0) number count
 GivesOver (Soak description verilog number count edges) bytes input = GivesSoak (file_at bytes 0) (file_at bytes 1) number count edges
+GivesOver (Export format description image memory) bytes input = GivesExport format (file_at bytes 0) (file_at bytes 1) memory
+GivesOver (Import format description file memory) bytes input = GivesImport format (file_at bytes 0) (file_at bytes 1) memory
+GivesOver (Replay dump) bytes input = GivesReplay (file_at bytes 0)
+GivesOver (Occupancy names edges) bytes input = GivesOccupancy edges (run_bytes names bytes)
 GivesOver (Simulate task names) bytes input = GivesRun task (run_bytes names bytes) input
 GivesOver (Clock task names) bytes input = GivesClock task (run_bytes names bytes) input
 

@@ -8,7 +8,7 @@ use Rattle.lisa_outcomes.specs.NamedFiles.{AreFiles, SomeFailed}
 use Rattle.lisa_outcomes.specs.RunFiles.{run_bytes}
 use Rattle.generator_commands.specs.description_commands.Runs.{IsCutRun}
 use Rattle.generator_commands.specs.module_commands.Clocks.{IsCutClock}
-use Rattle.command_words.specs.Requests.{Request, Format, Check, Verilog, Assemble, Link, Disassemble, Generate, Soak, Simulate, Clock, reads_input}
+use Rattle.command_words.specs.Requests.{Request, Format, Check, Verilog, Assemble, Link, Disassemble, Generate, Soak, Export, Import, Replay, Occupancy, Simulate, Clock, reads_input}
 use Rattle.lisa_cli.specs.Files.{files_of}
 
 -- what the files hold and what the input has left before and after, and how often each had failed before and after
@@ -87,7 +87,7 @@ HasFailed request before now = (reads_input request ≡ true) × Rose before now
 abbrev pub Blames : Readings → Request → Type 0
 Blames r request = SomeFailed (files_of request) r.file_faults r.file_faults_after ⊎ HasFailed request r.input_faults r.input_faults_after
 
--- the lines that were taken of the input are answered, over the bytes of the files
+-- the lines that were taken of the input are answered, over the bytes of the files, or on a board nothing was written
 abbrev pub IsCutOver : Request → (bytes : List (List ℕ)) → (left rest before after : Option (List ℕ)) → Type 0
 IsCutOver (Format description) bytes left rest before after = ⊥
 IsCutOver (Check description) bytes left rest before after = ⊥
@@ -97,11 +97,15 @@ IsCutOver (Link description objects) bytes left rest before after = ⊥
 IsCutOver (Disassemble description image) bytes left rest before after = ⊥
 IsCutOver (Generate description number count) bytes left rest before after = ⊥
 IsCutOver (Soak description verilog number count edges) bytes left rest before after = ⊥
-IsCutOver (Simulate task names) bytes left rest before after = IsCutRun (run_bytes names bytes) left rest before after
-IsCutOver (Clock task names) bytes left rest before after = IsCutClock (run_bytes names bytes) left rest before after
+IsCutOver (Export format description image memory) bytes left rest before after = ⊥
+IsCutOver (Import format description file memory) bytes left rest before after = ⊥
+IsCutOver (Replay dump) bytes left rest before after = ⊥
+IsCutOver (Occupancy names edges) bytes left rest before after = ⊥
+IsCutOver (Simulate task names) bytes left rest before after = IsCutRun task (run_bytes names bytes) left rest before after
+IsCutOver (Clock task names) bytes left rest before after = IsCutClock task (run_bytes names bytes) left rest before after
 
--- what stands after a read fault: nothing was written where a file failed, and where the input failed, the lines that were taken
--- are answered
+-- what stands after a read fault: nothing was written where a file failed, or the input of a board, and where that of a session failed, the
+-- lines that were taken are answered
 pub data Blamed (r : Readings) (before after : Option (List ℕ)) (request : Request) : Type 0 where
   file_failed : SomeFailed (files_of request) r.file_faults r.file_faults_after → Appends before after [] → Blamed r before after request
   input_failed : HasFailed request r.input_faults r.input_faults_after

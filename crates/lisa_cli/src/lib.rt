@@ -2,6 +2,7 @@
 #![tactic(auto)]
 
 mod commands;
+mod files;
 mod sending;
 mod top;
 

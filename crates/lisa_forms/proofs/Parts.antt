@@ -1,6 +1,7 @@
 -- Forms at their places.
-use Rattle.std.proofs.Common.{◌≡◌, ℕ, ◌<◌, ◌+◌, Bool, true, false, List, [], ◌∷◌, Option, None, Some, cond, length, option_map, slice_get, refl, sym, ap, ◌∙◌, arith}
-use Rattle.std.proofs.lemmas.List.{length-map}
+use Rattle.std.proofs.Common.{◌≡◌, ℕ, ◌<◌, ◌+◌, Bool, true, false, List, [], ◌∷◌, Option, None, Some, cond, length, get_or, option_map, slice_get, refl, sym, ap, ◌∙◌, arith}
+use Rattle.std.specs.Prelude.{◌↔◌, not}
+use Rattle.std.proofs.lemmas.List.{length-map, get_or_default}
 use Rattle.std.proofs.lemmas.Option.{slice_get-map, get_or_from_slice_get}
 use Rattle.lisa_tree.specs.Descriptions.{DescriptionTree}
 use Rattle.lisa_tree.specs.Operations.{is_alias, name_at}
@@ -8,6 +9,7 @@ use Rattle.instruction_trees.specs.Trees as plain
 use Rattle.instruction_trees.specs.Trees.{Done}
 use Rattle.form_patterns.specs.coding_tables.Instructions.{forms_of}
 use Rattle.pattern_tables.specs.Instructions.{form_at}
+use Rattle.pattern_tables.specs.Patterns.{IsAlias}
 use Rattle.form_patterns.specs.instruction_forms.declared.form.Form.{Form}
 use Rattle.form_patterns.specs.instruction_forms.Trees.{FormTree, form_tree}
 use Rattle.form_patterns.specs.instruction_forms.Described.{instruction_form, AreForms}
@@ -49,3 +51,11 @@ bad_is_one d all n e h = let m : n < 0 + length (forms_of d) = bad_within d 0 (f
 
 pub as_many_plain : (d : DescriptionTree) (all : List Form) (flags : List Bool) → AreForms d all → flags ≡ instruction_plain d → length flags ≡ length all
 as_many_plain d all flags e h = ap length h ∙ (length-map (forms_of d) (λ (f : plain.Form). plain.is_plain (is_alias d) f) ∙ sym (as_many d all e))
+
+-- a form is an alias exactly where it isn't kept as a plain one
+pub alias_is : (bs all : List Bool) (k : ℕ) (b : Bool) → bs ≡ all → k < length bs → b ≡ get_or bs k b → (not b ≡ true) ↔ IsAlias all k
+alias_is bs all k b same inside is = by b (is ∙ get_or_default bs k b true inside ∙ ap (λ (cs : List Bool). get_or cs k true) same)
+  where
+    by : (x : Bool) → x ≡ get_or all k true → (not x ≡ true) ↔ (get_or all k true ≡ false)
+    by true e = (λ h. absurd (cc h), λ h. absurd (cc (e ∙ h)))
+    by false e = (λ h. sym e, λ h. refl)

@@ -1,6 +1,6 @@
 //! What an accepted description unfolds to.
 
-ghost use Rattle.std.specs.Prelude.{◌≡◌, ◌<◌, ◌≤◌, Some, false, not, length, slice_get, slice_index_or};
+ghost use Rattle.std.specs.Prelude.{◌≡◌, ◌≤◌, length};
 ghost use Rattle.description_sizes.specs.activation_trees.Places.{AreParentsBefore};
 
 use crate::way::Way;
@@ -26,57 +26,4 @@ pub struct Forms {
     ghost few: { length forms.items ≤ 1024 },
     ghost all_ways: { length ways.items ≡ length occurrences.items },
     ghost before: { AreParentsBefore occurrences.items },
-}
-
-impl Forms {
-    /// How many forms there are, aliases among them. There is none without a root.
-    pub fn count(&self) -> u32
-        ensures { result ≡ length self.now.forms.items }
-    {
-        self.forms.len() as u32
-    }
-
-    /// The form of a number.
-    pub fn form(&self, form: u32) -> &Form
-        requires { form < length self.now.forms.items }
-        ensures { slice_get self.now.forms.items form ≡ Some result.now }
-    {
-        &self.forms[form as usize]
-    }
-
-    /// All forms, in the order of their numbers.
-    pub fn forms(&self) -> &[Form]
-        ensures { result.now ≡ self.now.forms.items }
-    {
-        &self.forms
-    }
-
-    /// Whether some operation in a form is an alias.
-    pub fn alias(&self, form: u32) -> bool
-        requires { form < length self.now.forms.items }
-        ensures { result ≡ not (slice_index_or self.now.plain.items form false) }
-    {
-        !self.plain[form as usize]
-    }
-
-    /// For each form whether no operation in it is an alias.
-    pub fn plain(&self) -> &[bool]
-        ensures { result.now ≡ self.now.plain.items }
-    {
-        &self.plain
-    }
-
-    /// The occurrences, in the order of their numbers.
-    pub fn occurrences(&self) -> &[Occurrence]
-        ensures { result.now ≡ self.now.occurrences.items }
-    {
-        &self.occurrences
-    }
-
-    /// The items: registers, boundary fields, words of stages, and activation bits.
-    pub fn items(&self) -> &[Item]
-        ensures { result.now ≡ self.now.items.items }
-    {
-        &self.items
-    }
 }

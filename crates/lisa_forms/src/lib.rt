@@ -5,6 +5,7 @@
 mod checking;
 mod choosing;
 mod coding;
+mod contents;
 mod coverage;
 mod decoding;
 mod fields;
@@ -25,4 +26,4 @@ pub use form_promises::{FormTexts, Machine, Tables, check, texts};
 pub use forms::Forms;
 pub use laws::{forms_are_limited, instructions_are_of_one_form, what_is_chosen_is_past_the_root};
 pub use making::form_name;
-pub use pattern_tables::{PatternTable, Place, Steps, field};
+pub use pattern_tables::{Entry, PatternTable, Place, Steps, field, form_in};

@@ -10,7 +10,9 @@ use Rattle.lisa_object.specs.declared.faults.LinkFault.{LinkFault}
 use Rattle.lisa_object.specs.declared.faults.LinkFault.TheVariants as faults
 use Rattle.name_tables.specs.TableViews.{value_of}
 use Rattle.lisa_object.specs.Objects.{PlainObjectLine}
-use Rattle.lisa_object.specs.ObjectRules.{after, start, are_lines}
+use Rattle.lisa_object.specs.ObjectRules.{AreLines}
+use Rattle.lisa_object.specs.LineMachine.{after, start, are_lines}
+use Rattle.lisa_object.proofs.LineRules.{rules_make_lines}
 use Rattle.placed_programs.specs.Entries.{entries_of}
 use Rattle.placed_programs.specs.Addresses.{Counts, no_cells, address, counts_after, definitions}
 use Rattle.placed_programs.specs.Symbols.{Symbols, with_counts, symbol}
@@ -63,8 +65,8 @@ pub filled_stops : (number : ℕ) (symbols : Symbols) (old : Table) (all : List 
     → range_in number symbols (sizes old) None (entries_of all) ≡ Some f
 filled_stops number symbols old all cells here l ls f a e = sym a.ranges ∙ range_stops number symbols (sizes cells) here l ls f e
 
-pub filled_first : (number : ℕ) (symbols : Symbols) (old : Table) (all : List PlainObjectLine) → are_lines start all ≡ true → AreFilled number symbols old all old None all
-filled_first number symbols old all e = record { standing = start; lines = e; narrow = omega arith; filled = λ m. refl; ranges = refl }
+pub filled_first : (number : ℕ) (symbols : Symbols) (old : Table) (all : List PlainObjectLine) → AreLines all → AreFilled number symbols old all old None all
+filled_first number symbols old all rules = record { standing = start; lines = rules_make_lines all rules; narrow = omega arith; filled = λ m. refl; ranges = refl }
 
 -- the fault of the first line is that of all lines
 pub line_stops : (number : ℕ) (symbols : Symbols) (old : Table) (all : List PlainObjectLine) (cells : Table) (here : Option (List ℕ)) (l : PlainObjectLine) (ls : List PlainObjectLine) (f : LinkFault)

@@ -9,7 +9,9 @@ use Rattle.name_tables.specs.TableViews.{value_of}
 use Rattle.asm_source.specs.Numbers.{IsShort}
 use Rattle.lisa_object.specs.declared.rules.Standing.{Standing}
 use Rattle.lisa_object.specs.Objects.{PlainObjectLine}
-use Rattle.lisa_object.specs.ObjectRules.{may_follow, after, are_lines}
+use Rattle.lisa_object.specs.ObjectRules.{AreLines}
+use Rattle.lisa_object.specs.LineMachine.{start, may_follow, after, are_lines}
+use Rattle.lisa_object.proofs.LineRules.{rules_make_lines}
 use Rattle.placed_programs.specs.Entries.{entries_of}
 use Rattle.placed_programs.specs.Addresses.{Counts, no_cells, adding, counts_after, definitions}
 use Rattle.placed_programs.specs.Symbols.{with_counts, exports, all_exports}
@@ -68,6 +70,10 @@ pub record AreNoted (wanted : Option NameSet) (first : Counts) (old : ByName ℤ
   pub counted : (m : List ℕ) → counts_after (count_of counts) here (entries_of left) m ≡ counts_after first None (entries_of all) m
   pub noted : (n : List ℕ) → option_or (value_of values n) (wanted_value wanted n (definitions (count_of counts) here (entries_of left)))
       ≡ option_or (value_of old n) (wanted_value wanted n (definitions first None (entries_of all)))
+
+pub noted_first : (wanted : Option NameSet) (counts : ByName ℕ) (values : ByName ℤ) (all : List PlainObjectLine)
+    → AreLines all → AreShort values → AreNoted wanted (count_of counts) values all counts values None all
+noted_first wanted counts values all rules short = record { standing = start; lines = rules_make_lines all rules; short = short; counted = λ m. refl; noted = λ n. refl }
 
 pub noted_on : (wanted : Option NameSet) (first : Counts) (old : ByName ℤ) (all : List PlainObjectLine)
     (counts next_counts : ByName ℕ) (values next_values : ByName ℤ) (here next : Option (List ℕ)) (l : PlainObjectLine) (ls : List PlainObjectLine)

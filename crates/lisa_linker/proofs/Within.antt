@@ -9,7 +9,9 @@ use Rattle.std.proofs.lemmas.List.Elements.{All-nil, All-cons, All-append}
 use Rattle.std.proofs.lemmas.Slice.Eq.{bytes_eq-Decides}
 use Rattle.lisa_object.specs.declared.rules.Standing.{Standing}
 use Rattle.lisa_object.specs.Objects.{PlainObject, PlainObjectLine, Section, Space, Label, Equ, Global, Cell, Fix}
-use Rattle.lisa_object.specs.ObjectRules.{start, after, are_lines, IsObject}
+use Rattle.lisa_object.specs.ObjectRules.{IsObject}
+use Rattle.lisa_object.specs.LineMachine.{start, after, are_lines}
+use Rattle.lisa_object.proofs.LineRules.{rules_make_lines}
 use Rattle.placed_programs.specs.Entries.{entries_of}
 use Rattle.placed_programs.specs.Addresses.{Counts, counts_after, definitions}
 use Rattle.placed_programs.specs.Symbols.{Symbols, with_counts, symbol}
@@ -83,5 +85,5 @@ parts_within widths shared m w is counts (o ∷ objects) all known =
     let own : IsObject o = all 0 o (omega arith) in
     All-append (λ v. v < 2 ^ w) (part_cells object_sense shared m (counts, entries_of o.lines))
     (flat_map (part_cells object_sense shared m) (with_counts (counts_after counts None (entries_of o.lines)) (parts_of objects)))
-    (lines_within widths (symbol (definitions counts None (entries_of o.lines)) shared) m w is start false (counts m) o.lines own.lines k.0 (λ t. absurd (cc t)))
+    (lines_within widths (symbol (definitions counts None (entries_of o.lines)) shared) m w is start false (counts m) o.lines (rules_make_lines o.lines own.lines) k.0 (λ t. absurd (cc t)))
     (parts_within widths shared m w is (counts_after counts None (entries_of o.lines)) objects (λ i d lt. all (suc i) d (omega arith)) k.1)

@@ -7,7 +7,7 @@ ghost use Rattle.std.specs.Str.{bytes_eq};
 ghost use Rattle.name_tables.specs.TableViews.{value_of};
 ghost use Rattle.lisa_object.specs.declared.faults.LinkFault.TheVariants as faults;
 ghost use Rattle.lisa_object.specs.Objects.{Cell, object_line_tree, object_tree};
-ghost use Rattle.lisa_object.specs.ObjectRules.{start, are_lines, IsObject};
+ghost use Rattle.lisa_object.specs.ObjectRules.{AreLines, IsObject};
 ghost use Rattle.placed_programs.specs.Entries.{entries_of};
 ghost use Rattle.placed_programs.specs.Addresses.{Counts, no_cells, counts_after, address};
 ghost use Rattle.placed_programs.specs.Symbols.{with_counts, all_exports};
@@ -121,7 +121,7 @@ fn fill_lines(
     lines: &[ObjectLine],
 ) -> Result<(), LinkFault>
     requires short { HasShort values }
-    requires lines { IsTrue (are_lines start (map object_line_tree lines.now)) }
+    requires lines { AreLines (map object_line_tree lines.now) }
     ensures added { OnOk result ((m : List ℕ) → cells_of cells.new m
         ≡ cells_of cells.old m ++ cells_in object_sense (symbols_of values.entry) m false (sizes_of cells.old m) (entries_of (map object_line_tree lines.now))) }
     ensures fits { OnOk result (range_in number (symbols_of values.entry) (sizes_of cells.old) None (entries_of (map object_line_tree lines.now)) ≡ None) }
@@ -147,7 +147,7 @@ fn fill_part(
     lines: &[ObjectLine],
 ) -> Result<(), LinkFault>
     requires others { AreShort others.now }
-    requires lines { IsTrue (are_lines start (map object_line_tree lines.now)) }
+    requires lines { AreLines (map object_line_tree lines.now) }
     requires counted { (m : List ℕ) → count_of counts.old m ≡ sizes_of cells.old m }
     ensures counted { OnOk result ((m : List ℕ) → count_of counts.new m ≡ counts_after (count_of counts.old) None (entries_of (map object_line_tree lines.now)) m) }
     ensures sized { OnOk result ((m : List ℕ) → count_of counts.new m ≡ sizes_of cells.new m) }

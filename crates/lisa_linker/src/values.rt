@@ -8,7 +8,8 @@ ghost use Rattle.std.specs.Str.{bytes_eq};
 ghost use Rattle.name_tables.specs.TableViews.{value_of};
 ghost use Rattle.asm_source.specs.Numbers.{IsShort};
 ghost use Rattle.lisa_object.specs.Objects.{object_line_tree, object_tree};
-ghost use Rattle.lisa_object.specs.ObjectRules.{may_follow, start, are_lines, IsObject};
+ghost use Rattle.lisa_object.specs.ObjectRules.{AreLines, IsObject};
+ghost use Rattle.lisa_object.specs.LineMachine.{may_follow};
 ghost use Rattle.lisa_object.specs.declared.rules.Standing.{Standing};
 ghost use Rattle.placed_programs.specs.Addresses.{no_cells, counts_after, definitions};
 ghost use Rattle.placed_programs.specs.Entries.{entries_of};
@@ -86,7 +87,7 @@ fn note_values(
     values: &mut BTreeMap<Name, i128>,
     lines: &[ObjectLine],
 ) -> Result<(), NoMemory>
-    requires lines { IsTrue (are_lines start (map object_line_tree lines.now)) }
+    requires lines { AreLines (map object_line_tree lines.now) }
     requires short { AreShort values.old }
     ensures short { OnOk result (AreShort values.new) }
     ensures counted { OnOk result ((m : List ℕ) → count_of counts.new m ≡ counts_after (count_of counts.old) None (entries_of (map object_line_tree lines.now)) m) }
@@ -109,7 +110,7 @@ pub(crate) fn line_values(
     counts: &mut BTreeMap<Name, u64>,
     lines: &[ObjectLine],
 ) -> Result<BTreeMap<Name, i128>, NoMemory>
-    requires lines { IsTrue (are_lines start (map object_line_tree lines.now)) }
+    requires lines { AreLines (map object_line_tree lines.now) }
     ensures short { IfOk result AreShort }
     ensures counted { OnOk result ((m : List ℕ) → count_of counts.new m ≡ counts_after (count_of counts.old) None (entries_of (map object_line_tree lines.now)) m) }
     ensures values { IfOk result (λ values. (n : List ℕ) → value_of values n ≡ lookup (bytes_eq n) (definitions (count_of counts.old) None (entries_of (map object_line_tree lines.now)))) }
@@ -126,7 +127,7 @@ fn note_shared_lines(
     values: &mut BTreeMap<Name, i128>,
     lines: &[ObjectLine],
 ) -> Result<(), NoMemory>
-    requires lines { IsTrue (are_lines start (map object_line_tree lines.now)) }
+    requires lines { AreLines (map object_line_tree lines.now) }
     requires short { AreShort values.old }
     ensures short { OnOk result (AreShort values.new) }
     ensures counted { OnOk result ((m : List ℕ) → count_of counts.new m ≡ counts_after (count_of counts.old) None (entries_of (map object_line_tree lines.now)) m) }

@@ -3,7 +3,6 @@
 ghost use Rattle.std.specs.Prelude.{◌≡◌, ◌⊎◌, ◌<◌, ◌≤◌, IfOk, IfErr};
 ghost use Rattle.lisa_tree.specs.Descriptions.{description_tree};
 ghost use Rattle.module_sizes.specs.lisa_forms.Parts.{AreFormsOf};
-ghost use Rattle.module_sizes.specs.lisa_forms.Verdicts.{HasForms};
 ghost use Rattle.module_sizes.specs.lisa_forms.Codings.{IsCodingOf};
 ghost use Rattle.step_program.specs.Programs.{program_tree};
 ghost use Rattle.module_sizes.specs.description_weight.Weights.{weight as weight_of};
@@ -50,7 +49,6 @@ fn lower_light(
 ) -> Result<StepProgram, NoMemory>
     requires forms { AreFormsOf (description_tree machine.now) forms.now }
     requires coding { IsCodingOf (description_tree machine.now) coding.now }
-    requires has_forms { HasForms (description_tree machine.now) }
     requires light { weight_of (description_tree machine.now) ≤ weight_limit }
     ensures { IfOk result (λ p. IsLowered (description_tree machine.now) forms.now.width (program_tree p)) }
 {
@@ -75,7 +73,6 @@ pub fn lower(
 ) -> Result<StepProgram, LowerFault>
     requires forms { AreFormsOf (description_tree machine.now) forms.now }
     requires coding { IsCodingOf (description_tree machine.now) coding.now }
-    requires has_forms { HasForms (description_tree machine.now) }
     ensures lowered { IfOk result (λ p. IsLowered (description_tree machine.now) forms.now.width (program_tree p)) }
     ensures fault { IfErr result (λ f. (f ≡ faults.NoMemory) ⊎ IsTooHeavy (description_tree machine.now) f) }
 {

@@ -1,7 +1,7 @@
 -- What may be assigned is known of each name, and what is assigned may be.
-use Rattle.std.proofs.Common.{◌≡◌, ◌≢◌, ◌⊎◌, ◌<◌, ℕ, List, [], ◌∷◌, Option, None, Some, Bool, true, false, cond, length, refl, sym, ap, ◌∙◌, subst, inl, inr, ⊎_elim}
+use Rattle.std.proofs.Common.{◌≡◌, ◌≢◌, ◌⊎◌, ◌<◌, ℕ, List, [], ◌∷◌, Option, None, Some, Bool, true, false, ◌&&◌, not, cond, length, refl, sym, ap, ◌∙◌, subst, inl, inr, ⊎_elim}
 use Rattle.std.specs.Prelude.{slice_get, option_map}
-use Rattle.std.specs.Option.{is_some}
+use Rattle.std.specs.Option.{is_some, is_none}
 use Rattle.std.proofs.lemmas.Option.{slice_get_within}
 use Rattle.lisa_tree.specs.declared.tokens.Shape.{Shape}
 use Rattle.lisa_tree.specs.Expressions as exprs
@@ -29,11 +29,11 @@ use Rattle.meant_declarations.specs.Meant.{MayMean}
 use Rattle.description_types.specs.declared.values.Assignable.{Assignable}
 use Rattle.description_types.specs.declared.values.Assignable.TheVariants as assigns
 use Rattle.description_types.specs.Types.{element_shape, meant_element}
-use Rattle.description_types.specs.Refused.{is_apart, is_refused}
+use Rattle.description_types.specs.Refused.{is_apart, is_refused, meant_open, is_open}
 use Rattle.description_types.specs.Facts.{Fact, IsSteady, merged, at_entry as value_at, declared_value, entry_value, added, known_together, any_open}
-use Rattle.description_types.specs.Kinds.{resource_assignable, settled_assignable, meant_assignable, array_assignable, value_assignable, expression_assignable, both_assignable, choice_assignable, either_assignable, assignable_fact}
+use Rattle.description_types.specs.Kinds.{resource_assignable, settled_assignable, meant_assignable, array_assignable, lacks_expression, value_assignable, expression_assignable, both_assignable, choice_assignable, assignable_of_choice, either_assignable, assignable_fact}
 use Rattle.description_types.specs.Steady.{assignables_steady}
-use Rattle.description_types.specs.Tables.{unfit, DifferInAssigning, Known, AreKinds}
+use Rattle.description_types.specs.Tables.{apart, unfit, DifferInAssigning, Known, AreKinds}
 use Rattle.name_checks.specs.Doubled.{duplicate}
 use Rattle.name_checks.specs.Unknown.{unknown, is_something, is_known}
 use Rattle.kind_checks.specs.Uses.{is_no_word, is_no_array, sorts_differ, meant_misread, is_misread, meant_misindexed, is_misindexed, meant_miswritten, is_miswritten, what_misdeclared}
@@ -95,19 +95,22 @@ together_one : (value : ℕ → Option Assignable) (all : List ℕ) → ((a : �
 together_one value [] each = λ e. absurd (cc e)
 together_one value (a ∷ rest) each = added_one (value a) (known_together both_assignable value rest) (each a (in_here a rest)) (together_one value rest (λ b h. each b (in_later b a rest h)))
 
-chosen_one : (some_open : Bool) (r : Option Assignable) → IsOne r → IsOne (choice_assignable some_open r)
-chosen_one true r one = λ e. absurd (cc e)
-chosen_one false None one = λ e. absurd (cc e)
-chosen_one false (Some x) one = one
+chosen_one : (lacks some_open : Bool) (r : Option Assignable) → IsOne r → IsOne (choice_assignable lacks some_open r)
+chosen_one true some_open r one = λ e. absurd (cc e)
+chosen_one false true r one = λ e. absurd (cc e)
+chosen_one false false None one = λ e. absurd (cc e)
+chosen_one false false (Some x) one = one
 
-chosen_known : (r : Option Assignable) → IsKnown r → IsKnown (choice_assignable false r)
-chosen_known None k = absurd (cc k.1)
-chosen_known (Some x) k = k
+chosen_known : (lacks : Bool) (r : Option Assignable) → IsKnown r → IsKnown (choice_assignable lacks false r)
+chosen_known true r k = (assigns.No, refl, λ f. absurd (cc f))
+chosen_known false None k = absurd (cc k.1)
+chosen_known false (Some x) k = k
 
-chosen_yes : (some_open : Bool) (r : Option Assignable) → choice_assignable some_open r ≡ Some assigns.Yes → (some_open ≡ false) × (r ≡ Some assigns.Yes)
-chosen_yes true r e = absurd (cc e)
-chosen_yes false None e = absurd (cc e)
-chosen_yes false (Some x) e = (refl, e)
+chosen_yes : (lacks some_open : Bool) (r : Option Assignable) → choice_assignable lacks some_open r ≡ Some assigns.Yes → (some_open ≡ false) × (r ≡ Some assigns.Yes)
+chosen_yes true some_open r e = absurd (cc e)
+chosen_yes false true r e = absurd (cc e)
+chosen_yes false false None e = absurd (cc e)
+chosen_yes false false (Some x) e = (refl, e)
 
 both_yes : (x y : Assignable) → both_assignable x y ≡ assigns.Yes → (x ≡ assigns.Yes) × (y ≡ assigns.Yes)
 both_yes assigns.Yes assigns.Yes e = (refl, refl)
@@ -255,6 +258,14 @@ unless_yes : (refused : Bool) (r : Option Assignable) → cond refused (Some ass
 unless_yes true r e = absurd (cc e)
 unless_yes false r e = e
 
+closed_one : (some_open : Bool) (r : Option Assignable) → IsOne r → IsOne (cond some_open None r)
+closed_one true r one = λ e. absurd (cc e)
+closed_one false r one = one
+
+closed_yes : (some_open : Bool) (r : Option Assignable) → cond some_open None r ≡ Some assigns.Yes → r ≡ Some assigns.Yes
+closed_yes true r e = absurd (cc e)
+closed_yes false r e = e
+
 -- ---- two are the same or differ
 
 either_same : (x : Assignable) → either_assignable x x ≡ x
@@ -282,19 +293,22 @@ decides assigns.Refused assigns.Mixed = inr (λ e. absurd (cc e))
 decides assigns.Refused assigns.Refused = inl refl
 
 module _ (d : DescriptionTree) (known : Known) (kinds : AreKinds d known) (names : IsFree (duplicate d) d) (stand : IsFree (unknown d) d) (uses_free : IsFree (wrong_kind known d) d) where
+  abbrev kept_apart : ℕ → Bool
+  kept_apart = apart known.traits
+
   abbrev no_value : ℕ → Bool
   no_value = unfit known.traits known.typeless
 
   abbrev fact : Fact Assignable
-  fact = assignable_fact d no_value
+  fact = assignable_fact d kept_apart no_value
 
   abbrev steady : IsSteady fact
-  steady = assignables_steady d no_value
+  steady = assignables_steady d kept_apart no_value
 
-  operation_value : (o : ℕ) → o < length d.operations → known.assignables o ≡ expression_assignable no_value known.assignables d o (expression_in (sections_at d o))
+  operation_value : (o : ℕ) → o < length d.operations → known.assignables o ≡ expression_assignable kept_apart no_value known.assignables d o (expression_in (sections_at d o))
   operation_value o h = operation_is d known names stand uses_free fact steady known.assignables kinds.assignables o h
 
-  choice_value : (c : ℕ) → c < length (choices d) → known.assignables (choice_node d c) ≡ choice_assignable (any_open known.assignables (plain_at d c)) (known_together both_assignable known.assignables (plain_at d c))
+  choice_value : (c : ℕ) → c < length (choices d) → known.assignables (choice_node d c) ≡ assignable_of_choice d known.assignables (plain_at d c)
   choice_value c h = choice_is d known names stand uses_free fact steady known.assignables kinds.assignables c h
 
   entry_value_is : (i : ℕ) (e : Entry) → slice_get (entries d) i ≡ Some e → known.assignables (entry_node d i) ≡ entry_value d fact known.assignables i (Some e.what)
@@ -328,9 +342,9 @@ module _ (d : DescriptionTree) (known : Known) (kinds : AreKinds d known) (names
   value_one o (exprs.Two op a b) = λ e. absurd (cc e)
   value_one o (exprs.Choose c a b) = λ e. absurd (cc e)
 
-  expression_one : (o : ℕ) (e : Option ExprTree) → IsOne (expression_assignable no_value known.assignables d o e)
+  expression_one : (o : ℕ) (e : Option ExprTree) → IsOne (expression_assignable kept_apart no_value known.assignables d o e)
   expression_one o None = λ e. absurd (cc e)
-  expression_one o (Some x) = unless_one (is_refused no_value d o x) (value_assignable known.assignables d o x) (value_one o x)
+  expression_one o (Some x) = closed_one (is_open kept_apart known.assignables d o x) _ (unless_one (is_refused no_value d o x) (value_assignable known.assignables d o x) (value_one o x))
 
   operation_one : (o : ℕ) → o < length d.operations → IsOne (known.assignables o)
   operation_one o h = subst IsOne (sym (operation_value o h)) (expression_one o (expression_in (sections_at d o)))
@@ -338,7 +352,7 @@ module _ (d : DescriptionTree) (known : Known) (kinds : AreKinds d known) (names
   choice_is_one : (c : ℕ) → c < length (choices d) → IsOne (known.assignables (choice_node d c))
   choice_is_one c h =
       subst IsOne (sym (choice_value c h))
-      (chosen_one (any_open known.assignables (plain_at d c)) (known_together both_assignable known.assignables (plain_at d c))
+      (chosen_one (lacks_expression d (plain_at d c)) (any_open known.assignables (plain_at d c)) (known_together both_assignable known.assignables (plain_at d c))
       (together_one known.assignables (plain_at d c) (λ o e. operation_one o (alternatives_below d c o (plain_listed d c o e)))))
 
   declaration_one : (i : ℕ) (e : Entry) → slice_get (entries d) i ≡ Some e → refers e.what ≡ false → IsOne (known.assignables (entry_node d i))
@@ -437,19 +451,45 @@ module _ (d : DescriptionTree) (known : Known) (kinds : AreKinds d known) (names
     value_some (exprs.Two op a b) s = (assigns.No, refl, λ f. absurd (cc f))
     value_some (exprs.Choose c a b) s = (assigns.No, refl, λ f. absurd (cc f))
 
+    -- no name in it is open
+    closed : (e : ExprTree) → is_open kept_apart known.assignables d o e ≡ false
+    closed (exprs.Named n) = by (declared_at d o n) (resource_at d n) refl
+      where
+        closes : (set_apart : Bool) (r : Option Assignable) → IsKnown r → (not set_apart && is_none r) ≡ false
+        closes true r k = refl
+        closes false None k = absurd (cc k.1)
+        closes false (Some t) k = refl
+
+        by : (x y : Option ℕ) → declared_at d o n ≡ x → meant_open kept_apart known.assignables d (meaning_of x y) ≡ false
+        by (Some i) y at = closes (apart known.traits i) (known.assignables (entry_node d i)) (ready n i at)
+        by None (Some k) at = refl
+        by None None at = refl
+    closed (exprs.Number v base) = refl
+    closed (exprs.Element n index) = refl
+    closed (exprs.Input field) = refl
+    closed (exprs.Output field) = refl
+    closed (exprs.Boundary pipe before after field) = refl
+    closed exprs.Decoded = refl
+    closed (exprs.Cast shape a) = refl
+    closed (exprs.Complement a) = refl
+    closed (exprs.Negate a) = refl
+    closed (exprs.Two operator a b) = refl
+    closed (exprs.Choose c a b) = refl
+
     operation_some : o < length d.operations → IsKnown (known.assignables o)
     operation_some h = subst IsKnown (sym (operation_value o h)) (by (expression_in (sections_at d o)) refl)
       where
-        by : (r : Option ExprTree) → expression_in (sections_at d o) ≡ r → IsKnown (expression_assignable no_value known.assignables d o r)
+        by : (r : Option ExprTree) → expression_in (sections_at d o) ≡ r → IsKnown (expression_assignable kept_apart no_value known.assignables d o r)
         by None is = (assigns.No, refl, λ f. absurd (cc f))
         by (Some e) is =
             let fits = use_fits d known uses_free no_value (λ i f. f) o e (expression_stand d o e is) in
-            subst IsKnown (sym (unless (is_refused no_value d o e) (Some assigns.Refused) (value_assignable known.assignables d o e) fits)) (value_some e (expression_stand d o e is))
+            let stands = unless (is_refused no_value d o e) (Some assigns.Refused) (value_assignable known.assignables d o e) fits in
+            subst IsKnown (sym (unless (is_open kept_apart known.assignables d o e) None _ (closed e) ∙ stands)) (value_some e (expression_stand d o e is))
 
   choice_some : (c : ℕ) → 0 < length (plain_at d c) → ((o : ℕ) → is_in o (plain_at d c) ≡ true → IsKnown (known.assignables o)) → IsKnown (fact.of_choice known.assignables c)
   choice_some c some each =
-      subst (λ (b : Bool). IsKnown (choice_assignable b (known_together both_assignable known.assignables (plain_at d c)))) (sym (none_open known.assignables (plain_at d c) (λ o h. good_some IsFit _ (each o h))))
-      (chosen_known (known_together both_assignable known.assignables (plain_at d c)) (together_good IsFit both_assignable both_fits known.assignables (plain_at d c) some each))
+      subst (λ (b : Bool). IsKnown (choice_assignable (lacks_expression d (plain_at d c)) b (known_together both_assignable known.assignables (plain_at d c)))) (sym (none_open known.assignables (plain_at d c) (λ o h. good_some IsFit _ (each o h))))
+      (chosen_known (lacks_expression d (plain_at d c)) (known_together both_assignable known.assignables (plain_at d c)) (together_good IsFit both_assignable both_fits known.assignables (plain_at d c) some each))
 
   -- ---- what is assigned
 
@@ -463,8 +503,8 @@ module _ (d : DescriptionTree) (known : Known) (kinds : AreKinds d known) (names
       yes_of (known.assignables (entry_node d i))
       (all_settled d known names stand uses_free fact steady known.assignables kinds.assignables IsFit (λ i. λ f. absurd (cc f)) (λ i t k. k) either_fits operation_some choice_some ranks o n i at)
       (λ denied. ⊎_elim
-      (λ some. absurd (cc (sym off ∙ (kinds.unassignable i).1 some)))
-      (λ y. absurd (cc (sym off ∙ (kinds.unassignable i).1 (apart_so i y).1)))
+      (λ some. absurd (cc (sym off ∙ (kinds.unassignable i).1 (ap is_some denied, some))))
+      (λ y. absurd (cc (sym off ∙ (kinds.unassignable i).1 (ap is_some denied, (apart_so i y).1))))
       (agrees d known.assignables IsFit fact kinds.assignables either_same decides either_parts i assigns.No denied (λ h. absurd (cc h))))
       (entry_one i x.e x.at)
 
@@ -482,7 +522,7 @@ module _ (d : DescriptionTree) (known : Known) (kinds : AreKinds d known) (names
       by (Some e) at =
           let w : (e.what ≡ whats.Group c) ⊎ (e.what ≡ whats.Instance c) = ⊎_elim (λ f. inl (same_what e at (whats.Group c) f)) (λ f. inr (same_what e at (whats.Instance c) f)) which in
           let x = choice_there d known names stand uses_free i e at c w in
-          let p = chosen_yes (any_open known.assignables (plain_at d c)) (known_together both_assignable known.assignables (plain_at d c))
+          let p = chosen_yes (lacks_expression d (plain_at d c)) (any_open known.assignables (plain_at d c)) (known_together both_assignable known.assignables (plain_at d c))
           (sym (choice_value c (slice_get_within (choices d) c x.0 x.1)) ∙ sym (child_value i e at c w) ∙ assigned) in
           known_only both_assignable assigns.Yes both_yes known.assignables (plain_at d c) (closed_known known.assignables (plain_at d c) p.0) p.1
 
@@ -524,6 +564,6 @@ module _ (d : DescriptionTree) (known : Known) (kinds : AreKinds d known) (names
   pub operation_yes : (o : ℕ) → o < length d.operations → known.assignables o ≡ Some assigns.Yes → (e : ExprTree) × (expression_in (sections_at d o) ≡ Some e) × IsPlace known.assignables d o e
   operation_yes o h assigned = by (expression_in (sections_at d o)) refl (sym (operation_value o h) ∙ assigned)
     where
-      by : (r : Option ExprTree) → expression_in (sections_at d o) ≡ r → expression_assignable no_value known.assignables d o r ≡ Some assigns.Yes → (e : ExprTree) × (expression_in (sections_at d o) ≡ Some e) × IsPlace known.assignables d o e
+      by : (r : Option ExprTree) → expression_in (sections_at d o) ≡ r → expression_assignable kept_apart no_value known.assignables d o r ≡ Some assigns.Yes → (e : ExprTree) × (expression_in (sections_at d o) ≡ Some e) × IsPlace known.assignables d o e
       by None is e = absurd (cc e)
-      by (Some e) is y = (e, is, place_of o e (unless_yes (is_refused no_value d o e) (value_assignable known.assignables d o e) y))
+      by (Some e) is y = (e, is, place_of o e (unless_yes (is_refused no_value d o e) (value_assignable known.assignables d o e) (closed_yes (is_open kept_apart known.assignables d o e) _ y)))

@@ -1,6 +1,7 @@
 -- What the codings, syntaxes, activations and aliases of an accepted description name.
 use Rattle.std.proofs.Common.{◌≡◌, ◌<◌, ◌≤◌, ◌≢◌, ◌&&◌, ℕ, zero, suc, List, [], ◌∷◌, Option, None, Some, Bool, true, false, not, nat_eq, codes, refl, sym, ap, ◌∙◌, arith, subst, inl, inr}
 use Rattle.std.specs.Prelude.{slice_get}
+use Rattle.std.specs.Option.{is_some}
 use Rattle.std.specs.List.{AllByRecursion, list_all}
 use Rattle.std.specs.Cmp.Lexicographic.{nat_list_eq_equiv}
 use Rattle.std.proofs.lemmas.Bool.{and_parts, eqb-true}
@@ -246,7 +247,7 @@ module _ (d : DescriptionTree) (known : Known) (stand : IsFree (unknown d) d) (u
         let coding : coding_at d i ≡ name_coding (sections_at d o) (Some n) = ap (λ (k : ℕ). name_coding (sections_at d k) (entry_name_at d i)) f.owner ∙ ap (name_coding (sections_at d o)) f.name in
         let what : f.e.what ≡ whats.Label = of_some f.e.what (sym (what_is d i f.e f.at) ∙ is) in
         let lacks : label_type (sections_at d o) n ≡ types.NoType → LacksType d known.types i = λ none. label_type_is i is ∙ ap (λ (c : CodedName). Some c.label) coding ∙ ap (λ (t : TypeOf). Some t) none in
-        width_of _ (field_width n (coding_in (sections_at d o))) (λ (none : label_type (sections_at d o) n ≡ types.NoType). absurd (cc (sym typed ∙ (kinds.typeless i).1 (i, (itself f.e f.at (ap refers what) refl, lacks none)))))
+        width_of _ (field_width n (coding_in (sections_at d o))) (λ (none : label_type (sections_at d o) n ≡ types.NoType). absurd (cc (sym typed ∙ (kinds.typeless i).1 (inr (ap is_some (lacks none), (i, (itself f.e f.at (ap refers what) refl, lacks none)))))))
       where
         of_some : (w : What) → Some w ≡ Some whats.Label → w ≡ whats.Label
         of_some w e = cc e

@@ -192,7 +192,7 @@ module _ (d : DescriptionTree) (known : Known) (kinds : AreKinds d known) (names
 
   pub some_type : (i : ℕ) (e : Entry) → slice_get (entries d) i ≡ Some e → known.typeless i ≡ false → known.types (entry_node d i) ≡ Some types.NoType → ⊥
   some_type i e is off none = ⊎_elim
-      (λ some. absurd (cc (sym off ∙ (kinds.typeless i).1 some)))
+      (λ some. absurd (cc (sym off ∙ (kinds.typeless i).1 (inr (ap is_some none, some)))))
       (λ x. alike i e is (ap is_some none) (record {
         one = x.one;
         other = x.other;

@@ -24,7 +24,7 @@ pub use contents::{
     sections_are_free, sections_stand,
 };
 pub use declaring::{alternatives_are_operations, declarations_choose};
-pub use description_graph::edges;
+pub use description_graph::{edges, plain_edges};
 pub use description_tables::Tables;
 pub use description_types::{
     is_root, known_choice, known_operation, operation_count, operation_name, resource, sections,

@@ -18,5 +18,6 @@ pub mod SeenLaws
 pub mod LineLoop
 pub mod ObjectStart
 pub mod ObjectLineLaws
+pub mod LineRules
 pub mod ObjectWhole
 pub mod ObjectPuts

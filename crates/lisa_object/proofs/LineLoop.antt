@@ -9,7 +9,8 @@ use Rattle.lisa_object.specs.declared.rules.Standing.{Standing}
 use Rattle.lisa_object.specs.Gives.{Fails}
 use Rattle.lisa_object.specs.Reading.{◌>>=◌, Word, is_last}
 use Rattle.lisa_object.specs.Objects.{PlainObjectLine}
-use Rattle.lisa_object.specs.ObjectRules.{start, after, defined}
+use Rattle.lisa_object.specs.ObjectRules.{defined}
+use Rattle.lisa_object.specs.LineMachine.{start, after}
 use Rattle.lisa_object.specs.ObjectReading.{next_line, lines_of}
 
 abbrev pub Lines : Type 0

@@ -6,7 +6,7 @@ use Rattle.lisa_object.specs.declared.faults.Stop.TheVariants.{Misspelled, NoMem
 use Rattle.lisa_object.specs.Gives.{Fails}
 use Rattle.lisa_object.specs.Reading.{◌>>=◌, Word, opening_of}
 use Rattle.lisa_object.specs.Objects.{PlainObjectLine, PlainObject}
-use Rattle.lisa_object.specs.ObjectRules.{start}
+use Rattle.lisa_object.specs.LineMachine.{start}
 use Rattle.lisa_object.specs.ObjectReading.{lines_of, object_of}
 
 module _ (parts : List Word) (line : Word) (lines : List Word) (is : parts ≡ line ∷ lines) where

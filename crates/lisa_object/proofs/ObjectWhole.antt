@@ -1,27 +1,28 @@
 -- An object's text spells it alone.
 use Rattle.std.proofs.Common.{◌≡◌, ◌≢◌, ℕ, zero, suc, ◌+◌, ◌-◌, ◌*◌, ◌^◌, ◌<◌, ◌≤◌, Bool, true, false, cond, ℤ, pos, negsuc, List, [], ◌∷◌, ◌++◌, length, get_or, map, Option, Some, None, refl, sym, ap, subst, ◌∙◌, append_assoc, arith}
-use Rattle.std.specs.Prelude.{◌==◌, ◌&&◌, ◌||◌, ◌-ℤ◌, int_le, not, codes, All, AllPairs, IsTrue, nat_lt, nat_le}
-use Rattle.std.specs.List.{list_any, list_all, slice_split, flat_map}
+use Rattle.std.specs.Prelude.{◌==◌, ◌&&◌, ◌||◌, ◌-ℤ◌, int_le, codes, All, AllPairs, nat_lt, nat_le}
+use Rattle.std.specs.List.{list_any, slice_split, flat_map}
 use Rattle.std.specs.Str.{bytes_eq}
 use Rattle.std.proofs.lemmas.Bool.{and_parts, and_from, false≢true, not-true, leb-true, ltb-true}
 use Rattle.std.proofs.lemmas.Int.{ints}
 use Rattle.std.proofs.lemmas.List.Elements.{All-nil, All-cons, All-head, All-tail}
 use Rattle.std.proofs.Math.Pow.{pow_mono}
 use Rattle.lisa_object.specs.declared.rules.Standing.{Standing}
-use Rattle.lisa_object.specs.Texts.{line_of, text_of, digest_digits}
-use Rattle.lisa_object.specs.Rules.{IsDigest}
+use Rattle.lisa_object.specs.Texts.{line_of, digest_digits}
 use Rattle.lisa_object.specs.Reading.{◌>>=◌, Word, is_last, opening_of}
 use Rattle.lisa_object.specs.Objects.{PlainObjectLine, Section, Space, Label, Equ, Global, Cell, Fix, PlainObject}
 use Rattle.lisa_object.specs.ObjectText.{line_words, object_head, object_lines, object_text}
-use Rattle.lisa_object.specs.ObjectRules.{has_names, start, is_within, fits_kind, is_clear, is_sum, may_follow, after, are_lines, defined, IsObject}
+use Rattle.lisa_object.specs.ObjectRules.{has_names, is_within, fits_kind, is_clear, is_sum, defined, IsObject}
+use Rattle.lisa_object.specs.LineMachine.{start, may_follow, after, are_lines}
 use Rattle.lisa_object.specs.ObjectReading.{line_at, is_new, next_line, lines_of, object_of}
-use Rattle.lisa_object.proofs.Options.{bind_some, some_is, cond_some, guard_some}
+use Rattle.lisa_object.proofs.Options.{bind_some, some_is, guard_some}
 use Rattle.lisa_object.proofs.WordLaws.{same_bytes, bytes_same}
-use Rattle.lisa_object.proofs.TextLaws.{lacks, all_lack, all_lack-append, line_lacks, text_parts, parts_text}
+use Rattle.lisa_object.proofs.TextLaws.{all_lack, all_lack-append, line_lacks, text_parts, parts_text}
 use Rattle.lisa_object.proofs.PlainWords.{plain_lacks}
 use Rattle.lisa_object.proofs.DigestLaws.{digest_plain}
 use Rattle.lisa_object.proofs.HeadLaws.{opening_there, opening_back}
-use Rattle.lisa_object.proofs.ObjectLineLaws.{IsShortInt, FitsLine, IsText, line_there, line_back, feeds_lack, end_is_none}
+use Rattle.lisa_object.proofs.LineRules.{lines_keep_rules, rules_make_lines}
+use Rattle.lisa_object.proofs.ObjectLineLaws.{IsShortInt, FitsLine, line_there, line_back, feeds_lack, end_is_none}
 
 -- ---- numbers within their types
 
@@ -235,7 +236,7 @@ found_parts bytes (line ∷ lines) o is e =
     let rules = kept start [] b.0 rest.1 in
     let made : PlainObject = record { digest = a.0; lines = b.0 } in
     subst (λ (x : PlainObject). IsSpelled bytes x) (some_is made o b.2) (record {
-      keeps = record { digest = head.1; lines = rules.lines; distinct = rules.names.distinct };
+      keeps = record { digest = head.1; lines = lines_keep_rules b.0 rules.lines; distinct = rules.names.distinct };
       text = parts_text bytes (object_lines made) (is ∙ ap (λ (l : Word). l ∷ lines) head.0 ∙ ap (λ (l : List Word). object_head a.0 ∷ l) rest.0 ∙ last_lines made);
     })
 
@@ -257,14 +258,14 @@ small_start = (omega arith, omega arith)
 lines_lack : (o : PlainObject) → IsObject o → all_lack 10 (object_lines o) ≡ true
 lines_lack o h =
     and_from _ _ (line_lacks 10 (codes "object" ∷ codes "1" ∷ digest_digits o.digest ∷ []) refl (and_from _ _ refl (and_from _ _ refl (and_from _ _ (plain_lacks 10 (digest_digits o.digest) (omega arith) (digest_plain o.digest)) refl))))
-    (all_lack-append 10 (line_texts o.lines) (codes "end" ∷ []) (texts_lack start o.lines small_start h.lines) refl)
+    (all_lack-append 10 (line_texts o.lines) (codes "end" ∷ []) (texts_lack start o.lines small_start (rules_make_lines o.lines h.lines)) refl)
 
 pub only : (o : PlainObject) → IsObject o → object_of (slice_split (λ b. b == 10) (object_text o)) ≡ Some o
 unfolding object_of
 only o h =
     let parts = text_parts (object_lines o) (lines_lack o h) ∙ sym (last_lines o) in
     let names : Fresh [] (flat_map defined o.lines) = record { distinct = h.distinct; unseen = λ k d lt. refl } in
-    let lines = lines_there start [] o.lines small_start (stands start [] o.lines h.lines names) in
+    let lines = lines_there start [] o.lines small_start (stands start [] o.lines (rules_make_lines o.lines h.lines) names) in
     let opening = opening_there (codes "object") o.digest refl h.digest in
     ap object_of parts ∙ ap (λ (q : Option (List ℕ)). q >>= λ d. lines_of start [] (line_texts o.lines ++ codes "end" ∷ [] ∷ []) >>= λ ls. Some (record { digest = d; lines = ls })) opening
     ∙ ap (λ (q : Option (List PlainObjectLine)). q >>= λ ls. Some (record { digest = o.digest; lines = ls })) lines

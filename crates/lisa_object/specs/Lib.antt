@@ -7,6 +7,7 @@ pub mod Gives
 pub mod Objects
 pub mod ObjectText
 pub mod ObjectRules
+pub mod LineMachine
 pub mod ObjectReading
 pub mod ObjectGives
 pub mod ObjectPieces

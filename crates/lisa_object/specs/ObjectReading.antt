@@ -1,16 +1,16 @@
 -- Reading an object, on its lines.
-use Rattle.std.specs.Prelude.{ℕ, ℤ, pos, ◌-ℤ◌, ◌-◌, ◌^◌, Bool, true, false, List, [], ◌∷◌, ◌++◌, codes, decimal, Option, Some, None, nat_lt, not, ◌==◌, ◌&&◌, if◌then◌else◌}
+use Rattle.std.specs.Prelude.{ℕ, ℤ, pos, ◌-ℤ◌, ◌^◌, Bool, true, false, List, [], ◌∷◌, ◌++◌, codes, decimal, Option, Some, None, not, ◌==◌, ◌&&◌, if◌then◌else◌}
 use Rattle.std.specs.List.{list_any, slice_split}
 use Rattle.std.specs.Str.{bytes_eq}
 use Rattle.std.specs.Str.Parse.{digits_value}
 use Rattle.asm_source.specs.Bytes.{is_name}
-use Rattle.asm_source.specs.Plain.{PlainSum}
 use Rattle.asm_source.specs.declared.parts.Term.{Term}
 use Rattle.lisa_object.specs.declared.parts.FixKind.{FixKind}
 use Rattle.lisa_object.specs.declared.parts.FixKind.TheVariants as kinds
 use Rattle.lisa_object.specs.declared.rules.Standing.{Standing}
 use Rattle.lisa_object.specs.Objects.{PlainObjectLine, Section, Space, Label, Equ, Global, Cell, Fix, PlainObject}
-use Rattle.lisa_object.specs.ObjectRules.{start, may_follow, after, defined}
+use Rattle.lisa_object.specs.ObjectRules.{defined}
+use Rattle.lisa_object.specs.LineMachine.{start, may_follow, after}
 use Rattle.lisa_object.specs.Reading.{◌>>=◌, Word, first_of, is_nil, is_last, small_of, hex_of, opening_of, written}
 
 -- exactly one word, and exactly two

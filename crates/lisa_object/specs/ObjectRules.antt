@@ -1,16 +1,15 @@
 -- The rules that objects keep.
-use Rattle.std.specs.Prelude.{ℕ, ◌+◌, ◌-◌, ◌*◌, ◌/◌, ◌%◌, ◌^◌, ◌≢◌, ℤ, pos, ◌-ℤ◌, int_le, Bool, true, false, List, [], ◌∷◌, ◌++◌, length, map, AllPairs, IsTrue, Option, Some, None, nat_le, nat_lt, ◌==◌, ◌&&◌}
+use Rattle.std.specs.Prelude.{ℕ, ◌+◌, ◌-◌, ◌*◌, ◌/◌, ◌%◌, ◌^◌, ◌<◌, ◌≤◌, ◌≡◌, ◌≢◌, ℤ, pos, ◌-ℤ◌, int_le, Bool, true, List, [], ◌∷◌, ◌++◌, length, get_or, reverse, All, AllPairs, IsTrue, Option, Some, None, nat_le, ◌==◌, ◌&&◌}
 use Rattle.std.specs.List.{list_all, flat_map}
 use Rattle.asm_source.specs.Bytes.{is_name}
 use Rattle.asm_source.specs.Plain.{PlainSum}
 use Rattle.asm_source.specs.declared.parts.Term.{Term}
 use Rattle.lisa_object.specs.declared.parts.FixKind.{FixKind}
 use Rattle.lisa_object.specs.declared.parts.FixKind.TheVariants as kinds
-use Rattle.lisa_object.specs.declared.rules.Standing.{Standing}
 use Rattle.lisa_object.specs.Objects.{PlainObjectLine, Section, Space, Label, Equ, Global, Cell, Fix, PlainObject}
 use Rattle.lisa_object.specs.Rules.{IsDigest}
 
--- ---- a line by itself: its names are names
+-- ---- a line by itself: its names are names, its numbers in their ranges
 
 abbrev pub is_symbol : Option (List ℕ) → Bool
 is_symbol None = true
@@ -27,16 +26,31 @@ has_names (Global n) = is_name n
 has_names (Fix l w k s) = list_all has_symbol s.terms
 has_names _ = true
 
--- ---- a line behind others
-
--- `Standing` says how wide the section's cells are, 0 before any section, and of the cell that stands directly before, with fixes of it
--- between, its value and the bit below which a further fix must lie, 0 where there is no such cell.
-abbrev pub start : Standing
-start = record { width = 0; cell = 0; below = 0 }
-
 -- a number whose size is at most this
 abbrev pub is_within : ℕ → ℤ → Bool
 is_within most n = int_le (pos 0 -ℤ pos most) n && int_le n (pos most)
+
+abbrev pub is_sum : PlainSum → Bool
+is_sum s = is_within (8 * (2 ^ 64 - 1)) s.constant && nat_le (length s.terms) 8
+
+abbrev pub IsInRange : PlainObjectLine → Type 0
+IsInRange (Section n w) = (1 ≤ w) × (w ≤ 64)
+IsInRange (Space n) = n ≤ 1048576
+IsInRange (Label n) = Unit {0}
+IsInRange (Equ n v) = IsTrue (is_within (2 ^ 64 - 1) v)
+IsInRange (Global n) = Unit {0}
+IsInRange (Cell v) = Unit {0}
+IsInRange (Fix l w k s) = (1 ≤ w) × IsTrue (is_sum s)
+
+-- ---- a line behind others
+
+abbrev pub widths : PlainObjectLine → List ℕ
+widths (Section n w) = w ∷ []
+widths _ = []
+
+-- how wide the cells are behind these lines: as their last section says, 0 where they have none
+abbrev pub section_width : List PlainObjectLine → ℕ
+section_width ls = get_or (reverse (flat_map widths ls)) 0 0
 
 abbrev pub fits_kind : ℕ → FixKind → ℕ → ℕ → Bool
 fits_kind section kinds.Whole lsb width = lsb == 0 && width == section
@@ -46,27 +60,41 @@ fits_kind section _ lsb width = true
 abbrev pub is_clear : ℕ → ℕ → ℕ → Bool
 is_clear cell lsb width = (cell / 2 ^ lsb) % 2 ^ width == 0
 
-abbrev pub is_sum : PlainSum → Bool
-is_sum s = is_within (8 * (2 ^ 64 - 1)) s.constant && nat_le (length s.terms) 8
+-- a fix whose bits begin at this one or above it
+abbrev pub IsFixFrom : ℕ → PlainObjectLine → Type 0
+IsFixFrom bit (Section n w) = ⊥
+IsFixFrom bit (Space n) = ⊥
+IsFixFrom bit (Label n) = ⊥
+IsFixFrom bit (Equ n v) = ⊥
+IsFixFrom bit (Global n) = ⊥
+IsFixFrom bit (Cell v) = ⊥
+IsFixFrom bit (Fix l w k s) = bit ≤ l
 
-abbrev pub may_follow : Standing → PlainObjectLine → Bool
-may_follow st (Section n w) = nat_le 1 w && nat_le w 64
-may_follow st (Space n) = nat_lt 0 st.width && nat_le n 1048576
-may_follow st (Label n) = nat_lt 0 st.width
-may_follow st (Equ n v) = is_within (2 ^ 64 - 1) v
-may_follow st (Global n) = true
-may_follow st (Cell v) = nat_lt 0 st.width && nat_lt v (2 ^ st.width)
-may_follow st (Fix l w k s) = nat_le 1 w && nat_le (l + w) st.below && is_clear st.cell l w && fits_kind st.width k l w && is_sum s
+-- A fix has its cell: between them stand fixes alone, all of them above its bits, which lie in the cell and are 0 there.
+pub record HasCell (before : List PlainObjectLine) (lsb width : ℕ) (kind : FixKind) : Type 0 where
+  pub front : List PlainObjectLine
+  pub bits : ℕ
+  pub between : List PlainObjectLine
+  pub cell : before ≡ front ++ Cell bits ∷ between
+  pub above : All (IsFixFrom (lsb + width)) between
+  pub within : lsb + width ≤ section_width front
+  pub clear : IsTrue (is_clear bits lsb width)
+  pub kind_fits : IsTrue (fits_kind (section_width front) kind lsb width)
 
-abbrev pub after : Standing → PlainObjectLine → Standing
-after st (Section n w) = record { width = w; cell = 0; below = 0 }
-after st (Cell v) = record { width = st.width; cell = v; below = st.width }
-after st (Fix l w k s) = record { width = st.width; cell = st.cell; below = l }
-after st _ = record { width = st.width; cell = 0; below = 0 }
+-- Labels, spaces and cells have a section before them, and fixes have their cell.
+abbrev pub MayStand : List PlainObjectLine → PlainObjectLine → Type 0
+MayStand before (Section n w) = Unit {0}
+MayStand before (Space n) = 0 < section_width before
+MayStand before (Label n) = 0 < section_width before
+MayStand before (Equ n v) = Unit {0}
+MayStand before (Global n) = Unit {0}
+MayStand before (Cell v) = (0 < section_width before) × (v < 2 ^ section_width before)
+MayStand before (Fix l w k s) = HasCell before l w k
 
-abbrev pub are_lines : Standing → List PlainObjectLine → Bool
-are_lines st [] = true
-are_lines st (l ∷ ls) = has_names l && may_follow st l && are_lines (after st l) ls
+pub record AreLines (ls : List PlainObjectLine) : Type 0 where
+  pub names : All (λ l. IsTrue (has_names l)) ls
+  pub ranges : All IsInRange ls
+  pub order : (before behind : List PlainObjectLine) (l : PlainObjectLine) → ls ≡ before ++ l ∷ behind → MayStand before l
 
 -- ---- names
 
@@ -78,5 +106,5 @@ defined _ = []
 
 pub record IsObject (o : PlainObject) : Type 0 where
   pub digest : IsDigest o.digest
-  pub lines : IsTrue (are_lines start o.lines)
+  pub lines : AreLines o.lines
   pub distinct : AllPairs (λ a b. a ≢ b) (flat_map defined o.lines)

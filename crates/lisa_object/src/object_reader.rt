@@ -8,7 +8,8 @@ ghost use Rattle.lisa_object.specs.Seen.{HoldsSorted};
 ghost use Rattle.lisa_object.specs.Gives.{Gives};
 ghost use Rattle.lisa_object.specs.Objects.{PlainObject, object_line_tree, object_tree};
 ghost use Rattle.lisa_object.specs.ObjectText.{object_text};
-ghost use Rattle.lisa_object.specs.ObjectRules.{start, after, defined, IsObject};
+ghost use Rattle.lisa_object.specs.ObjectRules.{defined, IsObject};
+ghost use Rattle.lisa_object.specs.LineMachine.{start, after};
 ghost use Rattle.lisa_object.specs.ObjectReading.{is_new, next_line, lines_of, object_of};
 ghost use Rattle.lisa_object.specs.ObjectGives.{IsThisObject, IsObjectRefusal};
 

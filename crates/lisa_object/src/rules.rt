@@ -2,7 +2,8 @@
 ghost use Rattle.std.specs.Prelude.{◌≡◌, ◌+◌, ◌≤◌, ◌<◌, ◌^◌, pos, ◌≤ℤ◌, unsigned_abs};
 ghost use Rattle.asm_source.specs.Plain.{sum_tree};
 ghost use Rattle.lisa_object.specs.Objects.{Fix, object_line_tree};
-ghost use Rattle.lisa_object.specs.ObjectRules.{is_within, fits_kind, is_clear, is_sum, may_follow, after};
+ghost use Rattle.lisa_object.specs.ObjectRules.{is_within, fits_kind, is_clear, is_sum};
+ghost use Rattle.lisa_object.specs.LineMachine.{may_follow, after};
 
 use crate::parts::{FixKind, ObjectLine};
 use crate::words::fits;

@@ -2,6 +2,12 @@
 use Rattle.std.proofs.Common.{◌≡◌, ◌≢◌, List, ℕ}
 use Rattle.asm_source.specs.declared.flaw.SourceFault.{SourceFault}
 use Rattle.asm_source.specs.declared.flaw.SourceFault.TheVariants as sources
+use Rattle.hex_files.specs.declared.faults.HexFault.{HexFault}
+use Rattle.hex_files.specs.declared.faults.HexFault.TheVariants as hexes
+use Rattle.hex_files.specs.declared.faults.MemhFault.{MemhFault}
+use Rattle.hex_files.specs.declared.faults.MemhFault.TheVariants as memhs
+use Rattle.lisa_board.specs.declared.fault.BoardFault.{BoardFault}
+use Rattle.lisa_board.specs.declared.fault.BoardFault.TheVariants as boards
 use Rattle.lisa_engine.specs.declared.schedule.ScheduleFault.{ScheduleFault}
 use Rattle.lisa_engine.specs.declared.schedule.ScheduleFault.TheVariants as schedules
 use Rattle.lisa_object.specs.declared.faults.GenFault.{GenFault}
@@ -16,6 +22,8 @@ use Rattle.lisa_tree.specs.declared.faults.DescFault.{DescFault}
 use Rattle.lisa_tree.specs.declared.faults.DescFault.TheVariants as descriptions
 use Rattle.step_program.specs.declared.faults.LowerFault.{LowerFault}
 use Rattle.step_program.specs.declared.faults.LowerFault.TheVariants as netlists
+use Rattle.vcd_trace.specs.declared.faults.VcdFault.{VcdFault}
+use Rattle.vcd_trace.specs.declared.faults.VcdFault.TheVariants as vcds
 use Rattle.verilog_text.specs.declared.faults.VerilogFault.{VerilogFault}
 use Rattle.verilog_text.specs.declared.faults.VerilogFault.TheVariants as verilogs
 use Rattle.lisa_outcomes.specs.declared.status.Refusal.TheVariants as refusals
@@ -41,6 +49,10 @@ file_refusal fault other = record {
   schedule = λ e. cc;
   source = λ e. cc;
   link = λ e. cc;
+  hex = λ e. cc;
+  memh = λ e. cc;
+  vcd = λ e. cc;
+  board = λ e. cc;
 }
 
 same_input : (a b : InputFault) → refusals.Input a ≡ refusals.Input b → a ≡ b
@@ -59,6 +71,10 @@ input_refusal fault other = record {
   schedule = λ e. cc;
   source = λ e. cc;
   link = λ e. cc;
+  hex = λ e. cc;
+  memh = λ e. cc;
+  vcd = λ e. cc;
+  board = λ e. cc;
 }
 
 same_program : (a b : GenFault) → refusals.Program a ≡ refusals.Program b → a ≡ b
@@ -77,6 +93,10 @@ program_refusal fault other = record {
   schedule = λ e. cc;
   source = λ e. cc;
   link = λ e. cc;
+  hex = λ e. cc;
+  memh = λ e. cc;
+  vcd = λ e. cc;
+  board = λ e. cc;
 }
 
 same_netlist : (a b : LowerFault) → refusals.Netlist a ≡ refusals.Netlist b → a ≡ b
@@ -95,6 +115,10 @@ netlist_refusal fault other = record {
   schedule = λ e. cc;
   source = λ e. cc;
   link = λ e. cc;
+  hex = λ e. cc;
+  memh = λ e. cc;
+  vcd = λ e. cc;
+  board = λ e. cc;
 }
 
 same_description : (a b : DescFault) → refusals.Description a ≡ refusals.Description b → a ≡ b
@@ -113,6 +137,10 @@ description_refusal fault other = record {
   schedule = λ e. cc;
   source = λ e. cc;
   link = λ e. cc;
+  hex = λ e. cc;
+  memh = λ e. cc;
+  vcd = λ e. cc;
+  board = λ e. cc;
 }
 
 same_verilog : (a b : VerilogFault) → refusals.Verilog a ≡ refusals.Verilog b → a ≡ b
@@ -131,6 +159,10 @@ verilog_refusal fault other = record {
   schedule = λ e. cc;
   source = λ e. cc;
   link = λ e. cc;
+  hex = λ e. cc;
+  memh = λ e. cc;
+  vcd = λ e. cc;
+  board = λ e. cc;
 }
 
 same_image : (a b : ImageFault) → refusals.Image a ≡ refusals.Image b → a ≡ b
@@ -149,6 +181,10 @@ image_refusal fault other = record {
   schedule = λ e. cc;
   source = λ e. cc;
   link = λ e. cc;
+  hex = λ e. cc;
+  memh = λ e. cc;
+  vcd = λ e. cc;
+  board = λ e. cc;
 }
 
 same_schedule : (a b : ScheduleFault) → refusals.Schedule a ≡ refusals.Schedule b → a ≡ b
@@ -167,6 +203,10 @@ schedule_refusal fault other = record {
   schedule = λ e. other (same_schedule _ _ e);
   source = λ e. cc;
   link = λ e. cc;
+  hex = λ e. cc;
+  memh = λ e. cc;
+  vcd = λ e. cc;
+  board = λ e. cc;
 }
 
 same_object : (a b : ObjectFault) → refusals.Object a ≡ refusals.Object b → a ≡ b
@@ -185,6 +225,10 @@ object_refusal fault other = record {
   schedule = λ e. cc;
   source = λ e. cc;
   link = λ e. cc;
+  hex = λ e. cc;
+  memh = λ e. cc;
+  vcd = λ e. cc;
+  board = λ e. cc;
 }
 
 same_source : (a b : SourceFault) → refusals.Source a ≡ refusals.Source b → a ≡ b
@@ -203,6 +247,10 @@ source_refusal fault other = record {
   schedule = λ e. cc;
   source = λ e. other (same_source _ _ e);
   link = λ e. cc;
+  hex = λ e. cc;
+  memh = λ e. cc;
+  vcd = λ e. cc;
+  board = λ e. cc;
 }
 
 same_link : (a b : LinkFault) → refusals.Link a ≡ refusals.Link b → a ≡ b
@@ -221,6 +269,98 @@ link_refusal fault other = record {
   schedule = λ e. cc;
   source = λ e. cc;
   link = λ e. other (same_link _ _ e);
+  hex = λ e. cc;
+  memh = λ e. cc;
+  vcd = λ e. cc;
+  board = λ e. cc;
+}
+
+same_hex : (a b : HexFault) → refusals.Hex a ≡ refusals.Hex b → a ≡ b
+same_hex a b e = cc
+
+pub hex_refusal : (fault : HexFault) → fault ≢ hexes.NoMemory → IsRefusal (refusals.Hex fault)
+hex_refusal fault other = record {
+  file = λ e. cc;
+  input = λ e. cc;
+  program = λ e. cc;
+  netlist = λ e. cc;
+  description = λ e. cc;
+  verilog = λ e. cc;
+  image = λ e. cc;
+  object = λ e. cc;
+  schedule = λ e. cc;
+  source = λ e. cc;
+  link = λ e. cc;
+  hex = λ e. other (same_hex _ _ e);
+  memh = λ e. cc;
+  vcd = λ e. cc;
+  board = λ e. cc;
+}
+
+same_memh : (a b : MemhFault) → refusals.Memh a ≡ refusals.Memh b → a ≡ b
+same_memh a b e = cc
+
+pub memh_refusal : (fault : MemhFault) → fault ≢ memhs.NoMemory → IsRefusal (refusals.Memh fault)
+memh_refusal fault other = record {
+  file = λ e. cc;
+  input = λ e. cc;
+  program = λ e. cc;
+  netlist = λ e. cc;
+  description = λ e. cc;
+  verilog = λ e. cc;
+  image = λ e. cc;
+  object = λ e. cc;
+  schedule = λ e. cc;
+  source = λ e. cc;
+  link = λ e. cc;
+  hex = λ e. cc;
+  memh = λ e. other (same_memh _ _ e);
+  vcd = λ e. cc;
+  board = λ e. cc;
+}
+
+same_vcd : (a b : VcdFault) → refusals.Vcd a ≡ refusals.Vcd b → a ≡ b
+same_vcd a b e = cc
+
+pub vcd_refusal : (fault : VcdFault) → fault ≢ vcds.NoMemory → IsRefusal (refusals.Vcd fault)
+vcd_refusal fault other = record {
+  file = λ e. cc;
+  input = λ e. cc;
+  program = λ e. cc;
+  netlist = λ e. cc;
+  description = λ e. cc;
+  verilog = λ e. cc;
+  image = λ e. cc;
+  object = λ e. cc;
+  schedule = λ e. cc;
+  source = λ e. cc;
+  link = λ e. cc;
+  hex = λ e. cc;
+  memh = λ e. cc;
+  vcd = λ e. other (same_vcd _ _ e);
+  board = λ e. cc;
+}
+
+same_board : (a b : BoardFault) → refusals.Board a ≡ refusals.Board b → a ≡ b
+same_board a b e = cc
+
+pub board_refusal : (fault : BoardFault) → fault ≢ boards.NoMemory → IsRefusal (refusals.Board fault)
+board_refusal fault other = record {
+  file = λ e. cc;
+  input = λ e. cc;
+  program = λ e. cc;
+  netlist = λ e. cc;
+  description = λ e. cc;
+  verilog = λ e. cc;
+  image = λ e. cc;
+  object = λ e. cc;
+  schedule = λ e. cc;
+  source = λ e. cc;
+  link = λ e. cc;
+  hex = λ e. cc;
+  memh = λ e. cc;
+  vcd = λ e. cc;
+  board = λ e. other (same_board _ _ e);
 }
 
 -- a file that is too long makes one

@@ -1,11 +1,14 @@
 //! How a run ends.
 
 use asm_source::SourceFault;
+use hex_files::{HexFault, MemhFault};
+use lisa_board::BoardFault;
 use lisa_engine::ScheduleFault;
 use lisa_object::{GenFault, ImageFault, LinkFault, ObjectFault};
 use lisa_tree::DescFault;
 use lisa_words::{Name, NoMemory};
 use step_program::LowerFault;
+use vcd_trace::VcdFault;
 use verilog_text::VerilogFault;
 
 /// What may be wrong with a file as a whole.
@@ -20,7 +23,7 @@ pub enum FileFault {
 /// What may be wrong with the input as a whole.
 #[derive(Debug, PartialEq, Eq, Drop)]
 pub enum InputFault {
-    /// 1: the input has more bytes than a session takes, and no `quit` among the first of them.
+    /// 1: the input has more bytes than a command takes; that of a session, and no `quit` among the first of them.
     TooLong {},
     /// Memory was wanted and not given.
     NoMemory,
@@ -40,6 +43,10 @@ pub enum Refusal {
     Schedule(ScheduleFault),
     Source(SourceFault),
     Link(LinkFault),
+    Hex(HexFault),
+    Memh(MemhFault),
+    Vcd(VcdFault),
+    Board(BoardFault),
 }
 
 /// How a run ended. The program exits with 0 to 5, in this order.

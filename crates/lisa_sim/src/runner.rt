@@ -8,7 +8,6 @@ ghost use Rattle.lisa_engine.specs.State.{cells_of};
 ghost use Rattle.lisa_engine.specs.Touches.{Tracks};
 ghost use Rattle.machine_parts.specs.Parts.{arrays_of, pins_of};
 ghost use Rattle.item_promises.specs.lisa_forms.Parts.{AreFormsOf};
-ghost use Rattle.item_promises.specs.lisa_forms.Verdicts.{HasForms};
 ghost use Rattle.item_promises.specs.lisa_forms.Codings.{IsCodingOf};
 ghost use Rattle.behavior_runs.specs.scene_paths.Lookups.{tree_of};
 ghost use Rattle.activation_plans.specs.lisa_meaning.States.{state_of};
@@ -66,7 +65,6 @@ impl<'a> Runner<'a> {
         image: &'a Image,
     ) -> Result<Runner<'a>, MakeFault>
         requires forms { AreFormsOf (description_tree machine.now) forms.now }
-        requires has_forms { HasForms (description_tree machine.now) }
         requires coding { IsCodingOf (description_tree machine.now) coding.now }
         requires image { IsImage image.now }
         ensures tree { IfOk result (λ r. tree_of r.described ≡ description_tree machine.now) }

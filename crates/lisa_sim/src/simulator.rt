@@ -8,7 +8,6 @@ ghost use Rattle.lisa_engine.specs.Shape.{IsFitting, IsShaped, AreEntries, HaveW
 ghost use Rattle.lisa_engine.specs.Touches.{Tracks};
 ghost use Rattle.machine_parts.specs.Parts.{arrays_of, pins_of};
 ghost use Rattle.item_promises.specs.lisa_forms.Parts.{AreFormsOf};
-ghost use Rattle.item_promises.specs.lisa_forms.Verdicts.{HasForms};
 ghost use Rattle.item_promises.specs.lisa_forms.Codings.{IsCodingOf};
 ghost use Rattle.behavior_runs.specs.scene_paths.Lookups.{tree_of};
 ghost use Rattle.activation_plans.specs.lisa_meaning.States.{state_of};
@@ -47,7 +46,6 @@ impl<'a> Simulator<'a> {
         image: &'a Image,
     ) -> Result<Simulator<'a>, MakeFault>
         requires forms { AreFormsOf (description_tree machine.now) forms.now }
-        requires has_forms { HasForms (description_tree machine.now) }
         requires coding { IsCodingOf (description_tree machine.now) coding.now }
         requires image { IsImage image.now }
         ensures machine { IfOk result (λ s. ⟦<Simulator<'a> as Engine>⟧.machine s

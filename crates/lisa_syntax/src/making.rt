@@ -7,7 +7,7 @@ ghost use Rattle.lisa_tree.specs.Descriptions.{description_tree};
 ghost use Rattle.instruction_texts.specs.Shapes.{IsSized};
 ghost use Rattle.text_tables.specs.Parts.{all_pieces};
 ghost use Rattle.lisa_forms.specs.Parts.{AreFormsOf};
-ghost use Rattle.lisa_forms.specs.Verdicts.{HasForms, form_name_at};
+ghost use Rattle.lisa_forms.specs.Verdicts.{form_name_at};
 ghost use Rattle.lisa_syntax.specs.Texts.{IsAmbiguityVerdict};
 ghost use Rattle.lisa_syntax.specs.Orders.{AreOrdersOf};
 ghost use Rattle.lisa_syntax.specs.Parts.{IsSyntaxOf};
@@ -66,7 +66,6 @@ impl Syntax {
     /// The texts of an accepted description's forms. A refusal is the first two forms that have a text in common, with some text of both.
     pub fn make(alloc: Global, machine: &Machine, forms: &Forms) -> Result<Syntax, DescFault>
         requires forms { AreFormsOf (description_tree machine.now) forms.now }
-        requires accepted { HasForms (description_tree machine.now) }
 
         // It is the description's.
         ensures syntax { IfOk result (λ s. IsSyntaxOf (description_tree machine.now) s) }

@@ -30,7 +30,7 @@ use Rattle.description_types.specs.declared.values.Assignable.TheVariants as ans
 use Rattle.description_types.specs.Facts.{entry_value}
 use Rattle.description_types.specs.Kinds.{assignable_fact}
 use Rattle.description_types.specs.Steady.{assignables_steady}
-use Rattle.description_types.specs.Tables.{unfit}
+use Rattle.description_types.specs.Tables.{apart as set_apart, unfit}
 use Rattle.scene_paths.specs.lisa_machine.Assigning.{IsPlace as IsAssignable, register, element, declared}
 use Rattle.scene_paths.specs.lisa_machine.Freedom.{Stands, AllStand}
 use Rattle.scene_paths.specs.lisa_machine.Soundness.{IsSound}
@@ -101,8 +101,8 @@ module _ (d : DescriptionTree) (s : IsSound d) where
       meant_yes more (sym (ap (λ (z : ℕ). s.known.assignables (entry_node d z)) same) ∙ r.2)
 
   no_label : (j : ℕ) (e : Entry) → slice_get (entries d) j ≡ Some e → s.known.assignables (entry_node d j) ≡ Some answers.Yes → e.what ≡ whats.Label → ⊥
-  no_label j e is y what = off (sym (entry_is d s.known s.names s.stand s.uses (assignable_fact d (unfit s.known.traits s.known.typeless)) (assignables_steady d (unfit s.known.traits s.known.typeless)) s.known.assignables s.kinds.assignables j e is
-      ∙ ap (λ (x : What). entry_value d (assignable_fact d (unfit s.known.traits s.known.typeless)) s.known.assignables j (Some x)) what) ∙ y)
+  no_label j e is y what = off (sym (entry_is d s.known s.names s.stand s.uses (assignable_fact d (set_apart s.known.traits) (unfit s.known.traits s.known.typeless)) (assignables_steady d (set_apart s.known.traits) (unfit s.known.traits s.known.typeless)) s.known.assignables s.kinds.assignables j e is
+      ∙ ap (λ (x : What). entry_value d (assignable_fact d (set_apart s.known.traits) (unfit s.known.traits s.known.typeless)) s.known.assignables j (Some x)) what) ∙ y)
     where
       off : Some answers.No ≡ Some answers.Yes → ⊥
       off f = absurd (cc f)

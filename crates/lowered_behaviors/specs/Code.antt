@@ -14,7 +14,7 @@ use Rattle.lisa_tree.specs.Meanings.{meaning}
 use Rattle.lisa_tree.specs.Operations.{sections_at, behavior_in, expression_in}
 use Rattle.scene_paths.specs.description_sizes.Texts.{levels}
 use Rattle.description_types.specs.Types.{Types}
-use Rattle.indexmap.specs.IndexMap.{get}
+use Rattle.name_tables.specs.TableViews.{value_of}
 use Rattle.step_program.specs.Programs.{Expr, ToTemp, Temp}
 use Rattle.step_pieces.specs.Pieces.{Piece, nothing, behind, held}
 use Rattle.lowered_time.specs.Pieces.{both}
@@ -51,7 +51,7 @@ abbrev pub texts_of : List (Bor (List ℕ)) → List (List ℕ)
 texts_of names = map (λ n. n.now) names
 
 abbrev pub known_names : KnownNames → Known
-known_names k = record { named = λ n. operand_or (option_map plain (get same_name k.sources n)); decoded = plain k.decoded }
+known_names k = record { named = λ n. operand_or (option_map plain (value_of k.sources n)); decoded = plain k.decoded }
 
 abbrev pub entry_of : Meaning → Option ℕ
 entry_of meanings.Nothing = None

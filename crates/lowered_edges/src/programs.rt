@@ -91,7 +91,6 @@ fn firsts(alloc: Global, machine: &Machine, count: usize) -> Result<Vec<u64>, No
 // The width of words.
 fn word_width(machine: &Machine, forms: &Forms) -> u32
     requires forms { AreFormsOf (description_tree machine.now) forms.now }
-    requires has_forms { HasForms (description_tree machine.now) }
     ensures value { result ≡ word_width forms.now.width }
     ensures words { IsWordWidth (description_tree machine.now) result }
 {
@@ -164,7 +163,6 @@ pub fn lower_edges(
     coding: &Coding,
 ) -> Result<StepProgram, NoMemory>
     requires forms { AreFormsOf (description_tree machine.now) forms.now }
-    requires has_forms { HasForms (description_tree machine.now) }
     requires coding { IsCodingOf (description_tree machine.now) coding.now }
     ensures { IfOk result (λ p. IsEdgeProgram (description_tree machine.now) forms.now.width (program_tree p)) }
 {

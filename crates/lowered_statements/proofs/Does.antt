@@ -5,7 +5,6 @@ use Rattle.std.specs.List.{AllZip}
 use Rattle.std.proofs.lemmas.Bool.{eqb-true}
 use Rattle.std.proofs.lemmas.Bool.Decides.{nat_tests}
 use Rattle.std.proofs.lemmas.List.{append-nil, append_assoc}
-use Rattle.indexmap.specs.IndexMap.{insert_entry}
 use Rattle.lisa_words.specs.declared.words.Kind.{Kind}
 use Rattle.lisa_words.specs.declared.words.Kind.TheVariants as kinds
 use Rattle.lisa_tree.specs.declared.tokens.Shape.{Shape}
@@ -22,7 +21,7 @@ use Rattle.step_program.specs.Effects as effects
 use Rattle.step_program.specs.WellFormed.{IsWidth}
 use Rattle.typed_values.specs.Words.{TypedWord, word_width, as_shape as shaped_value, zero_of, is_zero, number_value}
 use Rattle.typed_values.specs.Expressions.{value}
-use Rattle.typed_values.specs.Effects.{Locals, Doing, whole_of, whole, with_local as local_given, leave, first_of as first_value, turned, counter_value, with_counter, loop_turn, all_turns, looped as loop_effect, effect, effects as effect_all}
+use Rattle.typed_values.specs.Effects.{Locals, Doing, local_put, whole_of, whole, with_local as local_given, leave, first_of as first_value, turned, counter_value, with_counter, loop_turn, all_turns, looped as loop_effect, effect, effects as effect_all}
 use Rattle.typed_values.specs.Laws.{IsFit}
 use Rattle.typed_values.proofs.Fitting.{shaped_fits, zero_fits}
 use Rattle.step_pieces.specs.Pieces.{Piece, nothing, behind, top, held, set_temp, IsScratch}
@@ -156,7 +155,7 @@ module _ {M : Type 0} (doing : Doing M) (ways : Ways) (rules : Rules) (p : Progr
   -- a local more
   enters : (scope : Scope) (n : List ℕ) (l : Local) (v : TypedWord) (m : M) (now : Moment) → IsNew (names_of scope) n → AgreesIn scope m now → Stands now (local_operand l) v → AgreesIn (entered scope n l) (local_given doing n v m) now
   enters scope n l v m now new h stands =
-      let more = insert_entry same_name (doing.locals m) n v in
+      let more = local_put (doing.locals m) n v in
       record {
         holds = does.others more m now h.holds;
         has = h.has;

@@ -3,7 +3,6 @@ use Rattle.std.proofs.Common.{◌≡◌, ◌≢◌, ℕ, zero, suc, ◌+◌, ◌
 use Rattle.std.specs.Prelude.{slice_index, take, ⊤, nat_le, nat_lt, ◌&&◌}
 use Rattle.std.proofs.lemmas.Bool.Decides.{nat_tests}
 use Rattle.std.specs.List.{AllZip}
-use Rattle.indexmap.specs.IndexMap.{insert_entry}
 use Rattle.lisa_tree.specs.declared.tokens.Shape.{Shape}
 use Rattle.lisa_tree.specs.Expressions.{ExprTree}
 use Rattle.lisa_tree.specs.Statements as stmts
@@ -13,6 +12,7 @@ use Rattle.step_program.specs.Programs.{Program, Expr, Const, Now, Before, Pin, 
 use Rattle.step_program.specs.Effects.{Moment, width}
 use Rattle.step_program.specs.Effects as effects
 use Rattle.step_program.specs.WellFormed.{IsWidth, IsFit}
+use Rattle.typed_values.specs.Effects.{local_put}
 use Rattle.typed_values.specs.Words.{TypedWord, word_width}
 use Rattle.step_pieces.specs.Pieces.{Piece, behind, top, held}
 use Rattle.step_pieces.specs.Running.{Rests, IsLow}
@@ -81,13 +81,13 @@ module _ (p : Program) (before pins : List ℕ) where
       let h = scope_low p (x.1.temp + 1) high xs is.4 in
       ((are.0.0, stands_on p before pins high (local_operand x.1) v.1 a b (omega (arith, h)) r are.0.1), locals_rest (x.1.temp + 1) high xs vs a b is.4 r are.1)
 
-  pub locals_entered : (now : Moment) (scope : Scope) (locals : List (List ℕ × TypedWord)) (n : List ℕ) (l : Local) (v : TypedWord) → IsNew (names_of scope) n → Are now scope locals → StandsFor p before pins now (local_operand l) v → Are now (entered scope n l) (insert_entry same_name locals n v)
+  pub locals_entered : (now : Moment) (scope : Scope) (locals : List (List ℕ × TypedWord)) (n : List ℕ) (l : Local) (v : TypedWord) → IsNew (names_of scope) n → Are now scope locals → StandsFor p before pins now (local_operand l) v → Are now (entered scope n l) (local_put locals n v)
   locals_entered now [] [] n l v new are h = ((refl, h), tt)
   locals_entered now [] (w ∷ ws) n l v new are h = absurd are
   locals_entered now (x ∷ xs) [] n l v new are h = absurd are
   locals_entered now (x ∷ xs) (w ∷ ws) n l v new are h =
       let other : same_name n w.0 ≡ false = ap (same_name n) (sym are.0.0) ∙ new.0 in
-      subst (λ (b : Bool). Are now (entered (x ∷ xs) n l) (cond b ((w.0, v) ∷ ws) (w ∷ insert_entry same_name ws n v))) (sym other)
+      subst (λ (b : Bool). Are now (entered (x ∷ xs) n l) (cond b ((w.0, v) ∷ ws) (w ∷ local_put ws n v))) (sym other)
       (are.0, locals_entered now xs ws n l v new.1 are.1 h)
 
   -- the first locals are those of the scope

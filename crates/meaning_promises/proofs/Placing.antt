@@ -33,7 +33,7 @@ use Rattle.description_types.specs.declared.values.TypeOf.TheVariants as types
 use Rattle.description_types.specs.Facts.{entry_value}
 use Rattle.description_types.specs.Kinds.{assignable_fact}
 use Rattle.description_types.specs.Steady.{assignables_steady}
-use Rattle.description_types.specs.Tables.{unfit}
+use Rattle.description_types.specs.Tables.{apart as set_apart, unfit}
 use Rattle.description_types.specs.Types.{typed, word_shape, element_shape, meant_type, or_meant_type, meant_element, or_meant_element, type_of, element_type}
 use Rattle.stage_checks.specs.Resets.{is_scalar}
 use Rattle.lisa_meaning.specs.lisa_machine.Assigning.{IsPlace, register, element, declared}
@@ -168,8 +168,8 @@ module _ (d : DescriptionTree) (s : IsSound d) where
 
   -- a label isn't assigned
   no_label : (j : ℕ) (e : Entry) → slice_get (entries d) j ≡ Some e → assignables (entry_node d j) ≡ Some assigns.Yes → e.what ≡ whats.Label → ⊥
-  no_label j e is y what = off (sym (entry_is d s.known s.names s.stand s.uses (assignable_fact d (unfit s.known.traits s.known.typeless)) (assignables_steady d (unfit s.known.traits s.known.typeless)) assignables s.kinds.assignables j e is
-      ∙ ap (λ (x : What). entry_value d (assignable_fact d (unfit s.known.traits s.known.typeless)) assignables j (Some x)) what) ∙ y)
+  no_label j e is y what = off (sym (entry_is d s.known s.names s.stand s.uses (assignable_fact d (set_apart s.known.traits) (unfit s.known.traits s.known.typeless)) (assignables_steady d (set_apart s.known.traits) (unfit s.known.traits s.known.typeless)) assignables s.kinds.assignables j e is
+      ∙ ap (λ (x : What). entry_value d (assignable_fact d (set_apart s.known.traits) (unfit s.known.traits s.known.typeless)) assignables j (Some x)) what) ∙ y)
     where
       off : Some assigns.No ≡ Some assigns.Yes → ⊥
       off f = absurd (cc f)

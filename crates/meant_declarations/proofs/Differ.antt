@@ -10,27 +10,29 @@ use Rattle.std.proofs.lemmas.Option.{slice_get_within}
 use Rattle.lisa_tree.specs.Descriptions.{DescriptionTree}
 use Rattle.lisa_tree.specs.Declarations.{Entry, entries}
 use Rattle.lisa_tree.specs.Paths.{refers}
-use Rattle.graph_paths.specs.Paths.{is_in, saw}
+use Rattle.std.specs.Global.{Vec}
+use Rattle.graph_paths.specs.Paths.{targets, is_in, saw, Leads, Reaches, edge, more as further}
+use Rattle.graph_paths.proofs.Long.{within}
 use Rattle.meant_declarations.specs.Meant.{MayMean, itself, higher, IsFound, Differ}
-use Rattle.meant_declarations.specs.Meanings.{direct_meanings, here, onward, SomeLedTo}
+use Rattle.meant_declarations.specs.Meanings.{direct_meanings, AreSources, here, onward, SomeLedTo}
 use Rattle.meant_declarations.specs.Walks.{found_value, are_other}
 use Rattle.meant_declarations.proofs.Direct.{directly, means_directly}
-use Rattle.meant_declarations.proofs.Leading.{through}
+use Rattle.meant_declarations.proofs.Leading.{through, led_along}
 
 -- one of a list
-record One (p : ℕ → Bool) (all : List ℕ) : Type 0 where
+pub record One (p : ℕ → Bool) (all : List ℕ) : Type 0 where
   pub number : ℕ
   pub listed : is_in number all ≡ true
   pub holds : p number ≡ true
 
-one_of : (p : ℕ → Bool) (all : List ℕ) → list_any p all ≡ true → One p all
+pub one_of : (p : ℕ → Bool) (all : List ℕ) → list_any p all ≡ true → One p all
 one_of p [] h = absurd (cc h)
 one_of p (k ∷ all) h = elim (or_cases (p k) (list_any p all) h) [
   | inl this ↦ record { number = k; listed = (let own : nat_eq k k ≡ true = eq-eqb k k refl in grind arith); holds = this }
   | inr later ↦ (let o = one_of p all later in record { number = o.number; listed = (let l : is_in o.number all ≡ true = o.listed in grind arith); holds = o.holds })
 ]
 
-of_one : (p : ℕ → Bool) (k : ℕ) (all : List ℕ) → is_in k all ≡ true → p k ≡ true → list_any p all ≡ true
+pub of_one : (p : ℕ → Bool) (k : ℕ) (all : List ℕ) → is_in k all ≡ true → p k ≡ true → list_any p all ≡ true
 of_one p k [] h e = absurd (cc h)
 of_one p k (x ∷ all) h e = elim (or_cases (nat_eq k x) (is_in k all) h) [
   | inl same ↦ (let here : p x ≡ true = sym (ap p (eqb-true k x same)) ∙ e in grind arith)
@@ -57,11 +59,11 @@ others same None y e = absurd (cc e)
 others same (Some t) None e = absurd (cc e)
 others same (Some t) (Some u) e = record { left = t; right = u; is_left = refl; is_right = refl; other = not_true (same t u) e }
 
-module _ {T : Type 0} (d : DescriptionTree) (same : T → T → Bool) (law : IsEquivalence same) (value : ℕ → Option T) (known : List Bool) (found : ℕ → Option ℕ) (own : ℕ → Option T) (mixed : List Bool)
+module _ {T : Type 0} (d : DescriptionTree) (next : List (Vec ℕ)) (sources : AreSources d next) (same : T → T → Bool) (law : IsEquivalence same) (value : ℕ → Option T) (known : List Bool) (found : ℕ → Option ℕ) (own : ℕ → Option T) (mixed : List Bool)
     (are_known : (i : ℕ) → saw known i ≡ is_some (value i))
     (are_found : (i : ℕ) → IsFound d known i (found i))
     (are_own : (i : ℕ) → own i ≡ found_value value (found i))
-    (are_mixed : (i : ℕ) → saw mixed i ≡ list_any (λ k. are_other same (own i) (own k)) (direct_meanings d i)) where
+    (are_mixed : (i : ℕ) → saw mixed i ≡ list_any (λ k. are_other same (own i) (own k)) (targets next i)) where
   abbrev IsMixed : ℕ → Type 0
   IsMixed j = saw mixed j ≡ true
 
@@ -80,11 +82,11 @@ module _ {T : Type 0} (d : DescriptionTree) (same : T → T → Bool) (law : IsE
 
   pub differs : (i : ℕ) → SomeLedTo d IsMixed i → Differ d same value i
   differs i (j, (led, e)) =
-      let o = one_of (λ k. are_other same (own j) (own k)) (direct_meanings d j) (sym (are_mixed j) ∙ e) in
+      let o = one_of (λ k. are_other same (own j) (own k)) (targets next j) (sym (are_mixed j) ∙ e) in
       let p = others same (own j) (own o.number) o.holds in
       let l = represents j p.left p.is_left in
       let r = represents o.number p.right p.is_right in
-      let m = directly d j o.number o.listed in
+      let m = directly d j o.number (sources.direct j o.number o.listed) in
       record {
         left = l.number;
         right = r.number;
@@ -123,6 +125,34 @@ module _ {T : Type 0} (d : DescriptionTree) (same : T → T → Bool) (law : IsE
     pub is : own i ≡ Some representative
     pub alike : same representative t ≡ true
 
+  apart : (v w : T) (x y : Option T) → x ≡ Some v → y ≡ Some w → same v w ≡ false → are_other same x y ≡ true
+  apart v w None y f g off = absurd (cc f)
+  apart v w (Some a) None f g off = absurd (cc g)
+  apart v w (Some a) (Some b) f g off =
+      let l : a ≡ v = some_same a v f in
+      let r : b ≡ w = some_same b w g in
+      ap (λ (u : T). not (same u b)) l ∙ ap (λ (u : T). not (same v u)) r ∙ ap not off
+
+  -- one edge from a name that isn't mixed
+  step : (i k : ℕ) (v w : T) → (IsMixed i → ⊥) → Leads next i k → own i ≡ Some v → own k ≡ Some w → same v w ≡ true
+  step i k v w none l x y = elim (cases_Bool (same v w)) [
+    | inl on ↦ on
+    | inr off ↦ absurd (none (are_mixed i ∙ of_one (λ (n : ℕ). are_other same (own i) (own n)) k (targets next i) l (apart v w (own i) (own k) x y off)))
+  ]
+
+  unmixed_at : (i b k : ℕ) → (SomeLedTo d IsMixed i → ⊥) → Reaches next i b → Leads next b k → IsMixed b → ⊥
+  unmixed_at i b k none r l e = none (b, (led_along d next sources r (here (let c = sources.count in let h = within next b k l in omega (arith, c, h)) refl), e))
+
+  -- a path from a name that leads to no mixed one
+  steps : {i k : ℕ} (v w : T) → (SomeLedTo d IsMixed i → ⊥) → Reaches next i k → own i ≡ Some v → own k ≡ Some w → same v w ≡ true
+  steps {i = i} {k = k} v w none (edge l) x y =
+      step i k v w (λ e. none (i, (here (let c = sources.count in let h = within next i k l in omega (arith, c, h)) refl, e))) l x y
+  steps {i = i} v w none (further {b = b} {c = k} r l) x y =
+      let p = represents k w y in
+      let m = directly d b k (sources.direct b k l) in
+      let u = has_own b p.number w (higher m.e m.by.operation k m.is m.what m.by.listed m.by.declared p.meant) p.is in
+      law.congr v u.0 w (steps v u.0 none r x u.1) ∙ step b k u.0 w (unmixed_at i b k none r l) l u.1 y
+
   agrees : {i j : ℕ} (t : T) → (SomeLedTo d IsMixed i → ⊥) → MayMean d i j → value j ≡ Some t → Agrees i t
   agrees {i = i} {j = j} t none (itself e is other alike) at =
       let o = has_own i j t (itself e is other alike) at in
@@ -131,26 +161,12 @@ module _ {T : Type 0} (d : DescriptionTree) (same : T → T → Bool) (law : IsE
       let v : o.0 ≡ t = some_same o.0 t (sym r.is ∙ ap value k ∙ at) in
       record { representative = o.0; is = o.1; alike = subst (λ (u : T). same o.0 u ≡ true) v (law.refl o.0) }
   agrees {i = i} {j = j} t none (higher e p k is what h there more) at =
-      let a = agrees t (λ some. none (some.0, (onward edge some.1.0, some.1.1))) more at in
+      let a = agrees t (λ some. none (some.0, (onward direct some.1.0, some.1.1))) more at in
       let o = has_own i j t (higher e p k is what h there more) at in
-      record { representative = o.0; is = o.1; alike = law.congr o.0 a.representative t (step o.0 a.representative o.1 a.is) ∙ a.alike }
+      record { representative = o.0; is = o.1; alike = law.congr o.0 a.representative t (steps o.0 a.representative none (sources.reached i k direct) o.1 a.is) ∙ a.alike }
     where
-      edge : is_in k (direct_meanings d i) ≡ true
-      edge = means_directly d i p k e is what h there
-
-      apart : (v w : T) (x y : Option T) → x ≡ Some v → y ≡ Some w → same v w ≡ false → are_other same x y ≡ true
-      apart v w None y f g off = absurd (cc f)
-      apart v w (Some a) None f g off = absurd (cc g)
-      apart v w (Some a) (Some b) f g off =
-          let l : a ≡ v = some_same a v f in
-          let r : b ≡ w = some_same b w g in
-          ap (λ (u : T). not (same u b)) l ∙ ap (λ (u : T). not (same v u)) r ∙ ap not off
-
-      step : (v w : T) → own i ≡ Some v → own k ≡ Some w → same v w ≡ true
-      step v w x y = elim (cases_Bool (same v w)) [
-        | inl on ↦ on
-        | inr off ↦ absurd (none (i, (here (slice_get_within (entries d) i e is) refl, are_mixed i ∙ of_one (λ (n : ℕ). are_other same (own i) (own n)) k (direct_meanings d i) edge (apart v w (own i) (own k) x y off))))
-      ]
+      direct : is_in k (direct_meanings d i) ≡ true
+      direct = means_directly d i p k e is what h there
 
   pub unmixed : (i : ℕ) → (SomeLedTo d IsMixed i → ⊥) → Differ d same value i → ⊥
   unmixed i none x =

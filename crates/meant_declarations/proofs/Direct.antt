@@ -14,7 +14,7 @@ use Rattle.lisa_tree.specs.declared.declared.What.TheVariants as whats
 use Rattle.lisa_tree.specs.Same.{same_name}
 use Rattle.lisa_tree.specs.Declarations.{Entry, entries, declared_at, what_at, is_reference, above}
 use Rattle.graph_paths.specs.Paths.{targets, is_in, AreNodes}
-use Rattle.meant_declarations.specs.Meanings.{declared_by, direct_meanings}
+use Rattle.meant_declarations.specs.Meanings.{declared_by, direct_meanings, AreSources}
 use Rattle.meant_declarations.specs.Walks.{is_declaration}
 
 pub one_operation : (d : DescriptionTree) (n : List ℕ) (all : List ℕ) (i : ℕ) → i < length all → declared_by d n (drop i all) ≡ option_to_list (declared_at d (get_or all i 0) n) ++ declared_by d n (drop (i + 1) all)
@@ -34,7 +34,7 @@ means_past d i h = let none : what_at d i ≡ None = rw (slice_get_past (entries
 below : (k n i : ℕ) → ◌≡◌ {A = Option ℕ} (cond (nat_lt k n) (Some k) None) (Some i) → i < n
 below k n i e = grind (arith, nat_tests)
 
-declared_below : (d : DescriptionTree) (o : ℕ) (n : List ℕ) (i : ℕ) → declared_at d o n ≡ Some i → i < length (entries d)
+pub declared_below : (d : DescriptionTree) (o : ℕ) (n : List ℕ) (i : ℕ) → declared_at d o n ≡ Some i → i < length (entries d)
 declared_below d o n i e = below (position_or_len (λ (x : Entry). nat_eq x.operation o && same_name n x.name) (entries d)) (length (entries d)) i e
 
 in_option : (k : ℕ) (r : Option ℕ) → is_in k (option_to_list r) ≡ true → r ≡ Some k
@@ -113,8 +113,8 @@ means_directly d i p k e is what h at =
 pub meant_below : (d : DescriptionTree) (i k : ℕ) → is_in k (direct_meanings d i) ≡ true → k < length (entries d)
 meant_below d i k h = let m = directly d i k h in declared_below d m.by.operation m.e.name k m.by.declared
 
-pub meanings_are_nodes : (d : DescriptionTree) (next : List (Vec ℕ)) → length next ≡ length (entries d) → ((i : ℕ) → targets next i ≡ direct_meanings d i) → AreNodes next
-meanings_are_nodes d next count direct i k h = let l : k < length (entries d) = meant_below d i k (sym (ap (is_in k) (direct i)) ∙ h) in omega (arith, l, count)
+pub sources_are_nodes : (d : DescriptionTree) (next : List (Vec ℕ)) → AreSources d next → AreNodes next
+sources_are_nodes d next are i k h = let l : k < length (entries d) = meant_below d i k (are.direct i k h) in let c = are.count in omega (arith, l, c)
 
 pub nothing_past : (d : DescriptionTree) (i : ℕ) → length (entries d) ≤ i → is_declaration (what_at d i) ≡ false
 nothing_past d i h = let none : what_at d i ≡ None = rw (slice_get_past (entries d) i h) refl in ap is_declaration none

@@ -8,10 +8,11 @@ use Rattle.lisa_tree.specs.declared.declared.What.TheVariants as whats
 use Rattle.lisa_tree.specs.Declarations.{Entry, entries, what_at}
 use Rattle.lisa_tree.specs.Paths.{refers}
 use Rattle.std.specs.Option.{is_some}
-use Rattle.graph_paths.specs.Paths.{is_in, saw, AreNodes}
+use Rattle.std.specs.Global.{Vec}
+use Rattle.graph_paths.specs.Paths.{is_in, saw, AreNodes, Reaches, edge, more as longer}
 use Rattle.graph_paths.proofs.Long.{within}
 use Rattle.meant_declarations.specs.Meant.{MayMean, itself, higher, IsFound}
-use Rattle.meant_declarations.specs.Meanings.{Meant, AreMeanings, LeadsTo, here, onward, SomeLedTo}
+use Rattle.meant_declarations.specs.Meanings.{Meant, AreSources, AreMeanings, LeadsTo, here, onward, SomeLedTo}
 use Rattle.meant_declarations.specs.Walks.{Comes, here as still, onward as further, IsOrigin, is_declaration}
 use Rattle.meant_declarations.proofs.Direct.{directly, means_directly}
 
@@ -63,17 +64,26 @@ module _ (d : DescriptionTree) where
   through {k = k} (here h same) m = subst (λ (z : ℕ). MayMean d z k) (sym same) m
   through (onward {k = l} h more) m = let n = directly d _ l h in higher n.e n.by.operation l n.is n.what n.by.listed n.by.declared (through more m)
 
+  -- what is led to by what is reached
+  pub led_along : (next : List (Vec ℕ)) → AreSources d next → {i b j : ℕ} → Reaches next i b → LeadsTo d b j → LeadsTo d i j
+  led_along next are {i = i} {b = b} (edge l) on = onward (are.direct i b l) on
+  led_along next are (longer {b = k} {c = b} r l) on = led_along next are r (onward (are.direct k b l) on)
+
   module _ (m : Meant) (are : AreMeanings d m) where
+    along : {i k j : ℕ} → Reaches m.next i k → Comes m.back j k → Comes m.back j i
+    along {i = i} {k = k} (edge l) c = further c (are.back i k ∙ l)
+    along (longer {b = b} {c = k} r l) c = along r (further c (are.back b k ∙ l))
+
     pub comes : {i j : ℕ} → LeadsTo d i j → Comes m.back j i
     comes (here h same) = still (subst (λ (z : ℕ). z < length m.back) same (let c = are.back_count in omega (arith, c, h))) (sym same)
-    comes (onward {i = i} {k = k} h more) = further (comes more) (are.back i k ∙ h)
+    comes (onward {i = i} {k = k} h more) = along (are.sources.reached i k h) (comes more)
 
     pub led : {i j : ℕ} → Comes m.back j i → LeadsTo d i j
     led (still h same) = here (subst (λ (z : ℕ). z < length (entries d)) same (let c = are.back_count in omega (arith, c, h))) (sym same)
-    led (further {b = k} {c = i} r l) = onward (sym (are.back i k) ∙ l) (led r)
+    led (further {b = k} {c = i} r l) = onward (are.sources.direct i k (sym (are.back i k) ∙ l)) (led r)
 
     pub back_nodes : AreNodes m.back
-    back_nodes k i h = let l = within m.next i k (ap (is_in k) (are.direct i) ∙ sym (are.back i k) ∙ h) in let c = are.count in let b = are.back_count in omega (arith, l, c, b)
+    back_nodes k i h = let l = within m.next i k (sym (are.back i k) ∙ h) in let c = are.sources.count in let b = are.back_count in omega (arith, l, c, b)
 
     -- where a walk came from is a marked name that is led to
     pub reached : (marked : List Bool) (i : ℕ) (r : Option ℕ) → IsOrigin m.back marked i r → (is_some r ≡ true) ↔ SomeLedTo d (λ j. saw marked j ≡ true) i

@@ -1,17 +1,17 @@
-//! What references directly mean.
+//! What operations declare by a name.
 
-ghost use Rattle.std.specs.Prelude.{◌≡◌, ◌++◌, ℕ, IfOk, OnOk, length};
+ghost use Rattle.std.specs.Prelude.{◌≡◌, ◌++◌, IfOk, OnOk};
 ghost use Rattle.std.specs.Option.{option_to_list};
-ghost use Rattle.lisa_tree.specs.Declarations.{entries, is_reference, declared_at};
-ghost use Rattle.graph_paths.specs.Paths.{targets};
-ghost use Rattle.meant_declarations.specs.Meanings.{declared_by, direct_meanings};
+ghost use Rattle.lisa_tree.specs.Declarations.{is_reference, declared_at};
+ghost use Rattle.meant_declarations.specs.Meanings.{declared_by};
 ghost use Rattle.meant_declarations.specs.Walks.{is_declaration};
 
 use lisa_tree::{Names, What};
 use lisa_words::Name;
 use std::alloc::{AllocError, Global};
 
-fn is_reference(what: Option<What>) -> bool
+/// Whether a declared name is a reference.
+pub(crate) fn is_reference(what: Option<What>) -> bool
     ensures { result ≡ is_reference what }
 {
     match what {
@@ -45,9 +45,9 @@ fn add_declared<N: Names>(
     Ok(())
 }
 
-// What operations declare by a name.
+/// What operations declare by a name.
 #[tactic(auto, using(crate::proofs::Direct::one_operation, crate::proofs::Direct::regroup))]
-fn declared_by<N: Names>(
+pub(crate) fn declared_by<N: Names>(
     alloc: Global,
     names: &N,
     name: &Name,
@@ -60,36 +60,4 @@ fn declared_by<N: Names>(
         add_declared(names, operation, name, &mut found)?;
     }
     Ok(found)
-}
-
-// What a declared name directly means.
-fn direct_meanings<N: Names>(
-    alloc: Global,
-    names: &N,
-    entry: usize,
-) -> Result<Vec<usize>, AllocError>
-    ensures { IfOk result (λ found. found.items ≡ direct_meanings (N.tree names.now) entry) }
-{
-    if !is_reference(names.what_at(entry)) {
-        return Ok(Vec::new(alloc));
-    }
-    match names.name_at(entry) {
-        None => Ok(Vec::new(alloc)),
-        Some(name) => declared_by(alloc, names, name, names.above(names.owner_at(entry))),
-    }
-}
-
-/// What each declared name directly means.
-pub(crate) fn all_direct_meanings<N: Names>(
-    alloc: Global,
-    names: &N,
-) -> Result<Vec<Vec<usize>>, AllocError>
-    ensures count { IfOk result (λ next. length next.items ≡ length (entries (N.tree names.now))) }
-    ensures direct { IfOk result (λ next. (i : ℕ) → targets next.items i ≡ direct_meanings (N.tree names.now) i) }
-{
-    let mut next = Vec::new(alloc);
-    for entry in 0..names.entry_count() {
-        next.push(direct_meanings(alloc, names, entry)?)?;
-    }
-    Ok(next)
 }

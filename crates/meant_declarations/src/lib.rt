@@ -2,9 +2,14 @@
 //! a reference too, what it means.
 #![tactic(auto)]
 
+mod declaring;
 mod differing;
 mod directly;
+mod lacking;
 mod meanings;
+mod sources;
 mod walking;
 
+pub use lacking::lacking_references;
 pub use meanings::Meanings;
+pub use sources::reference_sources;

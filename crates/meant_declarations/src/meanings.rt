@@ -1,23 +1,24 @@
 //! What holds of the declarations that a declared name may mean.
 
-ghost use Rattle.std.specs.Prelude.{◌≡◌, ◌<◌, ◌↔◌, ◌&&◌, ℕ, true, length, IfOk};
+ghost use Rattle.std.specs.Prelude.{◌≡◌, ◌↔◌, ◌&&◌, ℕ, true, length, IfOk};
 ghost use Rattle.lisa_tree.specs.Declarations.{entries, what_at};
-ghost use Rattle.graph_paths.specs.Paths.{saw, targets};
+ghost use Rattle.graph_paths.specs.Paths.{saw};
 ghost use Rattle.least_fixed_points.specs.Settles.{entry};
 ghost use Rattle.meant_declarations.specs.Meant.{IsFound, Differ};
-ghost use Rattle.meant_declarations.specs.Meanings.{Meant, AreMeanings, SomeLedTo, direct_meanings};
+ghost use Rattle.meant_declarations.specs.Meanings.{Meant, AreMeanings, SomeLedTo};
 ghost use Rattle.meant_declarations.specs.Walks.{is_declaration};
 
 use crate::differing::{found_values, mixed};
-use crate::directly::{all_direct_meanings, is_declaration};
+use crate::directly::is_declaration;
+use crate::sources::reference_sources;
 use crate::walking::{are_some, is_marked, origins};
-use graph_paths::{reversed, row};
+use graph_paths::reversed;
 use lisa_tree::Names;
 use lisa_words::NoMemory;
 use std::alloc::{AllocError, Global};
 use std::marker::Model;
 
-/// What each declared name of a description directly means, both ways. It is to be used with the names from which it was made.
+/// To what the references of a description lead, both ways: to some of their direct meanings, from which the others are reached. It is to be used with the names from which it was made.
 #[derive(Drop)]
 pub struct Meanings {
     next: Vec<Vec<usize>>,
@@ -46,26 +47,24 @@ fn marked_declarations<N: Names>(
 }
 
 impl Meanings {
-    /// Looks up what each reference directly means.
+    /// Looks up to what each reference leads.
     pub fn make<N: Names>(alloc: Global, names: &N) -> Result<Meanings, NoMemory>
         ensures { IfOk result (λ m. AreMeanings (N.tree names.now) m) }
     {
-        let next = all_direct_meanings(alloc, names)?;
+        let next = reference_sources(alloc, names)?;
         let back = reversed(alloc, &next)?;
         Ok(Meanings { next, back })
     }
 
-    /// What a declared name directly means.
-    pub fn direct<N: Names>(&self, names: &N, entry: usize) -> &[usize]
-        requires meanings { AreMeanings (N.tree names.now) self.now }
-        requires entry { entry < length (entries (N.tree names.now)) }
-        ensures { result.now ≡ direct_meanings (N.tree names.now) entry }
+    /// To which of what they directly mean the declared names lead.
+    pub fn sources(&self) -> &[Vec<usize>]
+        ensures { result.now ≡ self.now.next }
     {
-        row(&self.next, entry)
+        &self.next
     }
 
     /// For each declared name a marked declaration that it may mean, if there is one. Marks on references count nothing. The time is in
-    /// proportion to the declared names and the direct meanings.
+    /// proportion to the declared names and the edges between them.
     pub fn find<N: Names>(
         &self,
         alloc: Global,

@@ -15,8 +15,8 @@ module_limit = 134217728
 abbrev pub GivesClock : Task → RunBytes → (input : List ℕ) → Outcome → Type 0
 GivesClock task bytes input = AfterDesign bytes (λ d. GivesMade task (clock_machine d) d.memories (schedule_bytes bytes.schedule) input)
 
--- the input failed over the clock of what the files spell
-pub record IsCutClock (bytes : RunBytes) (left rest before after : Option (List ℕ)) : Type 0 where
+-- the input failed in a task over the clock of what the files spell
+pub record IsCutClock (task : Task) (bytes : RunBytes) (left rest before after : Option (List ℕ)) : Type 0 where
   pub design : Design
   pub spelled : IsDesign bytes design
-  pub cut : IsCutMade (clock_machine design) design.memories (schedule_bytes bytes.schedule) left rest before after
+  pub cut : IsCutMade task (clock_machine design) design.memories (schedule_bytes bytes.schedule) left rest before after

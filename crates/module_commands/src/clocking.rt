@@ -25,26 +25,26 @@ fn do_with_parts<I: Source, O: Flush>(
     alloc: Global,
     parts: &Parts,
     task: Task,
-    schedule: &[u8],
+    third: &[u8],
     input: &mut I,
     out: &mut O,
 ) -> Result<(), End>
     requires clockable { IsClockable (module_tree parts.now.clocked) }
     requires kept { IsImage parts.now.image }
-    requires short { length schedule.now < 2 ^ 32 }
-    ensures ends { Ends (IsHeard task (I.left input.old)) (GivesMade task (clock_machine (design_of parts.now)) parts.now.image schedule.now)
+    requires short { length third.now < 2 ^ 32 }
+    ensures ends { Ends (IsHeard task (I.left input.old)) (GivesMade task (clock_machine (design_of parts.now)) parts.now.image third.now)
         (HasFailed task (I.faults input.old) (I.faults input.new)
-        × IsCutMade (clock_machine (design_of parts.now)) parts.now.image schedule.now (I.left input.old) (I.left input.new) (O.written out.old) (O.written out.new))
+        × IsCutMade task (clock_machine (design_of parts.now)) parts.now.image third.now (I.left input.old) (I.left input.new) (O.written out.old) (O.written out.new))
         (O.written out.old) (O.written out.new) (O.faults out.old) (O.faults out.new) result }
     ensures input { takes_input task ≡ false → (I.left input.new ≡ I.left input.old) × (I.faults input.new ≡ I.faults input.old) }
     ensures later { I.faults input.old ≤ I.faults input.new }
 {
     let made = Clock::make(alloc, &parts.clocked, &parts.image);
-    do_made(alloc, made, task, schedule, input, out)
+    do_made(alloc, made, task, third, input, out)
 }
 
 /// Does a task over the clock of a module, which the first of a run's files spells, with an image and a schedule where these aren't left
-/// out.
+/// out; on a board the third file is the board.
 pub fn do_with_module<I: Source, O: Flush>(
     alloc: Global,
     bytes: &RunBytes<'_>,
@@ -56,7 +56,7 @@ pub fn do_with_module<I: Source, O: Flush>(
     requires image { IfSome (bytes_of bytes.now).image (λ image. length image < 2 ^ 32) }
     requires schedule { length (schedule_bytes (bytes_of bytes.now).schedule) < 2 ^ 32 }
     ensures ends { Ends (IsHeard task (I.left input.old)) (GivesClock task (bytes_of bytes.now))
-        (HasFailed task (I.faults input.old) (I.faults input.new) × IsCutClock (bytes_of bytes.now) (I.left input.old) (I.left input.new) (O.written out.old) (O.written out.new))
+        (HasFailed task (I.faults input.old) (I.faults input.new) × IsCutClock task (bytes_of bytes.now) (I.left input.old) (I.left input.new) (O.written out.old) (O.written out.new))
         (O.written out.old) (O.written out.new) (O.faults out.old) (O.faults out.new) result }
     ensures input { takes_input task ≡ false → (I.left input.new ≡ I.left input.old) × (I.faults input.new ≡ I.faults input.old) }
     ensures later { I.faults input.old ≤ I.faults input.new }

@@ -1,4 +1,4 @@
-//! The commands on a module of the Verilog subset, which clock it: `clock`, `clocktrace` and `vdebug`.
+//! The commands on a module of the Verilog subset, which clock it: `clock`, `clocktrace`, `vvcd`, `vboard` and `vdebug`.
 //!
 //! `specs/Clocks.antt` says what each gives.
 #![tactic(auto)]

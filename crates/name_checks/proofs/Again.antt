@@ -1,13 +1,9 @@
 -- Names that stand again, by the set of those that were seen.
-use Rattle.std.proofs.Common.{◌≡◌, ◌<◌, ◌+◌, ℕ, suc, Bool, true, false, List, [], ◌∷◌, ◌++◌, length, map, get_or, drop, drop-cons, Some, cond, ◌||◌, refl, ap, sym, ◌∙◌, add-one}
+use Rattle.std.proofs.Common.{◌≡◌, ◌<◌, ◌+◌, ℕ, suc, Bool, true, false, List, [], ◌∷◌, ◌++◌, length, get_or, drop, drop-cons, Some, cond, ap, sym, ◌∙◌, add-one}
 use Rattle.std.specs.List.{list_any}
 use Rattle.lisa_tree.specs.declared.tokens.Shape.{Shape}
 use Rattle.lisa_tree.specs.Same.{same_name}
 use Rattle.name_checks.specs.Doubled.{again_in, field_names}
-
-pub any_of_map : {X Y : Type 0} (f : X → Y) (test : Y → Bool) (xs : List X) → list_any (λ x. test (f x)) xs ≡ list_any test (map f xs)
-any_of_map f test [] = refl
-any_of_map f test (x ∷ xs) = ap (λ (rest : Bool). test (f x) || rest) (any_of_map f test xs)
 
 -- the name at an index stands again
 pub again_here : (names : List (List ℕ)) (seen : List (List ℕ)) (i : ℕ) (n : List ℕ) → i < length names → n ≡ get_or names i n → list_any (same_name n) seen ≡ true → again_in seen (drop i names) ≡ Some n

@@ -1,3 +1,4 @@
 pub mod Again
 pub mod Fronts
 pub mod Arms
+pub mod Loose

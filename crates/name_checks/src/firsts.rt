@@ -10,6 +10,7 @@ use crate::unknown::Unknown;
 use description_places::first_fault;
 use lisa_tree::{DescFault, Names};
 use lisa_words::NoMemory;
+use meant_declarations::{Meanings, lacking_references};
 use std::alloc::Global;
 
 /// The first name that two things of one class share, or of what stands twice.
@@ -19,9 +20,17 @@ pub fn first_duplicate<N: Names>(alloc: Global, names: &N) -> Result<Option<Desc
     first_fault(alloc, &Doubled { alloc, names }, names.description())
 }
 
-/// The first name that stands for nothing.
+/// The first name that stands for nothing. What operations above a reference's own declare by its name isn't looked up for each of them
+/// again where one of them hands it on.
 pub fn first_unknown<N: Names>(alloc: Global, names: &N) -> Result<Option<DescFault>, NoMemory>
     ensures { IfOk result (λ found. found ≡ first (unknown (N.tree names.now)) (description_places (N.tree names.now))) }
 {
-    first_fault(alloc, &Unknown { alloc, names }, names.description())
+    let meanings = Meanings::make(alloc, names)?;
+    let lacking = lacking_references(alloc, names, &meanings)?;
+    let condition = Unknown {
+        alloc,
+        names,
+        lacking: &lacking,
+    };
+    first_fault(alloc, &condition, names.description())
 }

@@ -4,6 +4,7 @@ ghost use Rattle.std.specs.Prelude.{◌≡◌, IfOk};
 ghost use Rattle.lisa_tree.specs.Descriptions.{description_tree};
 ghost use Rattle.lisa_tree.specs.Resources.{is_pipe_at, is_pipeline};
 ghost use Rattle.lisa_tree.specs.Operations.{name_at};
+ghost use Rattle.graph_paths.specs.Paths.{saw};
 ghost use Rattle.name_checks.specs.Doubled.{earlier, is_taken};
 ghost use Rattle.name_checks.specs.Unknown.{is_something, stands, is_known, is_stage, is_main};
 
@@ -92,4 +93,16 @@ pub fn is_stage<N: Names>(names: &N, pipe: &Name, stage: &Name) -> bool
     ensures { result ≡ is_stage (N.tree names.now) pipe.now stage.now }
 {
     is_pipeline(names, pipe) && names.stage_at(stage).is_some()
+}
+
+/// A mark of a declared name, by a table. There is none past its end.
+#[tactic(auto, using(graph_paths::proofs::Seen::saw_at, graph_paths::proofs::Seen::saw_past))]
+pub fn mark_at(marks: &[bool], entry: usize) -> bool
+    ensures { result ≡ saw marks.now entry }
+{
+    if entry < marks.len() {
+        marks[entry]
+    } else {
+        false
+    }
 }

@@ -8,18 +8,21 @@ ghost use Rattle.lisa_tree.specs.Resources.{is_pipe};
 ghost use Rattle.name_checks.specs.Doubled.{again_in, field_names, is_fields, is_of, list_fault};
 
 use description_places::Region;
-use indexmap::IndexSet;
 use lisa_tree::{DescFault, Resource, Section, Shape};
 use lisa_words::{Name, NoMemory};
+use name_tables::NameSet;
 use std::alloc::Global;
 
 // Whether the name is there already; otherwise it is put in.
-fn is_again<'a>(seen: &mut IndexSet<&'a Name>, name: &'a Name) -> Result<bool, NoMemory>
-    ensures again { IfOk result (λ again. again ≡ list_any (same_name name.now) (map (λ (n : _). n.now) seen.old.keys)) }
-    ensures seen { IfOk result (λ again. again ≡ false → map (λ (n : _). n.now) seen.new.keys ≡ map (λ (n : _). n.now) seen.old.keys ++ name.now ∷ []) }
+fn is_again(seen: &mut NameSet, name: &Name) -> Result<bool, NoMemory>
+    ensures again { IfOk result (λ again. again ≡ list_any (same_name name.now) seen.old.keys.items) }
+    ensures seen { IfOk result (λ again. again ≡ false → seen.new.keys.items ≡ seen.old.keys.items ++ name.now ∷ []) }
 {
-    let is_new = seen.insert(name)?;
-    Ok(!is_new)
+    if seen.contains(name) {
+        return Ok(true);
+    }
+    seen.insert(name)?;
+    Ok(false)
 }
 
 // The first name that an earlier one equals.
@@ -27,7 +30,7 @@ fn is_again<'a>(seen: &mut IndexSet<&'a Name>, name: &'a Name) -> Result<bool, N
 fn first_again<'a>(alloc: Global, names: &'a [Name]) -> Result<Option<&'a Name>, NoMemory>
     ensures { IfOk result (λ found. option_copied found ≡ again_in [] names.now) }
 {
-    let mut seen = IndexSet::new(alloc);
+    let mut seen = NameSet::new(alloc);
     for name in names {
         if is_again(&mut seen, name)? {
             return Ok(Some(name));
@@ -44,7 +47,7 @@ fn first_field_again<'a>(
 ) -> Result<Option<&'a Name>, NoMemory>
     ensures { IfOk result (λ found. option_copied found ≡ again_in [] (field_names fields.now)) }
 {
-    let mut seen = IndexSet::new(alloc);
+    let mut seen = NameSet::new(alloc);
     for (_, name) in fields {
         if is_again(&mut seen, name)? {
             return Ok(Some(name));

@@ -1,15 +1,16 @@
 //! Names that stand for nothing.
 
-ghost use Rattle.std.specs.Prelude.{◌≡◌, ◌||◌, List, ℕ, IfOk, nat_eq, length};
-ghost use Rattle.std.specs.List.{list_any};
+ghost use Rattle.std.specs.Prelude.{◌≡◌, ◌||◌, ◌&&◌, IfOk, nat_eq, length};
 ghost use Rattle.lisa_tree.specs.Expressions.{expr_tree};
 ghost use Rattle.lisa_tree.specs.Statements.{head_tree};
 ghost use Rattle.lisa_tree.specs.Descriptions.{resource_tree, operation_tree};
 ghost use Rattle.lisa_tree.specs.Operations.{name_at};
-ghost use Rattle.lisa_tree.specs.Declarations.{declared_at, is_reference};
-ghost use Rattle.name_checks.specs.Unknown.{unknown_fault, pipe_unknown, resource_unknown, head_unknown, operation_unknown, alternatives_unknown, lacks, is_loose, what_of, reference_unknown, part_unknown, register_unknown, root_unknown, name_unknown, field_unknown, stage_unknown, control_unknown, behind_unknown, boundary_unknown, counter_unknown, stands, unknown};
+ghost use Rattle.lisa_tree.specs.Declarations.{declared_at, what_at, is_reference, above};
+ghost use Rattle.graph_paths.specs.Paths.{saw};
+ghost use Rattle.name_checks.specs.Marks.{AreLacking};
+ghost use Rattle.name_checks.specs.Unknown.{unknown_fault, pipe_unknown, resource_unknown, head_unknown, operation_unknown, alternatives_unknown, is_main, is_loose, what_of, reference_unknown, part_unknown, register_unknown, root_unknown, name_unknown, field_unknown, stage_unknown, control_unknown, behind_unknown, boundary_unknown, counter_unknown, stands, unknown};
 
-use crate::lookups::{is_known, is_main, is_stage, name_at, stands};
+use crate::lookups::{is_known, is_main, is_stage, mark_at, name_at, stands};
 use description_places::{Condition, Region, Scope, Site};
 use lisa_tree::{BoundaryField, DescFault, Expr, ForHead, Names, Operation, Resource, What};
 use lisa_words::{Name, NoMemory};
@@ -17,9 +18,12 @@ use std::alloc::Global;
 
 /// The condition that each name stands for something where it is used, and that each operation above a reference has its name.
 #[derive(Drop)]
-pub struct Unknown<'a, N> {
+pub struct Unknown<'a, N: Names> {
     pub alloc: Global,
     pub names: &'a N,
+    /// Which references have a name that some operation above their own lacks.
+    pub lacking: &'a [bool],
+    ghost exact: { AreLacking (N.tree names.now) lacking.now },
 }
 
 // The fault of a name in an operation that is named, unless it was found.
@@ -34,43 +38,39 @@ fn unknown_in(operation: &Name, found: bool, name: &Name) -> Result<Option<DescF
     Ok(Some(DescFault::Unknown { operation, name }))
 }
 
-// Whether an operation lacks the name.
-fn lacks<N: Names>(names: &N, name: &Name, operation: usize) -> bool
-    ensures { result ≡ lacks (N.tree names.now) name.now operation }
+// Whether a declared name is a reference.
+fn is_reference<N: Names>(names: &N, entry: usize) -> bool
+    ensures { result ≡ is_reference (what_at (N.tree names.now) entry) }
 {
-    names.declared_at(operation, name).is_none()
+    matches!(names.what_at(entry), Some(What::Reference))
 }
 
-// Whether an operation above lacks the name.
-fn is_lacking<N: Names>(names: &N, name: &Name, above: &[usize]) -> bool
-    ensures { result ≡ list_any (lacks (N.tree names.now) name.now) above.now }
+// Whether nothing stands above the operation that declares a name, or the name is marked.
+fn is_marked_loose<N: Names>(names: &N, lacking: &[bool], operation: usize, entry: usize) -> bool
+    ensures { result ≡ (is_main (N.tree names.now) operation || nat_eq (length (above (N.tree names.now) operation)) 0 || saw lacking.now entry) }
 {
-    for operation in above {
-        if lacks(names, name, *operation) {
-            return true;
-        }
-    }
-    false
+    is_main(names.description(), operation)
+        || names.above(operation).is_empty()
+        || mark_at(lacking, entry)
 }
 
-// Whether a reference has not its name in each operation above its own.
-fn is_loose<N: Names>(names: &N, operation: usize, name: &Name) -> bool
-    ensures { result ≡ is_loose (N.tree names.now) operation name.now }
+fn are_both(one: bool, other: bool) -> bool
+    ensures { result ≡ (one && other) }
 {
-    if is_main(names.description(), operation) {
-        return true;
-    }
-    let above = names.above(operation);
-    above.is_empty() || is_lacking(names, name, above)
+    one && other
 }
 
-// Whether the name that an operation declares is a reference.
-fn is_reference<N: Names>(names: &N, operation: usize, name: &Name) -> bool
-    ensures { result ≡ is_reference (what_of (N.tree names.now) (declared_at (N.tree names.now) operation name.now)) }
+// Whether the name that an operation declares is a reference that has not its name in each operation above its own.
+fn is_loose<N: Names>(names: &N, lacking: &[bool], operation: usize, name: &Name) -> bool
+    requires { AreLacking (N.tree names.now) lacking.now }
+    ensures { result ≡ (is_reference (what_of (N.tree names.now) (declared_at (N.tree names.now) operation name.now)) && is_loose (N.tree names.now) operation name.now) }
 {
     match names.declared_at(operation, name) {
         None => false,
-        Some(entry) => matches!(names.what_at(entry), Some(What::Reference)),
+        Some(entry) => are_both(
+            is_reference(names, entry),
+            is_marked_loose(names, lacking, operation, entry),
+        ),
     }
 }
 
@@ -131,8 +131,7 @@ impl<'a, N: Names> Unknown<'a, N> {
     fn declared(&self, operation: usize, name: &Name) -> Result<Option<DescFault>, NoMemory>
         ensures { IfOk result (λ fault. fault ≡ reference_unknown (N.tree self.now.names.now) operation name.now) }
     {
-        let loose = is_reference(self.names, operation, name)
-            && is_loose(self.names, operation, name);
+        let loose = is_loose(self.names, self.lacking, operation, name);
         self.fault(operation, !loose, name)
     }
 

@@ -54,7 +54,7 @@ next_last (Some k) b n = refl
 next_last None true n = refl
 next_last None false n = refl
 
-placed_behind : (names : List (List ℕ)) (last name : List ℕ) → place_in (names ++ last ∷ []) name ≡ option_or (place_in names name) (last_place (bytes_eq name last) (length names))
+pub placed_behind : (names : List (List ℕ)) (last name : List ℕ) → place_in (names ++ last ∷ []) name ≡ option_or (place_in names name) (last_place (bytes_eq name last) (length names))
 placed_behind [] last name = go (bytes_eq name last)
   where
     go : (b : Bool) → (if b then Some 0 else option_map suc None) ≡ option_or None (if b then Some 0 else None)

@@ -1,7 +1,8 @@
 // Names that are put into ordered sets and tables.
 #![tactic(auto, using(crate::proofs::TableLaws::put_one, crate::proofs::TableLaws::entered))]
 
-ghost use Rattle.std.specs.Prelude.{◌≡◌, ◌||◌, not, List, ℕ, Some, IfOk, OnOk, if◌then◌else◌};
+ghost use Rattle.std.specs.Prelude.{◌≡◌, ◌||◌, not, List, ℕ, None, Some, IfOk, OnOk, if◌then◌else◌};
+ghost use Rattle.std.specs.Option.{option_or};
 ghost use Rattle.std.specs.Str.{bytes_eq};
 ghost use Rattle.name_tables.specs.TableViews.{has_name, value_of};
 
@@ -27,4 +28,19 @@ pub fn put_value<V: Drop>(
 {
     table.insert(name.clone()?, value)?;
     Ok(())
+}
+
+/// Gives a name its value, where it has none.
+#[tactic(auto, using(crate::proofs::TableLaws::keeps_value, crate::proofs::TableLaws::value_joins))]
+pub fn note_value<V: Copy>(
+    table: &mut BTreeMap<Name, V>,
+    name: &Name,
+    value: V,
+) -> Result<(), AllocError>
+    ensures { OnOk result ((n : List ℕ) → value_of table.new n ≡ option_or (value_of table.old n) (if bytes_eq n name.now then Some value else None)) }
+{
+    if table.get(name).is_some() {
+        return Ok(());
+    }
+    put_value(table, name, value)
 }

@@ -1,19 +1,17 @@
 -- What is noted of names, one after the other.
-use Rattle.std.proofs.Common.{◌≡◌, ◌<◌, ◌+◌, ◌∙◌, ℕ, zero, suc, List, [], ◌∷◌, ◌++◌, ◌⊎◌, inl, inr, Option, None, Some, Bool, true, false, cond, length, get_or, take, refl, sym, ap, subst, arith}
+use Rattle.std.proofs.Common.{◌≡◌, ◌<◌, ◌+◌, ◌∙◌, ℕ, zero, suc, List, [], ◌∷◌, ◌++◌, ◌⊎◌, inl, inr, Option, None, Some, Bool, true, false, cond, length, get_or, refl, sym, ap, subst, arith}
 use Rattle.std.specs.Prelude.{◌≤◌, IsSome, All, slice_get}
-use Rattle.std.specs.Option.{option_map, option_or, option_and_then}
-use Rattle.std.specs.Map.{lookup}
+use Rattle.std.specs.Option.{option_or, option_and_then}
 use Rattle.std.specs.BTreeMap.{BTreeMap}
 use Rattle.std.specs.Borrow.{Bor}
 use Rattle.std.specs.Str.{bytes_eq}
-use Rattle.std.proofs.lemmas.Option.{same_Some, slice_get-get_or, slice_get_cases, slice_get_past, slice_get_within}
-use Rattle.std.proofs.lemmas.List.{length-map, take_more}
+use Rattle.std.proofs.lemmas.Option.{same_Some, slice_get_cases, slice_get_past}
+use Rattle.std.proofs.lemmas.List.{length-map}
 use Rattle.std.proofs.lemmas.Bool.{cases_lt}
 use Rattle.std.proofs.lemmas.Slice.Eq.{bytes_eq-Decides}
 use Rattle.name_tables.specs.TableViews.{value_of}
 use Rattle.noted_names.specs.declared.places.Places.{Places}
-use Rattle.noted_names.specs.Memos.{AgreesWith, IsNoted, places}
-use Rattle.noted_names.specs.Places.{place_of}
+use Rattle.noted_names.specs.Memos.{AgreesWith, IsNoted}
 use Rattle.noted_names.proofs.Kept.{one_more}
 use Rattle.lisa_tree.specs.declared.descriptions.Description.{Description}
 use Rattle.lisa_tree.specs.Descriptions.{DescriptionTree, description_tree, operation_tree}
@@ -102,48 +100,3 @@ one_right d memos new o memo len each is made = one_more (IsMemo d) memos new o 
 
 pub operations_counted : (x : Description) (d : DescriptionTree) → description_tree x ≡ d → length x.operations.items ≡ length d.operations
 operations_counted x d is = sym (length-map x.operations.items operation_tree) ∙ ap (λ (t : DescriptionTree). length t.operations) is
-
--- ---- a row of places
-
-lookup_behind : (n : List ℕ) (es : List (List ℕ × ℕ)) (e : List ℕ × ℕ) → lookup (bytes_eq n) (es ++ e ∷ []) ≡ option_or (lookup (bytes_eq n) es) (cond (bytes_eq n e.0) (Some e.1) None)
-lookup_behind n [] e = go (bytes_eq n e.0)
-  where
-    go : (b : Bool) → cond b (Some e.1) None ≡ option_or None (cond b (Some e.1) None)
-    go b = refl
-lookup_behind n (x ∷ es) e = go (bytes_eq n x.0) (lookup_behind n es e)
-  where
-    go : (b : Bool) → lookup (bytes_eq n) (es ++ e ∷ []) ≡ option_or (lookup (bytes_eq n) es) (cond (bytes_eq n e.0) (Some e.1) None)
-        → cond b (Some x.1) (lookup (bytes_eq n) (es ++ e ∷ [])) ≡ option_or (cond b (Some x.1) (lookup (bytes_eq n) es)) (cond (bytes_eq n e.0) (Some e.1) None)
-    go true is = refl
-    go false is = is
-
--- the first place of a name among these
-abbrev pub placed : List (List ℕ × ℕ) → List ℕ → Option Places
-placed es n = option_map (λ (p : ℕ). places (Some p) None) (lookup (bytes_eq n) es)
-
-pub one_placed : (old new : BTreeMap (List ℕ) Places) (es more : List (List ℕ × ℕ)) (name : List ℕ) (place : ℕ) → ((n : List ℕ) → value_of old n ≡ placed es n) → more ≡ es ++ (name, place) ∷ []
-    → ((n : List ℕ) → value_of new n ≡ option_or (value_of old n) (cond (bytes_eq n name) (Some (places (Some place) None)) None)) → (n : List ℕ) → value_of new n ≡ placed more n
-one_placed old new es more name place before made put n =
-    put n ∙ ap (λ (o : Option Places). option_or o (cond (bytes_eq n name) (Some (places (Some place) None)) None)) (before n)
-    ∙ go (lookup (bytes_eq n) es) (bytes_eq n name)
-    ∙ ap (option_map (λ (p : ℕ). places (Some p) None)) (sym (lookup_behind n es (name, place)) ∙ ap (lookup (bytes_eq n)) (sym made))
-  where
-    go : (o : Option ℕ) (b : Bool) → option_or (option_map (λ (p : ℕ). places (Some p) None) o) (cond b (Some (places (Some place) None)) None) ≡ option_map (λ (p : ℕ). places (Some p) None) (option_or o (cond b (Some place) None))
-    go (Some p) b = refl
-    go None true = refl
-    go None false = refl
-
-pub all_placed : (memo : Memo) (es : List (List ℕ × ℕ)) → ((n : List ℕ) → value_of memo.table n ≡ placed es n) → (n : List ℕ) → place_of memo n ≡ lookup (bytes_eq n) es
-all_placed memo es before n = ap (option_and_then (λ (found : Places). found.first)) (before n) ∙ go (lookup (bytes_eq n) es)
-  where
-    go : (o : Option ℕ) → option_and_then (λ (found : Places). found.first) (option_map (λ (p : ℕ). places (Some p) None) o) ≡ o
-    go None = refl
-    go (Some p) = refl
-
-pub read_entry : (es : List (List ℕ × ℕ)) (i : ℕ) (found : Option (Bor (List ℕ) × Bor ℕ)) (entry : Bor (List ℕ) × Bor ℕ) → option_map (λ (p : Bor (List ℕ) × Bor ℕ). (p.0.now, p.1.now)) found ≡ slice_get es i
-    → found ≡ Some entry → take (i + 1) es ≡ take i es ++ (entry.0.now, entry.1.now) ∷ []
-read_entry es i found entry read is =
-    let at : slice_get es i ≡ Some (entry.0.now, entry.1.now) = sym read ∙ ap (option_map (λ (p : Bor (List ℕ) × Bor ℕ). (p.0.now, p.1.now))) is in
-    let within : i < length es = slice_get_within es i (entry.0.now, entry.1.now) at in
-    take_more es i (entry.0.now, entry.1.now) within
-    ∙ ap (λ (e : List ℕ × ℕ). take i es ++ e ∷ []) (same_Some _ _ (sym (slice_get-get_or es i (entry.0.now, entry.1.now) within) ∙ at))

@@ -8,8 +8,7 @@ use crate::memo::Memo;
 use description_tables::Tables;
 
 /// The names of a description. Those that stand in an operation where it is run, and those that it
-/// declares, are found there by few comparisons; the description's tables, which hash names, answer
-/// for all others.
+/// declares, are found there by few comparisons; the description's tables answer for all others.
 #[derive(Drop)]
 pub struct Noted<'a> {
     pub(crate) tables: Tables<'a>,

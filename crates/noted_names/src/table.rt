@@ -1,55 +1,44 @@
 //! Tables of places.
 
-ghost use Rattle.std.specs.Prelude.{◌≡◌, ℕ, List, None, Some, IfOk, OnOk};
-ghost use Rattle.indexmap.specs.IndexMap.{get};
-ghost use Rattle.lisa_tree.specs.Same.{same_name};
-ghost use Rattle.noted_names.specs.Memos.{Adds, places};
-ghost use Rattle.noted_names.specs.Places.{place_of};
+ghost use Rattle.std.specs.Prelude.{◌≡◌, ℕ, List, None, Some, IfOk, OnOk, if◌then◌else◌};
+ghost use Rattle.std.specs.Option.{option_or};
+ghost use Rattle.std.specs.Str.{bytes_eq};
+ghost use Rattle.noted_names.specs.Places.{place_of, HavePlaces};
 
 use crate::memo::Memo;
 use crate::places::Places;
-use indexmap::IndexMap;
 use lisa_words::Name;
 use std::alloc::{AllocError, Global};
 
-/// Places by names. Each name is noted, so that none is hashed where it is looked up.
+/// Places by names, each name with the place that it was noted with first.
 #[derive(Drop)]
 pub struct PlaceTable {
+    /// The names that are noted.
     pub memo: Memo,
-}
-
-// Notes a name with its place.
-fn note_place(name: &Name, place: usize, memo: &mut Memo) -> Result<(), AllocError>
-    ensures { OnOk result (Adds memo.old.table memo.new.table name.now (places (Some place) None)) }
-{
-    memo.note(
-        name,
-        Places {
-            first: Some(place),
-            second: None,
-        },
-    )
-}
-
-fn memo_of(alloc: Global, table: &IndexMap<Name, usize>) -> Result<Memo, AllocError>
-    ensures { IfOk result (λ memo. (n : List ℕ) → place_of memo n ≡ get same_name table.now n) }
-{
-    let mut memo = Memo::new(alloc, table.len())?;
-    'each: for index in 0..table.len() {
-        if let Some((name, place)) = table.get_index(index) {
-            note_place(name, *place, &mut memo)?;
-        }
-    }
-    Ok(memo)
+    ghost placed: { HavePlaces memo.table },
 }
 
 impl PlaceTable {
-    /// Notes each name of a table with its place there.
-    pub fn make(alloc: Global, table: IndexMap<Name, usize>) -> Result<PlaceTable, AllocError>
-        ensures { IfOk result (λ made. (n : List ℕ) → place_of made.memo n ≡ get same_name table n) }
+    /// Nothing is noted yet; the table is for so many names.
+    #[tactic(auto, using(crate::proofs::Placed::no_place))]
+    pub fn new(alloc: Global, names: usize) -> Result<PlaceTable, AllocError>
+        ensures { IfOk result (λ made. (n : List ℕ) → place_of made.memo n ≡ None) }
     {
-        let memo = memo_of(alloc, &table)?;
+        let memo = Memo::new(alloc, names)?;
         Ok(PlaceTable { memo })
+    }
+
+    /// Notes the place of a name. A name that is noted keeps the place that it has.
+    pub fn note(&mut self, name: &Name, place: usize) -> Result<(), AllocError>
+        ensures { OnOk result ((n : List ℕ) → place_of self.new.memo n ≡ option_or (place_of self.old.memo n) (if bytes_eq n name.now then Some place else None)) }
+    {
+        self.memo.note(
+            name,
+            Places {
+                first: Some(place),
+                second: None,
+            },
+        )
     }
 
     /// The place of a name.

@@ -16,7 +16,7 @@ use Rattle.pattern_tables.specs.declared.table.PatternTable.{PatternTable}
 use Rattle.pattern_tables.specs.Entries.{entry, plain_entries}
 use Rattle.pattern_tables.specs.Tables.{with_mask, entries_of, masks_of, HoldPlain}
 use Rattle.pattern_tables.specs.Probes.{plain_masks, once, look_ups, probe_bound}
-use Rattle.pattern_tables.proofs.Decoding.{in_permutation, table_looks, mask_in}
+use Rattle.pattern_tables.proofs.Decoding.{in_permutation, table_looks, mask_in, size_of}
 
 -- ---- sums
 
@@ -101,11 +101,11 @@ masks_are n (p ∷ ps) (false ∷ bs) = masks_are (suc n) ps bs
 abbrev has_mask : ℕ → Entry → ℕ
 has_mask m e = cond (nat_eq m e.mask) 1 0
 
-table_count : (m : ℕ) (ps ks : List ℕ) → length ks ≡ length ps → sum_by (has_mask m) (with_mask m ps ks) ≡ length ps
-table_count m [] ks l = refl
-table_count m (p ∷ ps) [] l = absurd cc
-table_count m (p ∷ ps) (k ∷ ks) l =
-    sum_by-cons (has_mask m) (entry m p k) (with_mask m ps ks) ∙ ap₂ (λ (a b : ℕ). a + b) (ap (λ (b : Bool). cond b 1 0) (eq-eqb m m refl)) (table_count m ps ks (omega arith)) ∙ omega arith
+table_count : (m : ℕ) (ps ks : List ℕ) → sum_by (has_mask m) (with_mask m ps ks) ≡ length (with_mask m ps ks)
+table_count m [] ks = refl
+table_count m (p ∷ ps) [] = refl
+table_count m (p ∷ ps) (k ∷ ks) =
+    sum_by-cons (has_mask m) (entry m p k) (with_mask m ps ks) ∙ ap₂ (λ (a b : ℕ). a + b) (ap (λ (b : Bool). cond b 1 0) (eq-eqb m m refl)) (table_count m ps ks) ∙ omega arith
 
 part_of : {X : Type 0} (f : Entry → ℕ) (h : X → List Entry) {x : X} {xs : List X} → In x xs → sum_by f (h x) ≤ sum_by f (flat_map h xs)
 part_of f h {x = x} (here {xs = xs}) = let e = sum_by-append f (h x) (flat_map h xs) in omega arith
@@ -120,14 +120,14 @@ module _ (patterns : List BitPattern) (plain : List Bool) (tables : List Pattern
 
   table_below : (t : PatternTable) → In t tables → table_looks t ≤ look_ups (count_by (nat_eq t.mask) (plain_masks patterns plain))
   table_below t i =
-      let own = table_count t.mask t.patterns.items t.forms.items t.level in
+      let own = table_count t.mask t.patterns.items t.forms.items in
       let whole = part_of (has_mask t.mask) entries_of i in
       let all = counted t.mask in
-      looks_grow (length t.patterns.items) (count_by (nat_eq t.mask) (plain_masks patterns plain)) (omega arith)
+      looks_grow (length (entries_of t)) (count_by (nat_eq t.mask) (plain_masks patterns plain)) (omega arith)
 
   mask_used : (t : PatternTable) → In t tables → In t.mask (plain_masks patterns plain)
   mask_used t i =
-      let own = mask_in t.mask t.patterns.items t.forms.items 0 _ t.level (hold.used t i) refl in
+      let own = mask_in t.mask t.patterns.items t.forms.items 0 _ t.level (subst (λ (n : ℕ). 0 < n) (size_of t) (hold.used t i)) refl in
       let e = in_permutation (flat_map entries_of tables) (plain_entries 0 patterns plain) _ (IsPermutation-sym (plain_entries 0 patterns plain) (flat_map entries_of tables) hold.entries) (in_flat entries_of i own) in
       subst (λ (l : List ℕ). In t.mask l) (sym (masks_are 0 patterns plain)) (in_map (λ (x : Entry). x.mask) e)
 

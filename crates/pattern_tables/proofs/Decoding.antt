@@ -54,6 +54,33 @@ mask_in m (q ∷ ps) [] i p l h e = absurd cc
 mask_in m (q ∷ ps) (k ∷ ks) zero p l h e = subst (λ (r : ℕ). In (entry m r k) (with_mask m (q ∷ ps) (k ∷ ks))) e here
 mask_in m (q ∷ ps) (k ∷ ks) (suc i) p l h e = there (mask_in m ps ks i p (omega arith) (omega arith) e)
 
+pub length-with_mask : (m : ℕ) (ps ks : List ℕ) → length ks ≡ length ps → length (with_mask m ps ks) ≡ length ps
+length-with_mask m [] ks l = refl
+length-with_mask m (p ∷ ps) [] l = absurd cc
+length-with_mask m (p ∷ ps) (k ∷ ks) l = ap suc (length-with_mask m ps ks (omega arith))
+
+pub entry_at : (m : ℕ) (ps ks : List ℕ) (i : ℕ) (d : Entry) → length ks ≡ length ps → i < length ps → slice_index_or (with_mask m ps ks) i d ≡ entry m (slice_index ps i) (slice_index ks i)
+entry_at m [] ks i d l h = absurd (omega arith)
+entry_at m (p ∷ ps) [] i d l h = absurd cc
+entry_at m (p ∷ ps) (k ∷ ks) zero d l h = refl
+entry_at m (p ∷ ps) (k ∷ ks) (suc i) d l h = entry_at m ps ks i d (omega arith) (omega arith)
+
+pub no_entry : Entry
+no_entry = record { mask = 0; pattern = 0; form = 0 }
+
+-- its size, and the pattern and the form at a place
+pub size_of : (t : PatternTable) → length (entries_of t) ≡ length t.patterns.items
+size_of t = length-with_mask t.mask t.patterns.items t.forms.items t.level
+
+pub pattern_at : (t : PatternTable) (i : ℕ) (d : Entry) → i < length (entries_of t) → (slice_index_or (entries_of t) i d).pattern ≡ slice_index t.patterns.items i
+pattern_at t i d h = ap (λ (e : Entry). e.pattern) (entry_at t.mask t.patterns.items t.forms.items i d t.level (subst (λ (n : ℕ). i < n) (size_of t) h))
+
+pub is_pattern : (t : PatternTable) (i p : ℕ) → i < length t.patterns.items → ((d : Entry) → p ≡ (slice_index_or (entries_of t) i d).pattern) → slice_index t.patterns.items i ≡ p
+is_pattern t i p h is = sym (is no_entry ∙ pattern_at t i no_entry (subst (λ (n : ℕ). i < n) (sym (size_of t)) h))
+
+pub form_at : (t : PatternTable) (i : ℕ) (d : Entry) → i < length (entries_of t) → (slice_index_or (entries_of t) i d).form ≡ slice_index t.forms.items i
+form_at t i d h = ap (λ (e : Entry). e.form) (entry_at t.mask t.patterns.items t.forms.items i d t.level (subst (λ (n : ℕ). i < n) (size_of t) h))
+
 pub no_entry_in : (t : PatternTable) (w : ℕ) → ((i : ℕ) → i < length t.patterns.items → slice_index t.patterns.items i ≡ bit_and w t.mask → ⊥)
     → (k : ℕ) → In (entry t.mask (bit_and w t.mask) k) (entries_of t) → ⊥
 no_entry_in t w absent k i = let at = in_mask t.mask t.patterns.items t.forms.items (entry t.mask (bit_and w t.mask) k) i in absent at.1 at.2 at.3
@@ -72,12 +99,15 @@ few n p h =
       | inr le ↦ le
     ]
 
-pub cheap : (n before now : ℕ) → before ≤ now → 2 ^ (now - before) ≤ 2 * n + 1 → now ≤ before + look_ups n
+cheap : (n before now : ℕ) → before ≤ now → 2 ^ (now - before) ≤ 2 * n + 1 → now ≤ before + look_ups n
 unfolding look_ups
 cheap n before now le h = let p = few n (now - before) h in omega arith
 
 abbrev pub table_looks : PatternTable → ℕ
-table_looks t = look_ups (length t.patterns.items)
+table_looks t = look_ups (length (entries_of t))
+
+pub cheap_table : (t : PatternTable) (before now : ℕ) → before ≤ now → 2 ^ (now - before) ≤ 2 * length t.patterns.items + 1 → now ≤ before + table_looks t
+cheap_table t before now le h = cheap (length (entries_of t)) before now le (subst (λ (n : ℕ). 2 ^ (now - before) ≤ 2 * n + 1) (sym (size_of t)) h)
 
 -- ---- the loop
 

@@ -11,7 +11,8 @@ use Rattle.pattern_tables.specs.declared.entry.Entry.{Entry}
 use Rattle.pattern_tables.specs.declared.table.PatternTable.{PatternTable}
 use Rattle.pattern_tables.specs.Rising.{IsRising}
 use Rattle.pattern_tables.specs.Entries.{entry, IsBefore, mask, pattern}
-use Rattle.pattern_tables.specs.Tables.{with_mask, entries_of, masks_of}
+use Rattle.pattern_tables.specs.Tables.{with_mask, mask_of, entries_of, masks_of}
+use Rattle.pattern_tables.proofs.Decoding.{no_entry}
 
 -- ---- a part of a list
 
@@ -35,9 +36,6 @@ mask_before : (a b : Entry) → IsBefore a b → a.mask ≤ b.mask
 mask_before a b (mask h) = omega arith
 mask_before a b (pattern f h) = omega arith
 
-no_entry : Entry
-no_entry = record { mask = 0; pattern = 0; form = 0 }
-
 pub span_rises : (es : List Entry) (start end : ℕ) → AllPairs IsBefore es → start ≤ end → end ≤ length es → IsRun es start end → IsRising (map (λ (e : Entry). e.pattern) (span es start end))
 span_rises es start end rising le within run i j less inside =
     let xs = span es start end in
@@ -52,7 +50,11 @@ span_rises es start end rising le within run i j less inside =
 
 -- ---- entries of one mask
 
-masked_back : (m : ℕ) (es : List Entry) → ((k : ℕ) (d : Entry) → k < length es → (get_or es k d).mask ≡ m) → with_mask m (map (λ (e : Entry). e.pattern) es) (map (λ (e : Entry). e.form) es) ≡ es
+pub masked_map : (m : ℕ) (es : List Entry) → with_mask m (map (λ (e : Entry). e.pattern) es) (map (λ (e : Entry). e.form) es) ≡ map (λ (e : Entry). entry m e.pattern e.form) es
+masked_map m [] = refl
+masked_map m (e ∷ es) = ap (λ (xs : List Entry). entry m e.pattern e.form ∷ xs) (masked_map m es)
+
+masked_back : (m : ℕ) (es : List Entry) → ((k : ℕ) (d : Entry) → k < length es → (get_or es k d).mask ≡ m) → map (λ (e : Entry). entry m e.pattern e.form) es ≡ es
 masked_back m [] all = refl
 masked_back m (e ∷ es) all =
     ap₂ (λ (x : Entry) (xs : List Entry). x ∷ xs) (ap (λ (k : ℕ). entry k e.pattern e.form) (sym (all 0 e (omega arith)))) (masked_back m es (λ k d h. all (suc k) d (omega arith)))
@@ -64,7 +66,7 @@ pub record Tabled (es : List Entry) (start : ℕ) (tables : List PatternTable) :
   pub entries : flat_map entries_of tables ≡ take start es
   pub masks : Distinct (masks_of tables)
   pub below : (m : ℕ) → In m (masks_of tables) → (d : Entry) → start < length es → m < (get_or es start d).mask
-  pub used : (t : PatternTable) → In t tables → 0 < length t.patterns.items
+  pub used : (t : PatternTable) → In t tables → 0 < length (entries_of t)
 
 pub none_tabled : (es : List Entry) → Tabled es 0 []
 none_tabled es = record { within = omega arith; entries = refl; masks = none; below = λ m i. elim i [ ]; used = λ t i. elim i [ ] }
@@ -75,32 +77,35 @@ only_one (there i) = elim i [ ]
 
 module _ (es : List Entry) (start end : ℕ) (tables : List PatternTable) (t : PatternTable) (rising : AllPairs IsBefore es) (so_far : Tabled es start tables)
     (later : start < end) (within : end ≤ length es) (run : IsRun es start end) (last : (d : Entry) → end < length es → (get_or es end d).mask ≡ (get_or es start d).mask → ⊥)
-    (masked : (d : Entry) → t.mask ≡ (get_or es start d).mask)
-    (patterned : t.patterns.items ≡ map (λ (e : Entry). e.pattern) (span es start end)) (formed : t.forms.items ≡ map (λ (e : Entry). e.form) (span es start end)) where
+    (m : ℕ) (first : (d : Entry) → m ≡ (get_or es start d).mask) (masked : mask_of t ≡ m)
+    (made : entries_of t ≡ map (λ (e : Entry). entry m e.pattern e.form) (span es start end)) where
+  first_mask : (d : Entry) → mask_of t ≡ (get_or es start d).mask
+  first_mask d = masked ∙ first d
+
   entries_are : entries_of t ≡ span es start end
   entries_are =
       let size = length-span es start end (omega arith) within in
-      ap₂ (with_mask t.mask) patterned formed
-      ∙ masked_back t.mask (span es start end) (λ k d h. ap (λ (e : Entry). e.mask) (at_span es start end k d (omega arith)) ∙ run (start + k) d (omega arith) (omega arith) ∙ sym (masked d))
+      made
+      ∙ masked_back m (span es start end) (λ k d h. ap (λ (e : Entry). e.mask) (at_span es start end k d (omega arith)) ∙ run (start + k) d (omega arith) (omega arith) ∙ sym (first d))
 
-  masks_are : masks_of (tables ++ t ∷ []) ≡ masks_of tables ++ t.mask ∷ []
-  masks_are = map-append (λ (u : PatternTable). u.mask) tables (t ∷ [])
+  masks_are : masks_of (tables ++ t ∷ []) ≡ masks_of tables ++ mask_of t ∷ []
+  masks_are = map-append mask_of tables (t ∷ [])
 
   step : (d : Entry) → end < length es → (get_or es start d).mask < (get_or es end d).mask
   step d inside = let up = mask_before (get_or es start d) (get_or es end d) (rising start end d later inside) in let differ = last d inside in omega arith
 
-  below_end : (m : ℕ) → In m (masks_of tables ++ t.mask ∷ []) → (d : Entry) → end < length es → m < (get_or es end d).mask
-  below_end m i d inside = elim (in_append (masks_of tables) (t.mask ∷ []) i) [
+  below_end : (m : ℕ) → In m (masks_of tables ++ mask_of t ∷ []) → (d : Entry) → end < length es → m < (get_or es end d).mask
+  below_end m i d inside = elim (in_append (masks_of tables) (mask_of t ∷ []) i) [
     | inl old ↦ (let a = so_far.below m old d (omega arith) in let b = step d inside in omega arith)
-    | inr new ↦ (let a = only_one new in let b = step d inside in let c = masked d in omega arith)
+    | inr new ↦ (let a = only_one new in let b = step d inside in let c = first_mask d in omega arith)
   ]
 
-  used_too : (u : PatternTable) → In u (tables ++ t ∷ []) → 0 < length u.patterns.items
+  used_too : (u : PatternTable) → In u (tables ++ t ∷ []) → 0 < length (entries_of u)
   used_too u i = elim (in_append tables (t ∷ []) i) [
     | inl old ↦ so_far.used u old
     | inr new ↦ (
-        let size : length t.patterns.items ≡ end - start = ap (λ (xs : List ℕ). length xs) patterned ∙ length-map (span es start end) (λ (e : Entry). e.pattern) ∙ length-span es start end (omega arith) within in
-        let same : length u.patterns.items ≡ length t.patterns.items = ap (λ (v : PatternTable). length v.patterns.items) (only_one new) in
+        let size : length (entries_of t) ≡ end - start = ap (λ (xs : List Entry). length xs) entries_are ∙ length-span es start end (omega arith) within in
+        let same : length (entries_of u) ≡ length (entries_of t) = ap (λ (v : PatternTable). length (entries_of v)) (only_one new) in
         omega arith)
   ]
 
@@ -111,7 +116,7 @@ module _ (es : List Entry) (start end : ℕ) (tables : List PatternTable) (t : P
         sym (flat_map_more entries_of [] tables t) ∙ ap₂ (λ (xs ys : List Entry). xs ++ ys) so_far.entries entries_are ∙ sym (take-add start (end - start) es)
         ∙ ap (λ (k : ℕ). take k es) {x = start + (end - start)} {y = end} (omega arith);
     masks = subst Distinct (sym masks_are) (distinct_append so_far.masks (more (λ i. elim i [ ]) none) (λ m old new.
-        let a = so_far.below m old no_entry (omega arith) in let b = only_one new in let c = masked no_entry in omega arith));
+        let a = so_far.below m old no_entry (omega arith) in let b = only_one new in let c = first_mask no_entry in omega arith));
     below = λ m i. below_end m (subst (In m) masks_are i);
     used = used_too;
   }

@@ -16,6 +16,12 @@ pub record Halved (xs : List ℕ) (key low high made before now : ℕ) : Type 0 
   pub cost : 2 ^ made ≤ 2 * length xs + 1
   pub more : before ≤ now
 
+at_start : (xs : List ℕ) (key high now : ℕ) → high ≡ length xs → Halved xs key 0 high 0 now now
+at_start xs key high now size = record { order = omega arith; within = omega arith; below = λ i h. absurd (omega arith); above = λ i h inside. absurd (omega arith); left = omega arith; cost = omega arith; more = omega arith }
+
+pub whole : (xs : List ℕ) (key high now : ℕ) → high ≡ length xs → Halved xs key 0 high (now - now) now now
+whole xs key high now size = subst (λ (made : ℕ). Halved xs key 0 high made now now) {x = 0} {y = now - now} (omega arith) (at_start xs key high now size)
+
 -- ---- one look at the middle
 
 more_power : (before now : ℕ) → before ≤ now → 2 ^ (now + 1 - before) ≡ 2 ^ (now - before) + 2 ^ (now - before)

@@ -11,21 +11,27 @@ use Rattle.pattern_tables.specs.declared.bit_pattern.BitPattern.{BitPattern}
 use Rattle.pattern_tables.specs.declared.entry.Entry.{Entry}
 use Rattle.pattern_tables.specs.declared.table.PatternTable.{PatternTable}
 
+-- forms with this mask, by their patterns and numbers
 abbrev pub with_mask : ℕ → List ℕ → List ℕ → List Entry
 with_mask m (p ∷ ps) (k ∷ ks) = entry m p k ∷ with_mask m ps ks
 with_mask m _ _ = []
 
+-- the mask that all forms of a table have
+abbrev pub mask_of : PatternTable → ℕ
+mask_of t = t.mask
+
+-- the forms of a table, in rising order of their patterns
 abbrev pub entries_of : PatternTable → List Entry
 entries_of t = with_mask t.mask t.patterns.items t.forms.items
 
 abbrev pub masks_of : List PatternTable → List ℕ
-masks_of tables = map (λ t. t.mask) tables
+masks_of tables = map mask_of tables
 
 -- the tables have the plain forms with their masks and patterns, each once, and there is one table for each of their masks
 pub record HoldPlain (patterns : List BitPattern) (plain : List Bool) (tables : List PatternTable) : Type 0 where
   pub entries : IsPermutation (plain_entries 0 patterns plain) (flat_map entries_of tables)
   pub masks : Distinct (masks_of tables)
-  pub used : (t : PatternTable) → In t tables → 0 < length t.patterns.items
+  pub used : (t : PatternTable) → In t tables → 0 < length (entries_of t)
 
 -- the plain form that has the word, where there is one
 abbrev pub IsDecoded : List Frame → List Bool → ℕ → Option ℕ → Type 0

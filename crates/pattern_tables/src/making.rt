@@ -62,7 +62,7 @@ pub fn tables_from(alloc: Global, entries: &[Entry]) -> Result<Vec<PatternTable>
     requires few { length entries.now < 2 ^ 32 }
     ensures entries { IfOk result (λ v. flat_map entries_of v.items ≡ entries.now) }
     ensures masks { IfOk result (λ v. Distinct (masks_of v.items)) }
-    ensures used { IfOk result (λ v. (t : PatternTable) → In t v.items → 0 < length t.patterns.items) }
+    ensures used { IfOk result (λ v. (t : PatternTable) → In t v.items → 0 < length (entries_of t)) }
 {
     let mut tables = Vec::new(alloc);
     let mut start = 0;

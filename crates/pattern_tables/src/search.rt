@@ -4,7 +4,7 @@ ghost use Rattle.std.specs.Prelude.{◌≡◌, ℕ, ◌+◌, ◌-◌, ◌*◌, �
 ghost use Rattle.std.specs.Option.{IfSome, IfNone};
 ghost use Rattle.instruction_trees.specs.Trees.{In};
 ghost use Rattle.pattern_tables.specs.Entries.{entry};
-ghost use Rattle.pattern_tables.specs.Tables.{entries_of};
+ghost use Rattle.pattern_tables.specs.Tables.{mask_of, entries_of};
 ghost use Rattle.pattern_tables.specs.Probes.{look_ups};
 
 use crate::steps::Steps;
@@ -34,9 +34,9 @@ fn place_of<L: Ledger>(table: &PatternTable, key: u64, steps: &mut Steps<L>) -> 
 
 /// The form of this table that has the word. It takes at most one probe more than the number of its patterns has binary digits.
 pub fn form_in<L: Ledger>(table: &PatternTable, word: u64, steps: &mut Steps<L>) -> Option<u32>
-    ensures found { IfSome result (λ k. In (entry table.now.mask (bit_and word table.now.mask) k) (entries_of table.now)) }
-    ensures none { IfNone result ((k : ℕ) → In (entry table.now.mask (bit_and word table.now.mask) k) (entries_of table.now) → ⊥) }
-    ensures cost { steps.new ≤ steps.old + look_ups (length table.now.patterns.items) }
+    ensures found { IfSome result (λ k. In (entry (mask_of table.now) (bit_and word (mask_of table.now)) k) (entries_of table.now)) }
+    ensures none { IfNone result ((k : ℕ) → In (entry (mask_of table.now) (bit_and word (mask_of table.now)) k) (entries_of table.now) → ⊥) }
+    ensures cost { steps.new ≤ steps.old + look_ups (length (entries_of table.now)) }
 {
     let place = place_of(table, word & table.mask(), steps)?;
     Some(table.form(place))

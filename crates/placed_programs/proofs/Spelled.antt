@@ -4,7 +4,9 @@ use Rattle.std.specs.Prelude.{◌&&◌, nat_le}
 use Rattle.std.proofs.lemmas.Bool.{and_parts, leb-true}
 use Rattle.lisa_object.specs.declared.rules.Standing.{Standing}
 use Rattle.lisa_object.specs.Objects.{PlainObjectLine, Section, Space, Label, Equ, Global, Cell, Fix}
-use Rattle.lisa_object.specs.ObjectRules.{has_names, start, fits_kind, is_clear, is_sum, may_follow, after, are_lines}
+use Rattle.lisa_object.specs.ObjectRules.{has_names, fits_kind, is_clear, is_sum, AreLines}
+use Rattle.lisa_object.specs.LineMachine.{start, may_follow, after, are_lines}
+use Rattle.lisa_object.proofs.LineRules.{rules_make_lines}
 use Rattle.placed_programs.specs.Entries.{PlainFix, fix_line, lines_of, front_fixes, entries_of}
 
 rest_of : (st : Standing) (l : PlainObjectLine) (ls : List PlainObjectLine) → are_lines st (l ∷ ls) ≡ true → are_lines (after st l) ls ≡ true
@@ -59,5 +61,5 @@ lines_again st (Global n ∷ ls) e =
 lines_again st (Cell v ∷ ls) e = ap (λ (m : List PlainObjectLine). Cell v ∷ m) (lines_again (after st (Cell v)) ls (rest_of st (Cell v) ls e))
 lines_again st (Fix l w k s ∷ ls) e = ap (λ (m : List PlainObjectLine). Fix l w k s ∷ m) (lines_again (after st (Fix l w k s)) ls (rest_of st (Fix l w k s) ls e))
 
-pub lines_are_entries : (ls : List PlainObjectLine) → are_lines start ls ≡ true → ls ≡ lines_of (entries_of ls)
-lines_are_entries ls e = behind ls (none_front start ls refl e) (lines_again start ls e)
+pub lines_are_entries : (ls : List PlainObjectLine) → AreLines ls → ls ≡ lines_of (entries_of ls)
+lines_are_entries ls rules = let e = rules_make_lines ls rules in behind ls (none_front start ls refl e) (lines_again start ls e)

@@ -7,8 +7,9 @@ use lisa_cli::words_ask_for_one;
 use lisa_object::images_are_unique;
 
 /// The headline, said of runs of the program, by their words: where `verilog` on a file printed a text, and another file holds that text then,
-/// `clocktrace` on that file prints what `trace` printed on the first, with the same image, schedule and number of edges; and `clock` prints what
-/// `run` printed. That is so for each run in which no call fails and memory suffices.
+/// `clocktrace` on that file prints what `trace` printed on the first, with the same image, schedule and number of edges; `clock` prints what `run`
+/// printed, `vvcd` what `vcd` printed, and `vboard`, with the same input, what `board` printed. That is so for each run in which no call fails and
+/// memory suffices.
 pub fn runs_print_alike(writing: &[String], running: &[String], clocking: &[String])
     ensures { RunsPrintAlike (map string_bytes writing.now) (map string_bytes running.now) (map string_bytes clocking.now) }
 {

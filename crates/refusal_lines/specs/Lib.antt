@@ -3,6 +3,7 @@ pub mod LineViews
 pub mod DescriptionLines
 pub mod ModuleLines
 pub mod SourceLines
+pub mod ToolLines
 pub mod OwnLines
 pub mod Says
 pub mod Told

@@ -1,5 +1,7 @@
--- The lines of the faults of a netlist, a module, an image and a schedule.
+-- The lines of the faults of a netlist, a module, an image, a schedule and a board.
 use Rattle.std.specs.Prelude.{[], ◌∷◌, codes}
+use Rattle.lisa_board.specs.declared.fault.BoardFault.{BoardFault}
+use Rattle.lisa_board.specs.declared.fault.BoardFault.TheVariants as boards
 use Rattle.lisa_engine.specs.declared.schedule.ScheduleFault.{ScheduleFault}
 use Rattle.lisa_engine.specs.declared.schedule.ScheduleFault.TheVariants as schedules
 use Rattle.lisa_object.specs.declared.faults.ImageFault.{ImageFault}
@@ -41,3 +43,12 @@ schedule_line (schedules.UnknownPin at n) = line (codes "schedule 2 UnknownPin")
 schedule_line (schedules.NotRising at) = line (codes "schedule 3 NotRising") (number (codes "line") at ∷ [])
 schedule_line (schedules.PinRange at n value) = line (codes "schedule 4 PinRange") (number (codes "line") at ∷ name (codes "name") n ∷ number (codes "value") value ∷ [])
 schedule_line schedules.NoMemory = line [] []
+
+abbrev pub board_line : BoardFault → Line
+board_line (boards.BadLine at) = line (codes "board 1 BadLine") (number (codes "line") at ∷ [])
+board_line (boards.UnknownItem at n) = line (codes "board 2 UnknownItem") (number (codes "line") at ∷ name (codes "name") n ∷ [])
+board_line (boards.UnknownPin at n) = line (codes "board 3 UnknownPin") (number (codes "line") at ∷ name (codes "name") n ∷ [])
+board_line (boards.PinTaken at n) = line (codes "board 4 PinTaken") (number (codes "line") at ∷ name (codes "name") n ∷ [])
+board_line (boards.PinWidth at n width) = line (codes "board 5 PinWidth") (number (codes "line") at ∷ name (codes "name") n ∷ number (codes "width") width ∷ [])
+board_line (boards.TooMany at what limit) = line (codes "board 6 TooMany") (number (codes "line") at ∷ name (codes "what") what ∷ number (codes "limit") limit ∷ [])
+board_line boards.NoMemory = line [] []

@@ -7,8 +7,9 @@ use Rattle.lisa_outcomes.specs.declared.status.Status.TheVariants as statuses
 use Rattle.refusal_lines.specs.Lines.{Line, line_text}
 use Rattle.refusal_lines.specs.DescriptionLines.{description_line}
 use Rattle.refusal_lines.specs.OwnLines.{file_line, input_line, program_line}
-use Rattle.refusal_lines.specs.ModuleLines.{netlist_line, verilog_line, image_line, schedule_line}
+use Rattle.refusal_lines.specs.ModuleLines.{netlist_line, verilog_line, image_line, schedule_line, board_line}
 use Rattle.refusal_lines.specs.SourceLines.{source_line, object_line, link_line}
+use Rattle.refusal_lines.specs.ToolLines.{hex_line, memh_line, vcd_line}
 
 abbrev pub refusal_line : Refusal → Line
 refusal_line (refusals.File fault) = file_line fault
@@ -22,9 +23,13 @@ refusal_line (refusals.Object fault) = object_line fault
 refusal_line (refusals.Schedule fault) = schedule_line fault
 refusal_line (refusals.Source fault) = source_line fault
 refusal_line (refusals.Link fault) = link_line fault
+refusal_line (refusals.Hex fault) = hex_line fault
+refusal_line (refusals.Memh fault) = memh_line fault
+refusal_line (refusals.Vcd fault) = vcd_line fault
+refusal_line (refusals.Board fault) = board_line fault
 
 abbrev pub usage_text : List ℕ
-usage_text = codes "usage: lisa check|fmt|verilog|run|trace|clock|clocktrace|asm|link|dis|debug|vdebug|gen|soak ..\n"
+usage_text = codes "usage: lisa check|fmt|verilog|run|trace|clock|clocktrace|asm|link|dis|debug|vdebug|gen|soak|tohex|fromhex|tomem|frommem|vcd|vvcd|unvcd|occupancy|board|vboard ..\n"
 
 abbrev pub status_text : Status → List ℕ
 status_text statuses.Done = []

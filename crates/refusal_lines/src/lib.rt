@@ -6,5 +6,6 @@ mod lines;
 mod module_lines;
 mod source_lines;
 mod telling;
+mod tool_lines;
 
 pub use telling::{tell, tell_no_memory};

@@ -198,6 +198,17 @@ pub fn named_line<'a>(head: &'a [u8], value: &'a Name) -> Line<'a>
     line1(head, name_field(b"name", value.as_bytes()))
 }
 
+/// A line of a name at a place among lines.
+pub fn at_line_named<'a>(head: &'a [u8], at: u32, value: &'a Name) -> Line<'a>
+    ensures { line_of result ≡ line head.now (number (codes "line") at ∷ name (codes "name") value.now ∷ []) }
+{
+    line2(
+        head,
+        number_field(b"line", at as u64),
+        name_field(b"name", value.as_bytes()),
+    )
+}
+
 // The value of a field.
 fn put_value<E: Sink>(err: &mut E, value: &Value<'_>) -> Result<(), Failed>
     ensures { Puts (E.written err.old) (E.written err.new) (E.faults err.old) (E.faults err.new) result (value_text (value_of value.now)) }

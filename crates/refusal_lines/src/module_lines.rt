@@ -1,11 +1,13 @@
-//! The lines of the faults of a netlist, a module, an image and a schedule.
+//! The lines of the faults of a netlist, a module, an image, a schedule and a board.
 ghost use Rattle.std.specs.Prelude.{◌≡◌};
 ghost use Rattle.refusal_lines.specs.LineViews.{line_of};
-ghost use Rattle.refusal_lines.specs.ModuleLines.{netlist_line, verilog_line, image_line, schedule_line};
+ghost use Rattle.refusal_lines.specs.ModuleLines.{netlist_line, verilog_line, image_line, schedule_line, board_line};
 
 use crate::lines::{
-    Line, at_byte, at_line, digest_field, line0, line2, line3, name_field, named_line, number_field,
+    Line, at_byte, at_line, at_line_named, digest_field, line0, line2, line3, name_field,
+    named_line, number_field,
 };
+use lisa_board::BoardFault;
 use lisa_engine::ScheduleFault;
 use lisa_object::ImageFault;
 use step_program::LowerFault;
@@ -98,5 +100,34 @@ pub fn schedule_line(fault: &ScheduleFault) -> Line<'_>
             number_field(b"value", *value),
         ),
         ScheduleFault::NoMemory => line0(b""),
+    }
+}
+
+/// The line of a board's fault.
+pub fn board_line(fault: &BoardFault) -> Line<'_>
+    ensures { line_of result ≡ board_line fault.now }
+{
+    match fault {
+        BoardFault::BadLine { line } => at_line(b"board 1 BadLine", *line),
+        BoardFault::UnknownItem { line, name } => {
+            at_line_named(b"board 2 UnknownItem", *line, name)
+        }
+        BoardFault::UnknownPin { line, name } => {
+            at_line_named(b"board 3 UnknownPin", *line, name)
+        }
+        BoardFault::PinTaken { line, name } => at_line_named(b"board 4 PinTaken", *line, name),
+        BoardFault::PinWidth { line, name, width } => line3(
+            b"board 5 PinWidth",
+            number_field(b"line", *line as u64),
+            name_field(b"name", name.as_bytes()),
+            number_field(b"width", *width),
+        ),
+        BoardFault::TooMany { line, what, limit } => line3(
+            b"board 6 TooMany",
+            number_field(b"line", *line as u64),
+            name_field(b"what", what.as_bytes()),
+            number_field(b"limit", *limit),
+        ),
+        BoardFault::NoMemory => line0(b""),
     }
 }

@@ -1,27 +1,14 @@
 //! The lines of the faults of a source, an object and of linking.
-ghost use Rattle.std.specs.Prelude.{◌≡◌, ◌∷◌, [], codes};
-ghost use Rattle.refusal_lines.specs.Lines.{line, name, number};
+ghost use Rattle.std.specs.Prelude.{◌≡◌};
 ghost use Rattle.refusal_lines.specs.LineViews.{line_of};
 ghost use Rattle.refusal_lines.specs.SourceLines.{source_line, object_line, link_line};
 
 use crate::lines::{
-    Line, at_line, digest_field, integer_field, line0, line2, line3, line5, name_field, named_line,
-    number_field,
+    Line, at_line, at_line_named, digest_field, integer_field, line0, line2, line3, line5,
+    name_field, named_line, number_field,
 };
 use asm_source::SourceFault;
 use lisa_object::{LinkFault, ObjectFault};
-use lisa_words::Name;
-
-// The line of a fault of a name at a line of a source.
-fn at_line_named<'a>(head: &'a [u8], place: u32, value: &'a Name) -> Line<'a>
-    ensures { line_of result ≡ line head.now (number (codes "line") place ∷ name (codes "name") value.now ∷ []) }
-{
-    line2(
-        head,
-        number_field(b"line", place as u64),
-        name_field(b"name", value.as_bytes()),
-    )
-}
 
 /// The line of a source's fault.
 pub fn source_line(fault: &SourceFault) -> Line<'_>

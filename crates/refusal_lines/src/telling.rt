@@ -8,13 +8,14 @@ ghost use Rattle.lisa_outcomes.specs.declared.status.Status.TheVariants as statu
 
 use crate::fault_lines::{description_line, file_line, input_line, program_line};
 use crate::lines::{Line, put_line};
-use crate::module_lines::{image_line, netlist_line, schedule_line, verilog_line};
+use crate::module_lines::{board_line, image_line, netlist_line, schedule_line, verilog_line};
 use crate::source_lines::{link_line, object_line, source_line};
+use crate::tool_lines::{hex_line, memh_line, vcd_line};
 use lisa_io::{Failed, Sink, put_all};
 use lisa_outcomes::{Refusal, Status};
 
 const USAGE: &[u8] =
-    b"usage: lisa check|fmt|verilog|run|trace|clock|clocktrace|asm|link|dis|debug|vdebug|gen|soak ..\n";
+    b"usage: lisa check|fmt|verilog|run|trace|clock|clocktrace|asm|link|dis|debug|vdebug|gen|soak|tohex|fromhex|tomem|frommem|vcd|vvcd|unvcd|occupancy|board|vboard ..\n";
 
 // The line of a refusal.
 fn refusal_line(refusal: &Refusal) -> Line<'_>
@@ -32,6 +33,10 @@ fn refusal_line(refusal: &Refusal) -> Line<'_>
         Refusal::Schedule(fault) => schedule_line(fault),
         Refusal::Source(fault) => source_line(fault),
         Refusal::Link(fault) => link_line(fault),
+        Refusal::Hex(fault) => hex_line(fault),
+        Refusal::Memh(fault) => memh_line(fault),
+        Refusal::Vcd(fault) => vcd_line(fault),
+        Refusal::Board(fault) => board_line(fault),
     }
 }
 

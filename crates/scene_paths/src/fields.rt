@@ -1,16 +1,15 @@
 //! The fields of the boundaries of the pipeline.
 
-ghost use Rattle.std.specs.Prelude.{◌≡◌, ℕ, List, IfOk, OnOk, Some, None, cond, map, option_map, position, slice_get};
-ghost use Rattle.std.specs.Option.{option_or};
-ghost use Rattle.indexmap.specs.IndexMap.{get};
+ghost use Rattle.std.specs.Prelude.{◌≡◌, ℕ, List, IfOk, map, option_map, position, slice_get};
 ghost use Rattle.lisa_tree.specs.declared.tokens.Shape.{Shape};
 ghost use Rattle.lisa_tree.specs.Descriptions.{resource_tree};
 ghost use Rattle.lisa_tree.specs.Same.{same_name};
 ghost use Rattle.lisa_tree.specs.Resources.{fields_in};
+ghost use Rattle.noted_names.specs.Places.{place_of};
 
-use indexmap::IndexMap;
 use lisa_tree::{Resource, Shape};
 use lisa_words::Name;
+use noted_names::PlaceTable;
 use std::alloc::{AllocError, Global};
 
 /// The fields, in order.
@@ -26,27 +25,16 @@ pub(crate) fn boundary_fields(resources: &[Resource]) -> &[(Shape, Name)]
     &[]
 }
 
-// Notes the place of a name that has none.
-fn enter(table: &mut IndexMap<Name, usize>, name: &Name, place: usize) -> Result<(), AllocError>
-    ensures { OnOk result ((n : List ℕ) → get same_name table.new n ≡ option_or (get same_name table.old n) (cond (same_name n name.now) (Some place) None)) }
-{
-    if table.get(name).is_some() {
-        return Ok(());
-    }
-    table.insert(name.clone()?, place)?;
-    Ok(())
-}
-
 /// Where each field stands, by its name.
 pub(crate) fn field_places(
     alloc: Global,
     fields: &[(Shape, Name)],
-) -> Result<IndexMap<Name, usize>, AllocError>
-    ensures { IfOk result (λ table. (n : List ℕ) → get same_name table n ≡ position (λ (f : Shape × List ℕ). same_name n f.1) fields.now) }
+) -> Result<PlaceTable, AllocError>
+    ensures { IfOk result (λ table. (n : List ℕ) → place_of table.memo n ≡ position (λ (f : Shape × List ℕ). same_name n f.1) fields.now) }
 {
-    let mut table = IndexMap::new(alloc);
+    let mut table = PlaceTable::new(alloc, fields.len())?;
     for (place, field) in fields.iter().enumerate() {
-        enter(&mut table, &field.1, place)?;
+        table.note(&field.1, place)?;
     }
     Ok(table)
 }

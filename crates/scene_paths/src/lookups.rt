@@ -1,7 +1,6 @@
 //! Look-ups in a description.
 
 ghost use Rattle.std.specs.Prelude.{◌≡◌, ◌<◌, ◌+◌, ℕ, List, Some, IfOk, length, option_map, slice_get};
-ghost use Rattle.indexmap.specs.IndexMap.{get};
 ghost use Rattle.lisa_tree.specs.Expressions.{expr_tree};
 ghost use Rattle.lisa_tree.specs.Statements.{stmt_trees};
 ghost use Rattle.lisa_tree.specs.Descriptions.{coding_tree, description_tree, resource_tree};
@@ -35,7 +34,7 @@ use lisa_tree::{
     expression,
 };
 use lisa_words::{Name, NoMemory};
-use noted_names::{Noted, PlaceTable};
+use noted_names::Noted;
 use std::alloc::Global;
 
 // How many operations, groups, instances and declared names there are, and one more. As many as no table holds are answered as want of memory.
@@ -111,8 +110,7 @@ impl<'a> Described<'a> {
         let tables = Noted::make(alloc, description)?;
         let places = places_of(alloc, description)?;
         let boundary = boundary_of(description);
-        let table = field_places(alloc, boundary)?;
-        let fields = PlaceTable::make(alloc, table)?;
+        let fields = field_places(alloc, boundary)?;
         let conditions = conditions_of(alloc, description)?;
         let root = first_root(&tables);
         let levels = level_count(&tables)?;
@@ -166,14 +164,6 @@ impl<'a> Described<'a> {
         ensures pins { result.pins ≡ pin_place (tree_of self.now) number }
     {
         self.places[number]
-    }
-
-    /// The place of a resource among the registers that are no arrays: so many of them stand before it.
-    pub fn register_place(&self, number: usize) -> usize
-        requires { number < length (tree_of self.now).resources }
-        ensures { result ≡ register_place (tree_of self.now) number }
-    {
-        self.before(number).registers
     }
 
     /// The resource of a number.

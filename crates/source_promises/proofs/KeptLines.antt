@@ -8,7 +8,8 @@ use Rattle.asm_source.specs.Plain.{PlainSum}
 use Rattle.lisa_object.specs.declared.parts.FixKind.{FixKind}
 use Rattle.lisa_object.specs.declared.rules.Standing.{Standing}
 use Rattle.lisa_object.specs.Objects.{PlainObjectLine, Section, Space, Label, Equ, Global, Cell, Fix}
-use Rattle.lisa_object.specs.ObjectRules.{has_names, is_within, fits_kind, is_clear, is_sum, may_follow, after, are_lines}
+use Rattle.lisa_object.specs.ObjectRules.{has_names, is_within, fits_kind, is_clear, is_sum}
+use Rattle.lisa_object.specs.LineMachine.{may_follow, after, are_lines}
 use Rattle.placed_programs.specs.Entries.{PlainFix, PlainCell, fix_line}
 use Rattle.source_promises.proofs.SoundLines.{IsName, IsSoundSum}
 

@@ -1,6 +1,6 @@
 -- The object of a source keeps the rules of objects.
 use Rattle.std.proofs.Common.{◌≡◌, ◌≢◌, ◌<◌, ◌≤◌, ◌∙◌, ℕ, Bool, true, false, cond, List, [], ◌∷◌, ◌++◌, append_assoc, append-nil, Option, None, Some, Ok, map, refl, sym, ap, ap₂, subst, arith}
-use Rattle.std.specs.Prelude.{All, AllPairs, IsTrue, find, flat_map}
+use Rattle.std.specs.Prelude.{All, AllPairs, find, flat_map}
 use Rattle.std.specs.List.{AllByRecursion}
 use Rattle.std.specs.Option.{IsSome}
 use Rattle.std.specs.Str.{bytes_eq}
@@ -21,7 +21,9 @@ use Rattle.lisa_assembler.specs.lisa_forms.Verdicts.{HasForms}
 use Rattle.lisa_object.specs.Objects.{PlainObject, PlainObjectLine}
 use Rattle.lisa_object.specs.Objects as objects
 use Rattle.lisa_object.specs.Rules.{IsDigest}
-use Rattle.lisa_object.specs.ObjectRules.{start, are_lines, defined, IsObject}
+use Rattle.lisa_object.specs.ObjectRules.{AreLines, defined, IsObject}
+use Rattle.lisa_object.specs.LineMachine.{start, are_lines}
+use Rattle.lisa_object.proofs.LineRules.{lines_keep_rules}
 use Rattle.placed_programs.specs.Entries.{Entry, Enter, Room, Put, Mark, Equal, Share, PlainFix, PlainCell, mapped, fix_line, entry_lines, lines_of}
 use Rattle.lisa_assembler.specs.Memories.{memory_items, memory_named}
 use Rattle.lisa_assembler.specs.Places.{HasWords}
@@ -195,6 +197,6 @@ module _ (d : DescriptionTree) where
         let names : names_in es ≡ flat_map line_names ls = lines_define None ls es object.source.entries in
         record {
           digest = subst IsDigest (sym object.stamped) digest;
-          lines = subst (λ (l : List PlainObjectLine). IsTrue (are_lines start l)) (sym object.is) stand;
+          lines = subst AreLines (sym object.is) (lines_keep_rules (own_lines es) stand);
           distinct = subst (λ (l : List PlainObjectLine). AllPairs (λ a b. a ≢ b) (flat_map defined l)) (sym object.is) (subst (AllPairs (λ a b. a ≢ b)) (sym names) object.source.distinct);
         }

@@ -1,19 +1,18 @@
 -- Where declared names lead, by what they are.
-use Rattle.std.proofs.Common.{◌≡◌, ◌<◌, ◌≤◌, ◌+◌, ◌&&◌, ◌||◌, ℕ, List, Option, None, Some, Bool, true, false, nat_eq, length, refl, ap, ap₂, sym, ◌∙◌, arith, subst}
+use Rattle.std.proofs.Common.{◌≡◌, ◌<◌, ◌&&◌, ℕ, List, Option, None, Some, Bool, true, false, nat_eq, length, refl, ap, ap₂, sym, ◌∙◌}
 use Rattle.std.specs.Prelude.{slice_get}
 use Rattle.std.specs.List.{list_any}
 use Rattle.std.specs.Global.{Vec}
-use Rattle.std.proofs.lemmas.Bool.{and_parts, eqb-true, eq-eqb}
+use Rattle.std.proofs.lemmas.Bool.{and_parts}
 use Rattle.std.proofs.lemmas.Option.{same_Some, slice_get_within}
 use Rattle.lisa_tree.specs.Descriptions.{DescriptionTree}
-use Rattle.graph_paths.specs.Paths.{targets, is_in, Leads}
+use Rattle.graph_paths.specs.Paths.{Leads}
 use Rattle.lisa_tree.specs.declared.declared.What.{What}
 use Rattle.lisa_tree.specs.declared.declared.What.TheVariants as whats
-use Rattle.lisa_tree.specs.Declarations.{Entry, entries, what_at, declared_at, above, plain_at}
-use Rattle.lisa_tree.specs.Paths.{Choosing, Declaring, leads, node_at, node_count, entry_node}
-use Rattle.description_graph.specs.Graph.{IsGraph, first_entry, is_at}
+use Rattle.lisa_tree.specs.Declarations.{Entry, entries, what_at, declared_at, above}
+use Rattle.lisa_tree.specs.Paths.{Choosing, Declaring, leads, entry_node}
+use Rattle.description_graph.specs.Graph.{IsOutline, is_at}
 use Rattle.description_graph.proofs.Nodes.{at_entry}
-use Rattle.description_graph.proofs.Meant.{meant_below}
 
 abbrev pub picks : What → ℕ → Bool
 picks (whats.Group k) c = nat_eq k c
@@ -77,25 +76,6 @@ module _ (d : DescriptionTree) where
       by None e = absurd (cc (sym (ap told e) ∙ is))
       by (Some x) e = slice_get_within (entries d) i x e
 
-  pub leads_from : (i j : ℕ) → leads d (Declaring i) (Declaring j) ≡ true → i < length (entries d)
-  leads_from i j t = by (slice_get (entries d) i) refl
-    where
-      by : (r : Option Entry) → slice_get (entries d) i ≡ r → i < length (entries d)
-      by None e = absurd (cc (sym (ap (λ (r : Option Entry). next_by d r j) e) ∙ t))
-      by (Some x) e = slice_get_within (entries d) i x e
-
-  module _ (next : List (Vec ℕ)) (graph : IsGraph d next) where
-    edge_is : (i j : ℕ) → i < length (entries d) → j < length (entries d) → is_in (entry_node d j) (targets next (entry_node d i)) ≡ leads d (Declaring i) (Declaring j)
-    edge_is i j h k =
-        graph.exact (entry_node d i) (entry_node d j) (omega (arith, h)) (omega (arith, k))
-        ∙ ap₂ (leads d) (at_entry d (entry_node d i) i refl) (at_entry d (entry_node d j) j refl)
-
-    pub to_edge : (i j : ℕ) → leads d (Declaring i) (Declaring j) ≡ true → Leads next (entry_node d i) (entry_node d j)
-    to_edge i j t = edge_is i j (leads_from i j t) (meant_below d i j t) ∙ t
-
-    pub from_edge : (i j : ℕ) → i < length (entries d) → Leads next (entry_node d i) (entry_node d j) → leads d (Declaring i) (Declaring j) ≡ true
-    from_edge i j h e =
-        let l = graph.nodes (entry_node d i) (entry_node d j) e in
-        let c = graph.count in
-        let k : j < length (entries d) = omega (arith, l, c) in
-        sym (edge_is i j h k) ∙ e
+  module _ (next : List (Vec ℕ)) (graph : IsOutline d next) where
+    pub edge_there : (i j : ℕ) → Leads next (entry_node d i) (entry_node d j) → leads d (Declaring i) (Declaring j) ≡ true
+    edge_there i j e = sym (ap₂ (leads d) (at_entry d (entry_node d i) i refl) (at_entry d (entry_node d j) j refl)) ∙ graph.edges (entry_node d i) (entry_node d j) e

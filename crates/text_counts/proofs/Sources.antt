@@ -1,21 +1,21 @@
 -- What is gathered from the sources of a reference is what it may choose.
-use Rattle.std.proofs.Common.{◌≡◌, ◌<◌, ◌≤◌, ◌+◌, ◌-◌, ◌||◌, ◌⊎◌, ℕ, List, [], ◌∷◌, ◌++◌, Option, None, Some, Bool, true, false, cond, nat_eq, nat_lt, length, refl, ap, sym, ◌∙◌, arith, subst, inl, inr}
-use Rattle.std.specs.List.{list_all, list_any}
+use Rattle.std.proofs.Common.{◌≡◌, ◌<◌, ◌≤◌, ◌+◌, ◌-◌, ◌||◌, ℕ, List, [], ◌∷◌, ◌++◌, Option, None, Some, Bool, true, false, cond, nat_eq, nat_lt, length, refl, ap, sym, ◌∙◌, arith, subst, inl, inr}
+use Rattle.std.specs.List.{list_all}
 use Rattle.std.specs.Global.{Vec}
-use Rattle.std.proofs.lemmas.Bool.{or_cases, cases_Bool, eqb-true, eq-eqb, ltb-false, ltb-true, le-ltb}
+use Rattle.std.proofs.lemmas.Bool.{or_cases, eqb-true, eq-eqb, ltb-false, le-ltb}
 use Rattle.std.proofs.lemmas.List.Folds.{list_any-append}
 use Rattle.lisa_tree.specs.Descriptions.{DescriptionTree}
-use Rattle.graph_paths.specs.Paths.{targets, is_in, saw, Leads, Reaches, edge, more}
+use Rattle.graph_paths.specs.Paths.{targets, is_in, Leads, Reaches, edge, more}
 use Rattle.graph_paths.proofs.Long.{within}
 use Rattle.graph_paths.proofs.Listed.{all_of}
 use Rattle.lisa_tree.specs.declared.declared.What.{What}
 use Rattle.lisa_tree.specs.declared.declared.What.TheVariants as whats
 use Rattle.lisa_tree.specs.Declarations.{entries, what_at, plain_at}
-use Rattle.lisa_tree.specs.Paths.{Choosing, Declaring, leads, node_count, entry_node}
-use Rattle.description_graph.specs.Graph.{IsGraph, first_entry}
+use Rattle.lisa_tree.specs.Paths.{Choosing, Declaring, leads, entry_node}
+use Rattle.description_graph.specs.Graph.{IsOutline, Hands, directly, further, first_entry}
 use Rattle.text_counts.specs.References.{MayMean, chosen, referenced, chosen_by}
 use Rattle.text_counts.specs.Gathering.{IsGathered, is_ready, ready_at, is_node_ready, gathered_at, gathered, Source, AreSources, late_row}
-use Rattle.text_counts.proofs.Leading.{picks, refers, choice_by, no_choice, no_reference, refers_by, declared, leads_from, to_edge, from_edge}
+use Rattle.text_counts.proofs.Leading.{picks, refers, choice_by, no_choice, no_reference, refers_by, edge_there}
 
 or_left : (x y : Bool) → x ≡ true → (x || y) ≡ true
 or_left x y e = grind (arith, e)
@@ -137,25 +137,35 @@ module _ (d : DescriptionTree) where
     whole = λ a m. (let x = s.whole a m in record { name = x.name; stands = x.stands; ready = ready_more done x.name x.ready; chooses = x.chooses });
   }
 
-  module _ (next : List (Vec ℕ)) (graph : IsGraph d next) where
+  module _ (next : List (Vec ℕ)) (graph : IsOutline d next) where
     node_ready : (done : List Bool) (j : ℕ) → is_node_ready d done (entry_node d j) ≡ true → ready_at d done j ≡ true
     node_ready done j e =
         let k : entry_node d j - first_entry d ≡ j = omega arith in
         let off : nat_lt (entry_node d j) (first_entry d) ≡ false = le-ltb (entry_node d j) (first_entry d) (omega arith) in
         sym (ap (λ (b : Bool). b || ready_at d done (entry_node d j - first_entry d)) off ∙ ap (ready_at d done) k) ∙ e
 
+    -- the first edge of a path
+    record First (i a : ℕ) : Type 0 where
+      pub name : ℕ
+      pub edge : Leads next (entry_node d i) (entry_node d name)
+      pub means : MayMean d name a
+
+    first_of : (a : ℕ) {i j : ℕ} → Hands d next i j → MayMean d j a → First i a
+    first_of a {i = i} {j = j} (directly e) m = record { name = j; edge = e; means = m }
+    first_of a {i = i} {j = j} (further {k = k} r e) m = first_of a r (referenced j (edge_there d next graph k j e) m)
+
     pub row_sources : (i : ℕ) (done : List Bool) → what_at d i ≡ Some whats.Reference → list_all (is_node_ready d done) (targets next (entry_node d i)) ≡ true
         → AreSources d done i (targets next (entry_node d i))
     row_sources i done is all = record {
-      sound = λ j a e m. referenced j (from_edge d next graph i j (declared d i whats.Reference is) e) m;
+      sound = λ j a e m. referenced j (edge_there d next graph i j e) m;
       whole = whole;
     }
       where
         whole : (a : ℕ) → MayMean d i a → Source d done (targets next (entry_node d i)) a
         whole a (chosen c l p) = absurd (no_own_choice i c is l)
         whole a (referenced j l m) =
-            let e = to_edge d next graph i j l in
-            record { name = j; stands = e; ready = node_ready done j (all_of (is_node_ready d done) (entry_node d j) (targets next (entry_node d i)) all e); chooses = m }
+            let f = first_of a (graph.handed i j l) m in
+            record { name = f.name; stands = f.edge; ready = node_ready done f.name (all_of (is_node_ready d done) (entry_node d f.name) (targets next (entry_node d i)) all f.edge); chooses = f.means }
 
     module _ (edges : List (Vec ℕ)) (rows : (a : ℕ) → targets edges a ≡ late_row (first_entry d) next a) where
       late : (i j : ℕ) → Leads next (entry_node d i) (entry_node d j) → Leads edges (entry_node d i) (entry_node d j)
@@ -188,7 +198,7 @@ module _ (d : DescriptionTree) where
           let l = is_late x y e in
           let s : k ≡ l.name = (let p = l.stands in omega (arith, at, p)) in
           let f : Leads next (entry_node d l.name) (entry_node d j) = subst (λ (z : ℕ). Leads next z (entry_node d j)) l.stands (subst (Leads next x) is l.edge) in
-          subst (λ (z : ℕ). MayMean d z a) (sym s) (referenced j (from_edge d next graph l.name j l.there f) m)
+          subst (λ (z : ℕ). MayMean d z a) (sym s) (referenced j (edge_there d next graph l.name j f) m)
 
       back : (x y : ℕ) → Reaches edges x y → (i j a : ℕ) → x ≡ entry_node d i → y ≡ entry_node d j → MayMean d j a → MayMean d i a
       back x y (edge e) i j a at is m = one_back x y j a e is m i at
@@ -196,9 +206,13 @@ module _ (d : DescriptionTree) where
           let l = is_late z y e in
           back x z r i l.name a at l.stands (one_back z y j a e is m l.name l.stands)
 
-      joined : (x y z : ℕ) → Leads edges x y → Reaches edges y z → Reaches edges x z
-      joined x y z e (edge f) = more (edge e) f
-      joined x y z e (more r f) = more (joined x y _ e r) f
+      joined : (x y z : ℕ) → Reaches edges x y → Reaches edges y z → Reaches edges x z
+      joined x y z r (edge f) = more r f
+      joined x y z r (more s f) = more (joined x y _ r s) f
+
+      late_path : {i j : ℕ} → Hands d next i j → Reaches edges (entry_node d i) (entry_node d j)
+      late_path {i = i} {j = j} (directly e) = edge (late i j e)
+      late_path {i = i} {j = j} (further {k = k} r e) = more (late_path r) (late k j e)
 
       -- what is reached from a reference and is no reference
       record Found (i a : ℕ) : Type 0 where
@@ -211,11 +225,11 @@ module _ (d : DescriptionTree) where
       found i a is (chosen c l p) = absurd (no_own_choice i c is l)
       found i a is (referenced j l m) = by (what_at d j) refl (λ at. found j a at m)
         where
-          step : Leads edges (entry_node d i) (entry_node d j)
-          step = late i j (to_edge d next graph i j l)
+          step : Reaches edges (entry_node d i) (entry_node d j)
+          step = late_path (graph.handed i j l)
 
           here : ready_at d [] j ≡ true → Found i a
-          here ready = record { name = j; path = edge step; ready = ready; chooses = m }
+          here ready = record { name = j; path = step; ready = ready; chooses = m }
 
           by : (r : Option What) → what_at d j ≡ r → (what_at d j ≡ Some whats.Reference → Found j a) → Found i a
           by None at next = here (ap (is_ready [] j) at)
@@ -236,7 +250,7 @@ module _ (d : DescriptionTree) where
       late_nodes a b e = graph.nodes a b (is_late a b e).edge
 
   -- the same where the first declared name stands at a number that is only known to be its own
-  module _ (next : List (Vec ℕ)) (graph : IsGraph d next) (base : ℕ) (first : base ≡ first_entry d) where
+  module _ (next : List (Vec ℕ)) (graph : IsOutline d next) (base : ℕ) (first : base ≡ first_entry d) where
     pub own_row : (i : ℕ) → targets next (base + i) ≡ targets next (entry_node d i)
     own_row i = ap (λ (x : ℕ). targets next (x + i)) first
 

@@ -2,7 +2,7 @@
 
 ghost use Rattle.std.specs.Prelude.{◌≡◌, IfOk, IsTrue};
 ghost use Rattle.graph_paths.specs.Paths.{targets};
-ghost use Rattle.description_graph.specs.Graph.{IsGraph};
+ghost use Rattle.description_graph.specs.Graph.{IsOutline};
 ghost use Rattle.text_counts.specs.Alike.{IsAlike, AreAlike};
 
 use crate::gathering::{Graph, only_reference};
@@ -43,7 +43,7 @@ pub(crate) fn alike_references<N: Names>(
     next: &[Vec<usize>],
     meanings: &Meanings,
 ) -> Result<Vec<usize>, AllocError>
-    requires { IsGraph (N.tree names.now) next.now }
+    requires { IsOutline (N.tree names.now) next.now }
     ensures { IfOk result (λ alike. AreAlike (N.tree names.now) (targets meanings.now) alike.items) }
 {
     let count = names.entry_count();

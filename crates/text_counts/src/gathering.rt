@@ -8,7 +8,7 @@ ghost use Rattle.lisa_tree.specs.Descriptions.{DescriptionTree};
 ghost use Rattle.graph_paths.specs.Paths.{targets, is_in, saw, Reaches, AreNodes};
 ghost use Rattle.lisa_tree.specs.declared.declared.What.TheVariants as whats;
 ghost use Rattle.lisa_tree.specs.Declarations.{entries, what_at};
-ghost use Rattle.description_graph.specs.Graph.{IsGraph, first_entry};
+ghost use Rattle.description_graph.specs.Graph.{IsOutline, first_entry};
 ghost use Rattle.text_counts.specs.References.{MayMean, chosen_by};
 ghost use Rattle.text_counts.specs.Gathering.{IsGathered, is_node_ready, gathered_at, gathered, AreSources, late_row};
 
@@ -20,13 +20,12 @@ use std::rc::Rc;
 /// A list that may stand for several references.
 pub(crate) type Numbers = Rc<Vec<usize>>;
 
-/// A description's graph, and where its declared names begin among the nodes.
+/// An outline of a description's graph, and where its declared names begin among the nodes.
 #[derive(Drop)]
 pub(crate) struct Graph<'a, N: Names> {
     pub names: &'a N,
     pub next: &'a [Vec<usize>],
     pub base: usize,
-    ghost graph: { IsGraph (N.tree names.now) next.now },
     ghost first: { base ≡ first_entry (N.tree names.now) },
 }
 
@@ -84,7 +83,8 @@ fn reached<N: Names>(
     graph: &Graph<'_, N>,
     reference: usize,
 ) -> Result<Vec<usize>, AllocError>
-    requires { what_at (N.tree graph.now.names.now) reference ≡ Some whats.Reference }
+    requires outline { IsOutline (N.tree graph.now.names.now) graph.now.next.now }
+    requires reference { what_at (N.tree graph.now.names.now) reference ≡ Some whats.Reference }
     ensures { IfOk result (λ nodes. AreSources (N.tree graph.now.names.now) [] reference nodes.items) }
 {
     let edges = late_edges(alloc, graph.base, graph.next)?;
@@ -136,7 +136,8 @@ fn sources<N: Names>(
     done: &[bool],
     reference: usize,
 ) -> Result<Vec<usize>, AllocError>
-    requires { what_at (N.tree graph.now.names.now) reference ≡ Some whats.Reference }
+    requires outline { IsOutline (N.tree graph.now.names.now) graph.now.next.now }
+    requires reference { what_at (N.tree graph.now.names.now) reference ≡ Some whats.Reference }
     ensures { IfOk result (λ nodes. AreSources (N.tree graph.now.names.now) done.now reference nodes.items) }
 {
     let next = row(graph.next, graph.base + reference);
@@ -268,7 +269,8 @@ pub(crate) fn visit<N: Names>(
     done: &mut Vec<bool>,
     number: usize,
 ) -> Result<(), AllocError>
-    requires { IsGathered (N.tree graph.now.names.now) (map rc_value lists.old.items) done.old.items }
+    requires outline { IsOutline (N.tree graph.now.names.now) graph.now.next.now }
+    requires gathered { IsGathered (N.tree graph.now.names.now) (map rc_value lists.old.items) done.old.items }
     ensures gathered { OnOk result (IsGathered (N.tree graph.now.names.now) (map rc_value lists.new.items) done.new.items) }
     ensures kept { OnOk result ((i : ℕ) → saw done.old.items i ≡ true → saw done.new.items i ≡ true) }
     ensures done { OnOk result (what_at (N.tree graph.now.names.now) number ≡ Some whats.Reference → saw done.new.items number ≡ true) }

@@ -7,7 +7,7 @@ ghost use Rattle.graph_paths.specs.Paths.{targets, saw};
 ghost use Rattle.graph_paths.specs.Below.{AreBelow};
 ghost use Rattle.lisa_tree.specs.declared.declared.What.TheVariants as whats;
 ghost use Rattle.lisa_tree.specs.Declarations.{what_at};
-ghost use Rattle.description_graph.specs.Graph.{IsGraph};
+ghost use Rattle.description_graph.specs.Graph.{IsOutline};
 ghost use Rattle.text_counts.specs.References.{AreMeanings};
 ghost use Rattle.text_counts.specs.Gathering.{IsGathered};
 
@@ -45,15 +45,15 @@ fn no_lists(alloc: Global, count: usize) -> Result<Vec<Numbers>, AllocError>
 }
 
 impl Meanings {
-    /// Finds them out, from the description's graph. References are gone over in an order of the nodes, in which each should stand behind
-    /// those to which it leads; any order is right.
+    /// Finds them out, from an outline of the description's graph. References are gone over in an order of the nodes, in which each should
+    /// stand behind those to which it leads; any order is right.
     pub fn make<N: Names>(
         alloc: Global,
         names: &N,
         next: &[Vec<usize>],
         order: &[usize],
     ) -> Result<Meanings, NoMemory>
-        requires { IsGraph (N.tree names.now) next.now }
+        requires { IsOutline (N.tree names.now) next.now }
         ensures { IfOk result (λ meanings. AreMeanings (N.tree names.now) (targets meanings)) }
     {
         let count = names.entry_count();

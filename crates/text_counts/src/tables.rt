@@ -12,9 +12,9 @@ use crate::behaviors::behavior_counts;
 use crate::expressions::expression_counts;
 use crate::references::Meanings;
 use crate::sums::plus;
-use description_graph::edges;
+use description_graph::outline;
 use description_types::{known_operation, operation_count};
-use graph_paths::order;
+use graph_paths::visiting_order;
 use lisa_tree::Names;
 use lisa_words::NoMemory;
 use std::alloc::{AllocError, Global};
@@ -60,8 +60,8 @@ impl TextCounts {
     pub fn make<N: Names>(alloc: Global, names: &N) -> Result<TextCounts, NoMemory>
         ensures { IfOk result (λ counts. AreTextCounts (N.tree names.now) (told_by counts)) }
     {
-        let next = edges(alloc, names)?;
-        let order = order(alloc, &next)?;
+        let next = outline(alloc, names)?;
+        let order = visiting_order(alloc, &next)?;
         let meanings = Meanings::make(alloc, names, &next, &order)?;
         let alike = alike_references(alloc, names, &next, &meanings)?;
         let nodes = next.len();

@@ -5,3 +5,5 @@ pub mod Tried
 pub mod Opened
 pub mod Aliking
 pub mod Parted
+pub mod Ordered
+pub mod Relating

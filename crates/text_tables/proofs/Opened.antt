@@ -14,7 +14,7 @@ use Rattle.instruction_texts.specs.Shapes as shapes
 use Rattle.instruction_texts.specs.Shapes.{zero_x, lead, before_sign, Spells, IsText}
 use Rattle.instruction_texts.specs.Starts.{Beginning, Mark, Word, Prefix, first_start, minus_start, negative_start}
 use Rattle.instruction_texts.proofs.OneText.{same_word, same_minus, not_both}
-use Rattle.text_tables.specs.Openings.{meet, meet_if_any, begins_so, begin_alike, are_level, stay_level}
+use Rattle.text_tables.specs.Openings.{meet, meet_if_any, begins_so, begin_alike, are_level, stay_level, Share}
 
 -- ---- one token that begins in two ways
 
@@ -131,10 +131,6 @@ opened (shapes.negative {p = p} cs {n = n} {ss = ss} {ts = ts} {us = us} h v m e
 
 -- ---- two forms with one text
 
--- some text is one of both
-abbrev pub Share : List Shape → List Shape → Type 0
-Share ss us = (ts : List Token) × IsText ss ts × IsText us ts
-
 heads : (t u : Token) (ts us : List Token) → t ∷ ts ≡ u ∷ us → t ≡ u
 heads t u ts us e = ap (λ (l : List Token). get_or l 0 t) e
 
@@ -217,18 +213,6 @@ abbrev pub rest : ℕ → List Shape → List Shape
 rest i ss = take (length ss - i) (drop i ss)
 
 module _ (ss us : List Shape) (i : ℕ) (on : Share ss us → Share (drop i ss) (drop i us)) where
-  pub unlike : i < length ss → i < length us → begin_alike (rest i ss) (rest i us) ≡ false → Share ss us → ⊥
-  unlike p q e h =
-      let t = share_alike (drop i ss) (drop i us) (omega (arith, length-drop i ss)) (omega (arith, length-drop i us)) (on h) in
-      let n : begin_alike (drop i ss) (drop i us) ≡ false = rw (rest_is i ss, rest_is i us) at e in
-      absurd (true≢false (sym t ∙ n))
-
-  pub alike_so_far : i < length ss → i < length us → stay_level (rest i ss) (rest i us) ≡ true → Share ss us → Share (drop (i + 1) ss) (drop (i + 1) us)
-  alike_so_far p q e h =
-      subst (λ (vs : List Shape). Share vs (drop (i + 1) us)) (drop-drop 1 i ss)
-      (subst (λ (vs : List Shape). Share (drop 1 (drop i ss)) vs) (drop-drop 1 i us)
-      (share_level (drop i ss) (drop i us) (omega (arith, length-drop i ss)) (omega (arith, length-drop i us)) (rw (rest_is i ss, rest_is i us) at e) (on h)))
-
   pub one_ends : i ≡ min (length ss) (length us) → Share ss us → length ss ≡ length us
   one_ends is h =
       let w = share_whole (drop i ss) (drop i us) (on h) in

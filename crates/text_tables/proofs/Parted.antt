@@ -1,10 +1,8 @@
 -- Texts in parts.
-use Rattle.std.proofs.Common.{◌≡◌, ℕ, zero, suc, ◌+◌, ◌-◌, ◌<◌, ◌≤◌, List, [], ◌∷◌, ◌++◌, length, map, take, drop, get_or, Option, Some, None, refl, sym, ap, ap₂, ◌∙◌, subst, arith, append-nil, append_assoc, drop-cons, add-one}
+use Rattle.std.proofs.Common.{◌≡◌, ℕ, zero, suc, ◌+◌, ◌-◌, ◌<◌, ◌≤◌, List, [], ◌∷◌, ◌++◌, length, map, take, drop, get_or, Option, refl, sym, ap, ap₂, ◌∙◌, subst, arith, drop-cons, add-one}
 use Rattle.std.specs.Global.{Vec}
-use Rattle.std.specs.List.{flat_map}
 use Rattle.std.specs.List.{All}
-use Rattle.std.proofs.lemmas.List.{get_or-map, length-map, take-append-drop, take_all, take_more}
-use Rattle.std.proofs.lemmas.Grind.{flat_map-append}
+use Rattle.std.proofs.lemmas.List.{get_or-map, length-map}
 use Rattle.instruction_texts.specs.declared.shapes.Shape.{Shape}
 use Rattle.instruction_texts.specs.declared.shapes.Shape.TheVariants.{Other, Literal, Unsigned, Signed}
 use Rattle.instruction_texts.specs.declared.shapes.Token.{Token}
@@ -17,7 +15,8 @@ use Rattle.text_tables.specs.Parts.{part_pieces, text_pieces, all_pieces}
 use Rattle.text_tables.specs.Shared.{shapes_at}
 use Rattle.text_tables.specs.declared.texts.Part.{Part}
 use Rattle.text_tables.specs.declared.texts.Texts.{Texts}
-use Rattle.text_tables.proofs.Opened.{Share, share_past, rest_is}
+use Rattle.text_tables.specs.Openings.{Share}
+use Rattle.text_tables.proofs.Opened.{rest_is}
 
 -- the pieces of a text of a number, as a vector of parts
 abbrev pub pieces_in : Texts → Vec Part → List Shape
@@ -45,9 +44,6 @@ pub sized_text : (t : Texts) (k : ℕ) (v : Vec Part) (shared : List (Vec Shape)
     → All IsSized (text_pieces shared parts)
 sized_text t k v shared parts sized inside is lists own =
     subst (All IsSized) (sym (text_of_parts t k v shared parts inside is lists own)) (sized k [] (omega (arith, inside, texts_count t)))
-
-pub whole_alike : (one other : List Shape) (n : ℕ) → length one ≡ length other → n ≡ length one → take n one ≡ take n other → one ≡ other
-whole_alike one other n level whole same = sym (take_all n one (omega (arith, whole))) ∙ same ∙ take_all n other (omega (arith, level, whole))
 
 -- ---- two texts
 
@@ -99,44 +95,16 @@ part_first shared parts i part h is =
 abbrev pub rest_of : ℕ → List Part → List Part
 rest_of n parts = take (length parts - n) (drop n parts)
 
-pub text_split : (shared : List (Vec Shape)) (n : ℕ) (parts : List Part) → text_pieces shared parts ≡ text_pieces shared (take n parts) ++ text_pieces shared (drop n parts)
-text_split shared n parts = ap (text_pieces shared) (sym (take-append-drop n parts)) ∙ flat_map-append (part_pieces shared) (take n parts) (drop n parts)
-
-part_more : (shared : List (Vec Shape)) (parts : List Part) (i : ℕ) (part : Part) → i < length parts → part ≡ get_or parts i part → text_pieces shared (take (i + 1) parts) ≡ text_pieces shared (take i parts) ++ part_pieces shared part
-part_more shared parts i part h is =
-    ap (text_pieces shared) (take_more parts i part h)
-    ∙ flat_map-append (part_pieces shared) (take i parts) (get_or parts i part ∷ [])
-    ∙ ap (λ (ss : List Shape). text_pieces shared (take i parts) ++ ss) (append-nil (part_pieces shared (get_or parts i part)) ∙ ap (part_pieces shared) (sym is))
-
--- one part more that is the same
-pub same_more : (shared : List (Vec Shape)) (first second : List Part) (i : ℕ) (one other : Part) → i < length first → i < length second → one ≡ get_or first i one → other ≡ get_or second i other
-    → part_pieces shared one ≡ part_pieces shared other → text_pieces shared (take i first) ≡ text_pieces shared (take i second) → text_pieces shared (take (i + 1) first) ≡ text_pieces shared (take (i + 1) second)
-same_more shared first second i one other p q is are same so_far =
-    part_more shared first i one p is ∙ ap₂ (λ (ss us : List Shape). ss ++ us) so_far same ∙ sym (part_more shared second i other q are)
-
-pub same_parts_passed : (shared : List (Vec Shape)) (n : ℕ) (first second : List Part) → text_pieces shared (take n first) ≡ text_pieces shared (take n second) → Share (text_pieces shared first) (text_pieces shared second)
+pub rest_pieces : (shared : List (Vec Shape)) (n : ℕ) (first second : List Part) → Share (text_pieces shared (drop n first)) (text_pieces shared (drop n second))
     → Share (text_pieces shared (rest_of n first)) (text_pieces shared (rest_of n second))
-same_parts_passed shared n first second same h =
-    let behind = share_past (text_pieces shared (take n first)) (text_pieces shared (drop n first)) (text_pieces shared (drop n second))
-    (subst (λ (us : List Shape). Share (text_pieces shared (take n first) ++ text_pieces shared (drop n first)) us)
-    (text_split shared n second ∙ ap (λ (ss : List Shape). ss ++ text_pieces shared (drop n second)) (sym same))
-    (subst (λ (ss : List Shape). Share ss (text_pieces shared second)) (text_split shared n first) h)) in
+rest_pieces shared n first second h =
     subst (λ (ps : List Part). Share (text_pieces shared ps) (text_pieces shared (rest_of n second))) (sym (rest_is n first))
-    (subst (λ (ps : List Part). Share (text_pieces shared (drop n first)) (text_pieces shared ps)) (sym (rest_is n second)) behind)
+    (subst (λ (ps : List Part). Share (text_pieces shared (drop n first)) (text_pieces shared ps)) (sym (rest_is n second)) h)
 
--- ---- the first part
-
-first_of : (shared : List (Vec Shape)) (parts : List Part) (part : Part) (own : List Shape) → 0 < length parts → part ≡ get_or parts 0 part → own ≡ part_pieces shared part
-    → text_pieces shared parts ≡ own ++ text_pieces shared (drop 1 parts)
-first_of shared [] part own h is pieces = absurd (omega arith)
-first_of shared (p ∷ parts) part own h is pieces = ap (λ (ss : List Shape). ss ++ text_pieces shared parts) (ap (part_pieces shared) (sym is) ∙ sym pieces)
-
-pub more_parts : (shared : List (Vec Shape)) (parts : List Part) (part : Part) (own : List Shape) (ts : List Token) → 0 < length parts → part ≡ get_or parts 0 part → own ≡ part_pieces shared part
-    → IsText (text_pieces shared parts) ts → IsText (own ++ text_pieces shared (drop 1 parts)) ts
-more_parts shared parts part own ts h is pieces t = subst (λ (ss : List Shape). IsText ss ts) (first_of shared parts part own h is pieces) t
-
-pub one_part : (shared : List (Vec Shape)) (parts : List Part) (part : Part) (own : List Shape) (ts : List Token) → length parts ≡ 1 → part ≡ get_or parts 0 part → own ≡ part_pieces shared part
-    → IsText (text_pieces shared parts) ts → IsText own ts
-one_part shared [] part own ts h is pieces t = absurd (omega (arith, h))
-one_part shared (p ∷ []) part own ts h is pieces t = subst (λ (ss : List Shape). IsText ss ts) (first_of shared (p ∷ []) part own (omega arith) is pieces ∙ append-nil own) t
-one_part shared (p ∷ q ∷ parts) part own ts h is pieces t = absurd (omega (arith, h))
+-- one part more
+pub share_parts : (shared : List (Vec Shape)) (first second : List Part) (i : ℕ) (one other : Part) → i < length first → i < length second → one ≡ get_or first i one → other ≡ get_or second i other
+    → Share (text_pieces shared (drop i first)) (text_pieces shared (drop i second))
+    → Share (part_pieces shared one ++ text_pieces shared (drop (i + 1) first)) (part_pieces shared other ++ text_pieces shared (drop (i + 1) second))
+share_parts shared first second i one other p q is are h =
+    subst (λ (ss : List Shape). Share ss (part_pieces shared other ++ text_pieces shared (drop (i + 1) second))) (part_first shared first i one p is)
+    (subst (λ (us : List Shape). Share (text_pieces shared (drop i first)) us) (part_first shared second i other q are) h)

@@ -2,8 +2,10 @@
 use Rattle.std.specs.Prelude.{ℕ, Bool, true, false, List, [], ◌∷◌, ◌++◌, Option, Some, None, Vec, nat_eq, ◌≡◌}
 use Rattle.std.specs.Global.{Global}
 use Rattle.std.specs.List.{flat_map}
-use Rattle.std.specs.Cmp.Lexicographic.{pointwise}
-use Rattle.indexmap.specs.IndexMap.{IndexMap, get}
+use Rattle.std.specs.BTreeMap.{BTreeMap, get}
+use Rattle.std.specs.Cmp.Lexicographic.{pointwise, slice_cmp}
+use Rattle.std.specs.Ordering.{nat_cmp}
+use Rattle.std.specs.declared.cmp.Ordering.{Ordering}
 use Rattle.instruction_texts.specs.declared.shapes.Shape.{Shape}
 use Rattle.instruction_texts.specs.Starts.{Beginning, Mark, Word, Prefix, first_start, negative_start}
 use Rattle.text_tables.specs.declared.beginnings.Beginnings.{Beginnings}
@@ -14,8 +16,8 @@ items_of None = []
 items_of (Some v) = v.items
 
 -- what is kept for a key
-abbrev pub kept_at : {K S : Type 0} → (K → K → Bool) → IndexMap K (Vec ℕ Global) S → K → List ℕ
-kept_at eq m k = items_of (get eq m k)
+abbrev pub kept_at : {K : Type 0} → (K → K → Ordering) → BTreeMap K (Vec ℕ Global) → K → List ℕ
+kept_at cmp m k = items_of (get cmp m k)
 
 -- the number is added where the test holds
 abbrev pub with_if : Bool → ℕ → List ℕ → List ℕ
@@ -25,9 +27,9 @@ with_if false k ks = ks
 -- those of the forms that begin so, where None stands for the forms without pieces
 abbrev pub numbers_of : Beginnings → Option Beginning → List ℕ
 numbers_of t None = t.bare.items
-numbers_of t (Some (Mark c)) = kept_at nat_eq t.signs c
-numbers_of t (Some (Word w)) = kept_at (pointwise nat_eq) t.words w
-numbers_of t (Some (Prefix p)) = kept_at (pointwise nat_eq) t.prefixes p
+numbers_of t (Some (Mark c)) = kept_at nat_cmp t.signs c
+numbers_of t (Some (Word w)) = kept_at (slice_cmp nat_cmp) t.words w
+numbers_of t (Some (Prefix p)) = kept_at (slice_cmp nat_cmp) t.prefixes p
 
 -- whether they are one beginning, or none both
 abbrev pub same : Option Beginning → Option Beginning → Bool

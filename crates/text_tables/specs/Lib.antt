@@ -5,3 +5,4 @@ pub mod Beginnings
 pub mod Openings
 pub mod Alike
 pub mod Misfits
+pub mod Relations

@@ -1,9 +1,13 @@
 -- Beginnings that a text may have at once.
-use Rattle.std.specs.Prelude.{Bool, true, false, ◌||◌, List, Option, Some, None, nat_eq}
+use Rattle.std.specs.Prelude.{Bool, true, false, ◌||◌, ◌++◌, List, Option, Some, None, nat_eq}
 use Rattle.std.specs.List.{starts_with}
 use Rattle.std.specs.Cmp.Lexicographic.{pointwise}
 use Rattle.instruction_texts.specs.declared.shapes.Shape.{Shape}
+use Rattle.instruction_texts.specs.declared.shapes.Token.{Token}
+use Rattle.instruction_texts.specs.Shapes.{IsText}
 use Rattle.instruction_texts.specs.Starts.{Beginning, Mark, Word, Prefix, first_start, negative_start}
+use Rattle.text_tables.specs.declared.openings.Relation.{Relation}
+use Rattle.text_tables.specs.declared.openings.Relation.TheVariants as relations
 
 -- whether some token begins in both ways
 abbrev pub meet : Beginning → Beginning → Bool
@@ -36,3 +40,14 @@ are_level _ _ = false
 
 abbrev pub stay_level : List Shape → List Shape → Bool
 stay_level ss us = are_level (negative_start ss) (negative_start us)
+
+-- some text is one of both
+abbrev pub Share : List Shape → List Shape → Type 0
+Share ss us = (ts : List Token) × IsText ss ts × IsText us ts
+
+-- how the texts of two lists go on, whatever stands behind them
+abbrev pub IsRelated : List Shape → List Shape → Relation → Type 0
+IsRelated ss us relations.Apart = (vs ws : List Shape) → Share (ss ++ vs) (us ++ ws) → ⊥
+IsRelated ss us relations.Level = (vs ws : List Shape) → Share (ss ++ vs) (us ++ ws) → Share vs ws
+IsRelated ss us relations.Uneven = Share ss us → ⊥
+IsRelated ss us relations.Open = Unit {0}

@@ -1,6 +1,6 @@
 //! How far forms have the same pieces.
 
-ghost use Rattle.std.specs.Prelude.{◌≡◌, ◌<◌, IfOk, IsTrue, length, take};
+ghost use Rattle.std.specs.Prelude.{◌≡◌, ◌≤◌, ◌<◌, IfOk, IsTrue, length, take};
 ghost use Rattle.text_tables.specs.Alike.{IsAlikeToBefore, AreAlike};
 ghost use Rattle.text_tables.specs.Parts.{all_pieces, text_pieces};
 
@@ -18,7 +18,9 @@ fn is_same(one: &Shape, other: &Shape) -> bool
 
 /// How many pieces at the front of both are the same.
 pub(crate) fn alike(one: &[Shape], other: &[Shape]) -> usize
-    ensures { take result one.now ≡ take result other.now }
+    ensures same { take result one.now ≡ take result other.now }
+    ensures first { result ≤ length one.now }
+    ensures second { result ≤ length other.now }
 {
     let most = one.len().min(other.len());
     'pieces: for i in 0..most {

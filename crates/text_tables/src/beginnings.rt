@@ -1,38 +1,65 @@
 //! Forms by how their texts begin.
 
-ghost use Rattle.std.specs.Prelude.{◌≡◌, List, [], Option, Some, IfOk, OnOk, map, option_map};
+ghost use Rattle.std.specs.Prelude.{◌≡◌, ℕ, List, [], Option, Some, IfOk, OnOk, map, option_map, nat_eq};
+ghost use Rattle.std.specs.Cmp.Lexicographic.{pointwise, slice_cmp};
+ghost use Rattle.std.specs.Ordering.{is_eq, nat_cmp};
 ghost use Rattle.asm_source.specs.Plain.{token_tree};
 ghost use Rattle.instruction_texts.specs.Starts.{Beginning, start_of, line_starts};
 ghost use Rattle.text_tables.specs.Beginnings.{with_if, kept_at, numbers_of, same, begun, items_of, Enters};
 
 use asm_source::LineToken;
-use indexmap::IndexMap;
 use instruction_texts::{Shape, Start, first_start, negative_start, starts_of};
 use lisa_words::{Name, NoMemory};
 use std::alloc::Global;
-use std::hash::Hash;
+use std::collections::BTreeMap;
 
 /// The numbers of forms, by the beginnings of their texts.
 #[derive(Drop)]
 pub(crate) struct Beginnings {
-    signs: IndexMap<u8, Vec<usize>>,
-    words: IndexMap<Name, Vec<usize>>,
-    prefixes: IndexMap<Name, Vec<usize>>,
+    signs: BTreeMap<u8, Vec<usize>>,
+    words: BTreeMap<Name, Vec<usize>>,
+    prefixes: BTreeMap<Name, Vec<usize>>,
     // Those of the forms without pieces.
     bare: Vec<usize>,
 }
 
 // Adds a form to those of a key.
-fn enter<K: Eq + Hash + Drop>(
+fn enter<K: Ord + Drop>(
     alloc: Global,
-    table: &mut IndexMap<K, Vec<usize>>,
+    table: &mut BTreeMap<K, Vec<usize>>,
     key: K,
     form: usize,
 ) -> Result<(), NoMemory>
-    ensures { OnOk result ((k : K) → kept_at K.eq table.new k ≡ with_if (K.eq key k) form (kept_at K.eq table.old k)) }
+    ensures { OnOk result ((k : K) → kept_at K.cmp table.new k ≡ with_if (is_eq (K.cmp key k)) form (kept_at K.cmp table.old k)) }
 {
     table.entry(key)?.or_insert(Vec::new(alloc)).push(form)?;
     Ok(())
+}
+
+// Adds a form to those of a sign.
+#[tactic(auto, using(crate::proofs::Ordered::same_sign))]
+fn enter_sign(
+    alloc: Global,
+    table: &mut BTreeMap<u8, Vec<usize>>,
+    sign: u8,
+    form: usize,
+) -> Result<(), NoMemory>
+    ensures { OnOk result ((c : ℕ) → kept_at nat_cmp table.new c ≡ with_if (nat_eq sign c) form (kept_at nat_cmp table.old c)) }
+{
+    enter(alloc, table, sign, form)
+}
+
+// Adds a form to those of a run.
+#[tactic(auto, using(crate::proofs::Ordered::same_run))]
+fn enter_run(
+    alloc: Global,
+    table: &mut BTreeMap<Name, Vec<usize>>,
+    run: &[u8],
+    form: usize,
+) -> Result<(), NoMemory>
+    ensures { OnOk result ((w : List ℕ) → kept_at (slice_cmp nat_cmp) table.new w ≡ with_if (pointwise nat_eq run.now w) form (kept_at (slice_cmp nat_cmp) table.old w)) }
+{
+    enter(alloc, table, Name::from_bytes(alloc, run)?, form)
 }
 
 fn forms_in(forms: Option<&Vec<usize>>) -> &[usize]
@@ -50,9 +77,9 @@ impl Beginnings {
         ensures { (b : Option Beginning) → numbers_of result b ≡ [] }
     {
         Beginnings {
-            signs: IndexMap::new(alloc),
-            words: IndexMap::new(alloc),
-            prefixes: IndexMap::new(alloc),
+            signs: BTreeMap::new(alloc),
+            words: BTreeMap::new(alloc),
+            prefixes: BTreeMap::new(alloc),
             bare: Vec::new(alloc),
         }
     }
@@ -67,18 +94,9 @@ impl Beginnings {
     {
         match start {
             None => self.bare.push(form)?,
-            Some(Start::Sign(sign)) => enter(alloc, &mut self.signs, sign, form)?,
-            Some(Start::Word(run)) => {
-                enter(alloc, &mut self.words, Name::from_bytes(alloc, run)?, form)?
-            }
-            Some(Start::Prefix(run)) => {
-                enter(
-                    alloc,
-                    &mut self.prefixes,
-                    Name::from_bytes(alloc, run)?,
-                    form,
-                )?
-            }
+            Some(Start::Sign(sign)) => enter_sign(alloc, &mut self.signs, sign, form)?,
+            Some(Start::Word(run)) => enter_run(alloc, &mut self.words, run, form)?,
+            Some(Start::Prefix(run)) => enter_run(alloc, &mut self.prefixes, run, form)?,
         }
         Ok(())
     }

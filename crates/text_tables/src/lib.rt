@@ -8,6 +8,7 @@ mod beginnings;
 mod joining;
 mod misfits;
 mod openings;
+mod relations;
 mod shared;
 mod table;
 mod texts;

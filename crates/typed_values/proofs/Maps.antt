@@ -3,7 +3,7 @@ use Rattle.std.proofs.Common.{◌≡◌, ◌<◌, ◌∙◌, ℕ, zero, suc, Boo
 use Rattle.std.specs.Prelude.{nat_eq, slice_set, slice_index_or}
 use Rattle.std.specs.Map.{lookup}
 use Rattle.std.specs.Cmp.Lexicographic.{pointwise}
-use Rattle.indexmap.specs.IndexMap.{insert_entry}
+use Rattle.name_tables.specs.NamedValues.{with_value}
 use Rattle.lisa_words.specs.declared.words.Kind.{Kind}
 use Rattle.typed_values.specs.declared.values.Value.{Value}
 use Rattle.typed_values.specs.Words.{TypedWord, typed_word, truth}
@@ -20,9 +20,9 @@ looked_up test (e ∷ es) = elim (test e.0) as (λ b. option_map typed_word (con
   | false ↦ looked_up test es
 ]
 
-pub inserted : (es : List (List ℕ × Value)) (n : List ℕ) (v : Value) → map plain (insert_entry (pointwise nat_eq) es n v) ≡ insert_entry (pointwise nat_eq) (map plain es) n (typed_word v)
+pub inserted : (es : List (List ℕ × Value)) (n : List ℕ) (v : Value) → map plain (with_value es n v) ≡ with_value (map plain es) n (typed_word v)
 inserted [] n v = refl
-inserted (e ∷ es) n v = elim (pointwise nat_eq n e.0) as (λ b. map plain (cond b ((e.0, v) ∷ es) (e ∷ insert_entry (pointwise nat_eq) es n v)) ≡ cond b ((e.0, typed_word v) ∷ map plain es) (plain e ∷ insert_entry (pointwise nat_eq) (map plain es) n (typed_word v))) [
+inserted (e ∷ es) n v = elim (pointwise nat_eq n e.0) as (λ b. map plain (cond b ((e.0, v) ∷ es) (e ∷ with_value es n v)) ≡ cond b ((e.0, typed_word v) ∷ map plain es) (plain e ∷ with_value (map plain es) n (typed_word v))) [
   | true ↦ refl
   | false ↦ ap (λ (l : List (List ℕ × TypedWord)). plain e ∷ l) (inserted es n v)
 ]

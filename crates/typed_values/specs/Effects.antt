@@ -1,7 +1,5 @@
 -- What statements do to a moment, where it is known what is read there and what assignments, calls, stalls and flushes do.
-use Rattle.std.specs.Prelude.{ℕ, zero, suc, ◌+◌, ◌*◌, List, length, take, Option, None, Some, nat_eq, if◌then◌else◌}
-use Rattle.std.specs.Cmp.Lexicographic.{pointwise}
-use Rattle.indexmap.specs.IndexMap.{insert_entry}
+use Rattle.std.specs.Prelude.{ℕ, zero, suc, ◌+◌, ◌*◌, List, length, take, Option, None, Some, if◌then◌else◌}
 use Rattle.lisa_words.specs.declared.words.Kind.{Kind}
 use Rattle.lisa_words.specs.declared.words.Kind.TheVariants as kinds
 use Rattle.lisa_tree.specs.declared.tokens.Shape.{Shape}
@@ -9,6 +7,7 @@ use Rattle.lisa_tree.specs.Expressions.{ExprTree}
 use Rattle.lisa_tree.specs.Statements as stmts
 use Rattle.lisa_tree.specs.Statements.{HeadTree, StmtTree, StmtTrees}
 use Rattle.description_places.specs.Literals.{literal}
+use Rattle.name_tables.specs.NamedValues.{with_value}
 use Rattle.shape_checks.specs.declared.bounds.Bounds.{Bounds}
 use Rattle.shape_checks.specs.Bounds.{bounds_of, turns}
 use Rattle.typed_values.specs.declared.wholes.Whole.{Whole}
@@ -54,7 +53,7 @@ pub record Doing (M : Type 0) : Type 0 where
 
 -- a local with its value; a new one goes last
 abbrev pub local_put : Locals → List ℕ → TypedWord → Locals
-local_put locals n v = insert_entry (pointwise nat_eq) locals n v
+local_put locals n v = with_value locals n v
 
 abbrev pub with_local : {M : Type 0} → Doing M → List ℕ → TypedWord → M → M
 with_local doing n v m = doing.with_locals (local_put (doing.locals m) n v) m

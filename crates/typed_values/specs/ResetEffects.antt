@@ -117,4 +117,4 @@ reset_moment d = reset_effect d (number_of d (codes "reset"))
 
 -- the plain moment that the code's memory stands for
 abbrev pub moment_of : Memory → Moment
-moment_of m = moment (map typed_word m.registers.items) (map (λ (e : List ℕ × Value). (e.0, typed_word e.1)) m.locals.entries)
+moment_of m = moment (map typed_word m.registers.items) (map (λ (e : List ℕ × Value). (e.0, typed_word e.1)) m.locals.entries.items)

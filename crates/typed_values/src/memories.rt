@@ -13,16 +13,16 @@ ghost use Rattle.typed_values.specs.Effects.{in_kind};
 ghost use Rattle.typed_values.specs.ResetEffects.{register_value, first_value, first_moment, moment_of, name_value, reader, with_locals, with_local, with_register, assigned_name, assigned};
 
 use crate::{Reads, Value, Whole, evaluate};
-use indexmap::IndexMap;
 use lisa_tree::{BoundaryField, Expr, Names, Resource};
 use lisa_words::{Name, NoMemory};
+use name_tables::NamedValues;
 use std::alloc::Global;
 
 /// The values of resources, by their numbers, and of locals, by their names.
 #[derive(Drop)]
 pub struct Memory {
     pub registers: Vec<Value>,
-    pub locals: IndexMap<Name, Value>,
+    pub locals: NamedValues<Value>,
 }
 
 // 0 of a register's type.
@@ -58,7 +58,7 @@ impl Memory {
         }
         Ok(Memory {
             registers,
-            locals: IndexMap::new(alloc),
+            locals: NamedValues::new(alloc),
         })
     }
 
@@ -74,7 +74,7 @@ impl Memory {
     fn local_named(&self, name: &Name) -> Option<Value>
         ensures { option_map typed_word result ≡ lookup (same_name name.now) (moment_of self.now).locals }
     {
-        self.locals.get(name).copied()
+        self.locals.get(name)
     }
 
     fn named<N: Names>(&self, names: &N, name: &Name) -> Value
@@ -103,7 +103,7 @@ impl Memory {
     pub fn set_local(&mut self, name: &Name, value: Value) -> Result<(), NoMemory>
         ensures { OnOk result (moment_of self.new ≡ with_local name.now (typed_word value) (moment_of self.old)) }
     {
-        self.locals.insert(name.clone()?, value)?;
+        self.locals.put(name, value)?;
         Ok(())
     }
 

@@ -14,7 +14,7 @@ use Rattle.lisa_machine.specs.description_types.declared.values.Assignable.TheVa
 use Rattle.lisa_machine.specs.description_types.Facts.{entry_value}
 use Rattle.lisa_machine.specs.description_types.Kinds.{assignable_fact}
 use Rattle.lisa_machine.specs.description_types.Steady.{assignables_steady}
-use Rattle.lisa_machine.specs.description_types.Tables.{unfit, Known, AreKinds}
+use Rattle.lisa_machine.specs.description_types.Tables.{apart, unfit, Known, AreKinds}
 use Rattle.lisa_machine.specs.name_checks.Doubled.{duplicate}
 use Rattle.lisa_machine.specs.name_checks.Unknown.{unknown}
 use Rattle.lisa_machine.specs.kind_checks.WrongKinds.{wrong_kind}
@@ -41,8 +41,8 @@ module _ (d : DescriptionTree) (known : Known) (kinds : AreKinds d known) (names
       some_same x y f = cc f
 
   no_label : (j : ℕ) (e : Entry) → slice_get (entries d) j ≡ Some e → IsAssignable j → e.what ≡ whats.Label → ⊥
-  no_label j e is y what = off (sym (entry_is d known names stand uses (assignable_fact d (unfit known.traits known.typeless)) (assignables_steady d (unfit known.traits known.typeless)) known.assignables kinds.assignables j e is
-      ∙ ap (λ (x : What). entry_value d (assignable_fact d (unfit known.traits known.typeless)) known.assignables j (Some x)) what) ∙ y)
+  no_label j e is y what = off (sym (entry_is d known names stand uses (assignable_fact d (apart known.traits) (unfit known.traits known.typeless)) (assignables_steady d (apart known.traits) (unfit known.traits known.typeless)) known.assignables kinds.assignables j e is
+      ∙ ap (λ (x : What). entry_value d (assignable_fact d (apart known.traits) (unfit known.traits known.typeless)) known.assignables j (Some x)) what) ∙ y)
     where
       off : Some assigns.No ≡ Some assigns.Yes → ⊥
       off f = absurd (cc f)

@@ -1,5 +1,5 @@
 -- What follows from rules that rest on each other has a table, and what is known of a description's names.
-use Rattle.std.proofs.Common.{◌≡◌, ◌∙◌, ◌↔◌, ◌⊎◌, ◌≤◌, ℕ, Bool, true, Option, None, Some, length, sym, ap, subst, inl, inr}
+use Rattle.std.proofs.Common.{◌≡◌, ◌∙◌, ◌↔◌, ◌⊎◌, ◌<◌, ◌≤◌, ℕ, Bool, true, Option, None, Some, length, sym, ap, subst, inl, inr}
 use Rattle.std.proofs.lemmas.Option.{same_Some}
 use Rattle.lisa_tree.specs.Descriptions.{DescriptionTree}
 use Rattle.lisa_tree.specs.Declarations.{entries}
@@ -17,7 +17,7 @@ use Rattle.description_types.specs.Ends.{follows_ends}
 use Rattle.description_types.specs.Steady.{types_steady, assignables_steady}
 use Rattle.description_types.specs.Kinds.{type_fact, assignable_fact}
 use Rattle.description_types.specs.Uses.{holds, own_traits}
-use Rattle.description_types.specs.Tables.{AreValues, AreMeant, AreTraits, AreTypes, AreAssignables, apart, unfit, LacksType, MayNotAssign, DifferInType, DifferInAssigning, IsSettled, Known, AreKinds}
+use Rattle.description_types.specs.Tables.{AreValues, AreMeant, AreTraits, AreTypes, AreAssignables, apart, unfit, IsTypeless, IsUnassignable, DifferInType, DifferInAssigning, IsSettled, Known, AreKinds}
 use Rattle.description_types.proofs.MeantMarks.{meant_from}
 use Rattle.verdict_promises.proofs.Undenied.{Undenied, surely, then, either, table, marks}
 use Rattle.verdict_promises.proofs.FormFirsts.{one_value}
@@ -100,6 +100,16 @@ module _ (d : DescriptionTree) where
 
   -- ---- all of it
 
+  typeless_names : (types : ℕ → Option TypeOf) → Undenied ((m : ℕ → Bool) × ((i : ℕ) → (m i ≡ true) ↔ IsTypeless d types i))
+  typeless_names types = marks (λ i. IsTypeless d types i) (length (entries d)) below
+    where
+      below : (i : ℕ) → IsTypeless d types i → i < length (entries d)
+      below i (inl x) = meant_from d x.1.0
+      below i (inr x) = meant_from d x.1.1.0
+
+  unassignable_names : (assignables : ℕ → Option Assignable) → Undenied ((m : ℕ → Bool) × ((i : ℕ) → (m i ≡ true) ↔ IsUnassignable d assignables i))
+  unassignable_names assignables = marks (λ i. IsUnassignable d assignables i) (length (entries d)) (λ i x. meant_from d x.1.1.0)
+
   differing_types : (types : ℕ → Option TypeOf) → Undenied ((m : ℕ → Bool) × ((i : ℕ) → (m i ≡ true) ↔ (IsSettled d types i × DifferInType d types i)))
   differing_types types = marks (λ i. IsSettled d types i × DifferInType d types i) (length (entries d)) (λ i x. meant_from d x.1.means_one)
 
@@ -108,14 +118,14 @@ module _ (d : DescriptionTree) where
 
   with_types : (traits : ℕ → Traits) (types : ℕ → Option TypeOf) → AreTraits d traits → AreTypes d traits types → Undenied ((known : Known) × AreKinds d known)
   with_types traits types are typed =
-      then (meant (LacksType d types)) (λ (typeless : (m : ℕ → Bool) × AreMeant d (LacksType d types) m).
+      then (typeless_names types) (λ (typeless : (m : ℕ → Bool) × ((i : ℕ) → (m i ≡ true) ↔ IsTypeless d types i)).
       then (differing_types types) (λ (differ : (m : ℕ → Bool) × ((i : ℕ) → (m i ≡ true) ↔ (IsSettled d types i × DifferInType d types i))).
-      then (values (assignable_fact d (unfit traits typeless.0)) (assignables_steady d (unfit traits typeless.0))) (λ (assignables : (known : ℕ → Option Assignable) × AreAssignables d traits typeless.0 known).
-      then (meant (MayNotAssign d assignables.0)) (λ (not : (m : ℕ → Bool) × AreMeant d (MayNotAssign d assignables.0) m).
-      then (differing_assignables assignables.0) (λ (apart : (m : ℕ → Bool) × ((i : ℕ) → (m i ≡ true) ↔ (IsSettled d assignables.0 i × DifferInAssigning d assignables.0 i))).
+      then (values (assignable_fact d (apart traits) (unfit traits typeless.0)) (assignables_steady d (apart traits) (unfit traits typeless.0))) (λ (assignables : (known : ℕ → Option Assignable) × AreAssignables d traits typeless.0 known).
+      then (unassignable_names assignables.0) (λ (not : (m : ℕ → Bool) × ((i : ℕ) → (m i ≡ true) ↔ IsUnassignable d assignables.0 i)).
+      then (differing_assignables assignables.0) (λ (unlike : (m : ℕ → Bool) × ((i : ℕ) → (m i ≡ true) ↔ (IsSettled d assignables.0 i × DifferInAssigning d assignables.0 i))).
       surely (
-        record { types = types; assignables = assignables.0; traits = traits; typeless = typeless.0; unassignable = not.0; types_differ = differ.0; assignables_differ = apart.0 },
-        record { traits = are; types = typed; typeless = typeless.1; types_differ = differ.1; assignables = assignables.1; unassignable = not.1; assignables_differ = apart.1 },
+        record { types = types; assignables = assignables.0; traits = traits; typeless = typeless.0; unassignable = not.0; types_differ = differ.0; assignables_differ = unlike.0 },
+        record { traits = are; types = typed; typeless = typeless.1; types_differ = differ.1; assignables = assignables.1; unassignable = not.1; assignables_differ = unlike.1 },
       ))))))
 
   pub some_kinds : Undenied ((known : Known) × AreKinds d known)

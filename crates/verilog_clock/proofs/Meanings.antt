@@ -66,18 +66,25 @@ pub parts_mean : (m : ModuleTree) (e : VExpr) (xs : List VExpr) (code : Code) (l
     → ((values : List ℕ) (cells : List (List ℕ)) → AreWithin m values cells → code_value values cells code ≡ parts_value (env_of m values cells) (vexpr_trees xs)) → Means m (vexpr_tree e) length code
 parts_mean m e xs code length tree is values cells within = is values cells within ∙ sym (ap (λ (t : VTree). v_value (env_of m values cells) t length) tree)
 
-pub repeat_means : (m : ModuleTree) (e a a1 a2 : VExpr) (times width : ℕ) (inner code : Code) (length : ℕ)
-    → vexpr_tree e ≡ trees.Repeat times (vexpr_tree a) → a1 ≡ a → a2 ≡ a → width ≡ v_width (widths_of m) (vexpr_tree a1) → Means m (vexpr_tree a2) width inner
+-- what a compiled part many times means
+abbrev pub MeansRepeat : ModuleTree → ℕ → VExpr → Code → Type 0
+MeansRepeat m times a code = (values : List ℕ) (cells : List (List ℕ)) → AreWithin m values cells
+    → code_value values cells code ≡ repeated times (v_width (widths_of m) (vexpr_tree a)) (v_value (env_of m values cells) (vexpr_tree a) (v_width (widths_of m) (vexpr_tree a)))
+
+pub repeat_means : (m : ModuleTree) (a : VExpr) (times width : ℕ) (inner code : Code) → width ≡ v_width (widths_of m) (vexpr_tree a) → Means m (vexpr_tree a) width inner
     → ((values : List ℕ) (cells : List (List ℕ)) → code_value values cells inner < 2 ^ width → code_value values cells code ≡ repeated times width (code_value values cells inner))
-    → Means m (vexpr_tree e) length code
-repeat_means m e a a1 a2 times width inner code length tree one two wide means gives values cells within =
+    → MeansRepeat m times a code
+repeat_means m a times width inner code own means gives values cells within =
     let env = env_of m values cells in
-    let own : width ≡ v_width (widths_of m) (vexpr_tree a) = wide ∙ ap (λ (x : VExpr). v_width (widths_of m) (vexpr_tree x)) one in
-    let value : code_value values cells inner ≡ v_value env (vexpr_tree a) width = means values cells within ∙ ap (λ (x : VExpr). v_value env (vexpr_tree x) width) two in
+    let value : code_value values cells inner ≡ v_value env (vexpr_tree a) width = means values cells within in
     let same : code_value values cells inner ≡ v_value env (vexpr_tree a) (v_width (widths_of m) (vexpr_tree a)) = value ∙ ap (v_value env (vexpr_tree a)) own in
     let below : code_value values cells inner < 2 ^ width = subst (λ (n : ℕ). n < 2 ^ width) (sym value)
     (value_below env a width (are_bound m values cells within) (omega (arith, own))) in
-    gives values cells below ∙ ap₂ (λ (w v : ℕ). repeated times w v) own same ∙ sym (ap (λ (t : VTree). v_value env t length) tree)
+    gives values cells below ∙ ap₂ (λ (w v : ℕ). repeated times w v) own same
+
+pub repeats_mean : (m : ModuleTree) (e a b : VExpr) (times : ℕ) (code : Code) (length : ℕ) → vexpr_tree e ≡ trees.Repeat times (vexpr_tree a) → b ≡ a → MeansRepeat m times b code → Means m (vexpr_tree e) length code
+repeats_mean m e a b times code length tree same is values cells within =
+    subst (λ (x : VExpr). MeansRepeat m times x code) same is values cells within ∙ sym (ap (λ (t : VTree). v_value (env_of m values cells) t length) tree)
 
 abbrev pub IsTwo : Operator → ℕ → Code → Code → Code → Type 0
 IsTwo op length a b code = (values : List ℕ) (cells : List (List ℕ)) → code_value values cells code ≡ operate op length (code_value values cells a) (code_value values cells b)

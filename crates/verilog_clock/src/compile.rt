@@ -1,7 +1,7 @@
 // Compiled expressions. An operator gets the length of its context, or that of its operands, as the standard has it.
 ghost use Rattle.std.specs.Prelude.{◌≡◌, ◌≤◌, ◌<◌, ◌+◌, ◌-◌, ◌*◌, ◌^◌, ℕ, List, IfOk};
 ghost use Rattle.verilog_text.specs.Trees.{vexpr_tree, vexpr_trees, Bits as BitsTree};
-ghost use Rattle.verilog_text.specs.Values.{v_width, parts_width as width_of_parts, left_length, right_length, parts_value, repeated, operate as operated};
+ghost use Rattle.verilog_text.specs.Values.{v_width, parts_width as width_of_parts, left_length, right_length, v_value, parts_value, repeated, operate as operated};
 ghost use Rattle.verilog_text.specs.Clocked.{widths_of, env_of};
 ghost use Rattle.verilog_text.specs.Clockable.{IsNarrow, AreNarrow};
 ghost use Rattle.verilog_clock.specs.Compiled.{code_value};
@@ -220,31 +220,76 @@ pub fn compile(alloc: Global, scope: &Scope<'_>, e: &VExpr, length: u32) -> Resu
                 Box::new(alloc, other)?,
             ))
         }
-        VExpr::Join(parts) => compile_join(alloc, scope, parts),
+        VExpr::Join(parts) => {
+            let (joined, _) = compile_join(alloc, scope, parts)?;
+            Ok(joined)
+        }
         VExpr::Repeat(times, a) => {
-            let width = own_width(scope, a);
-            let a = compile(alloc, scope, a, width)?;
-            repeat(alloc, *times, width, a)
+            let (repeated, _) = compile_repeat(alloc, scope, *times, a)?;
+            Ok(repeated)
         }
     }
 }
 
-// Parts together, the first of which is the highest.
+// A part at its own length, with that length.
 #[cycle(compiled)]
-fn compile_join(alloc: Global, scope: &Scope<'_>, parts: &[VExpr]) -> Result<Code, AllocError>
+fn compile_part(alloc: Global, scope: &Scope<'_>, e: &VExpr) -> Result<(Code, u32), AllocError>
+    requires { IsNarrow (widths_of (module_in scope.now)) (vexpr_tree e.now) }
+    ensures value { IfOk result (λ part. Means (module_in scope.now) (vexpr_tree e.now) part.1 part.0) }
+    ensures width { IfOk result (λ part. part.1 ≡ v_width (widths_of (module_in scope.now)) (vexpr_tree e.now)) }
+{
+    match e {
+        VExpr::Join(parts) => compile_join(alloc, scope, parts),
+        VExpr::Repeat(times, a) => compile_repeat(alloc, scope, *times, a),
+        _ => {
+            let width = own_width(scope, e);
+            let part = compile(alloc, scope, e, width)?;
+            Ok((part, width))
+        }
+    }
+}
+
+// A part so many times, with the length of all of them.
+#[cycle(compiled)]
+fn compile_repeat(
+    alloc: Global,
+    scope: &Scope<'_>,
+    times: u32,
+    a: &VExpr,
+) -> Result<(Code, u32), AllocError>
+    requires narrow { IsNarrow (widths_of (module_in scope.now)) (vexpr_tree a.now) }
+    requires small { times * v_width (widths_of (module_in scope.now)) (vexpr_tree a.now) ≤ 64 }
+    ensures value { let width = v_width (widths_of (module_in scope.now)) (vexpr_tree a.now) in
+        IfOk result (λ all. (values : List ℕ) (cells : List (List ℕ)) → AreWithin (module_in scope.now) values cells
+        → code_value values cells all.0 ≡ repeated times width (v_value (env_of (module_in scope.now) values cells) (vexpr_tree a.now) width)) }
+    ensures width { IfOk result (λ all. all.1 ≡ times * v_width (widths_of (module_in scope.now)) (vexpr_tree a.now)) }
+{
+    let (a, width) = compile_part(alloc, scope, a)?;
+    let all = repeat(alloc, times, width, a)?;
+    Ok((all, times * width))
+}
+
+// Parts together, the first of which is the highest, with their length.
+#[cycle(compiled)]
+fn compile_join(
+    alloc: Global,
+    scope: &Scope<'_>,
+    parts: &[VExpr],
+) -> Result<(Code, u32), AllocError>
     requires narrow { AreNarrow (widths_of (module_in scope.now)) (vexpr_trees parts.now) }
     requires small { width_of_parts (widths_of (module_in scope.now)) (vexpr_trees parts.now) ≤ 64 }
-    ensures { IfOk result (λ code. (values : List ℕ) (cells : List (List ℕ)) → AreWithin (module_in scope.now) values cells
-        → code_value values cells code ≡ parts_value (env_of (module_in scope.now) values cells) (vexpr_trees parts.now)) }
+    ensures value { IfOk result (λ joined. (values : List ℕ) (cells : List (List ℕ)) → AreWithin (module_in scope.now) values cells
+        → code_value values cells joined.0 ≡ parts_value (env_of (module_in scope.now) values cells) (vexpr_trees parts.now)) }
+    ensures width { IfOk result (λ joined. joined.1 ≡ width_of_parts (widths_of (module_in scope.now)) (vexpr_trees parts.now)) }
 {
     let [first, rest @ ..] = parts else {
-        return Ok(Code::Number(0));
+        return Ok((Code::Number(0), 0));
     };
-    let width = own_width(scope, first);
-    let low = parts_width(scope, rest);
-    let high = compile(alloc, scope, first, width)?;
-    let rest = compile_join(alloc, scope, rest)?;
-    beside(alloc, Length::of(width + low), high, low, rest)
+    let (high, width) = compile_part(alloc, scope, first)?;
+    let (rest, low) = compile_join(alloc, scope, rest)?;
+    let both = width + low;
+    let joined = beside(alloc, Length::of(both), high, low, rest)?;
+    Ok((joined, both))
 }
 
 /// An expression for a target of a width.

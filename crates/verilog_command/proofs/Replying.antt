@@ -1,8 +1,6 @@
 -- What `verilog` replies.
-use Rattle.std.proofs.Common.{◌≡◌, ◌≤◌, ◌<◌, ◌∙◌, inl, inr, sym, ap, subst, arith, List, ℕ, [], Option, Result, Ok, Err, IsOk, OnOk, refl}
-use Rattle.std.specs.Io.KnownBytes.{Appends}
+use Rattle.std.proofs.Common.{◌≡◌, ◌≤◌, ◌∙◌, inl, inr, sym, ap, subst, arith, List, ℕ, [], Option, Result, Ok, Err, IsOk, OnOk}
 use Rattle.lisa_io.proofs.Known.{appends_none}
-use Rattle.lisa_tree.specs.Descriptions.{DescriptionTree}
 use Rattle.step_program.specs.declared.faults.LowerFault.{LowerFault}
 use Rattle.step_program.specs.declared.faults.LowerFault.TheVariants as faults
 use Rattle.lisa_lower.specs.Heavy.{weight_limit, IsTooHeavy}
@@ -11,13 +9,14 @@ use Rattle.lisa_outcomes.specs.declared.status.End.{End}
 use Rattle.lisa_outcomes.specs.declared.status.End.TheVariants as ends
 use Rattle.lisa_outcomes.specs.declared.status.Refusal.{Refusal}
 use Rattle.lisa_outcomes.specs.declared.status.Refusal.TheVariants as refusals
-use Rattle.lisa_outcomes.specs.Outcomes.{Outcome, Finished, Refusing}
+use Rattle.lisa_outcomes.specs.Outcomes.{Finished, Refusing}
 use Rattle.lisa_outcomes.specs.Refusals.{IsRefusal}
 use Rattle.lisa_outcomes.specs.Writes.{Writes}
 use Rattle.lisa_outcomes.specs.Replies.{Replies}
 use Rattle.lisa_outcomes.proofs.Stages.{memory_replies}
 use Rattle.lisa_outcomes.proofs.Within.{nothing_within}
 use Rattle.lisa_outcomes.proofs.Told.{err_is, not_ok}
+use Rattle.lisa_outcomes.proofs.Refusals.{netlist_refusal}
 use Rattle.checked_descriptions.specs.Checked.{Checked}
 use Rattle.verilog_command.specs.Modules.{IsHeavy, IsLightText, IsHeavyEnd, WritesModule, written, refused}
 
@@ -27,19 +26,7 @@ ok_writes (Err e) P p ok = absurd (not_ok ok)
 
 -- what is refused by its weight is no want of memory
 heavy_is_refusal : (what : List ℕ) (count limit : ℕ) → IsRefusal (refusals.Netlist (faults.TooMany what count limit))
-heavy_is_refusal what count limit = record {
-  file = λ e. cc;
-  input = λ e. cc;
-  program = λ e. cc;
-  description = λ e. cc;
-  verilog = λ e. cc;
-  netlist = λ e. cc;
-  image = λ e. cc;
-  object = λ e. cc;
-  schedule = λ e. cc;
-  source = λ e. cc;
-  link = λ e. cc;
-}
+heavy_is_refusal what count limit = netlist_refusal (faults.TooMany what count limit) (λ e. cc)
 
 module _ (c : Checked) where
   light_is_not_heavy : (refusal : Refusal) → weight c.tree ≤ weight_limit → IsHeavy c.tree refusal → ⊥

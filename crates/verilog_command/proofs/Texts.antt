@@ -1,10 +1,10 @@
 -- The text of a step program's module, where the program is that of a description: it is as short as is promised.
-use Rattle.std.proofs.Common.{◌≡◌, ◌≤◌, ◌∙◌, ℕ, List, Option, None, length, sym, ap, subst, arith}
+use Rattle.std.proofs.Common.{◌≡◌, ◌≤◌, ◌∙◌, ℕ, List, None, length, sym, ap, subst, arith}
 use Rattle.lisa_engine.specs.Images.{missing_memory}
 use Rattle.lisa_engine.specs.Shape.{AreEntries}
 use Rattle.lisa_engine.specs.declared.parts.Item.{Item}
 use Rattle.lisa_engine.specs.declared.parts.ArrayItem.{ArrayItem}
-use Rattle.lisa_lower.specs.machine_parts.Parts.{arrays_of, pins_of}
+use Rattle.lisa_lower.specs.machine_parts.Parts.{arrays_of}
 use Rattle.checked_descriptions.specs.description_sizes.Sizes.{items}
 use Rattle.lisa_lower.specs.description_weight.Weights.{weight}
 use Rattle.step_program.specs.Programs.{Program}

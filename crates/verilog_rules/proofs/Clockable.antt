@@ -1,5 +1,5 @@
 -- A module in which nothing is broken can be clocked.
-use Rattle.std.proofs.Common.{◌≡◌, ℕ, ◌+◌, ◌<◌, ◌≤◌, List, [], ◌∷◌, ◌++◌, length, map, refl, sym, ap, ◌∙◌, subst, arith, codes, inl, inr, ⊎_elim}
+use Rattle.std.proofs.Common.{◌≡◌, ℕ, ◌+◌, ◌<◌, ◌≤◌, List, [], ◌∷◌, ◌++◌, length, map, refl, sym, ap, ◌∙◌, subst, arith, codes, inl, inr, ⊎_elim, sum_by}
 use Rattle.std.specs.Prelude.{flat_map}
 use Rattle.std.proofs.lemmas.Bool.{cases_lt}
 use Rattle.std.proofs.lemmas.List.{map-append}
@@ -126,17 +126,68 @@ module _ (m : ModuleTree) (holds : Holds4 m) where
   arrays_are_apart : AreApart (array_names m.members)
   arrays_are_apart = arrays_apart m.members (apart_back (input_names m) (names_in m.members) all_apart)
 
-few : (m : ModuleTree) → ((what : List ℕ) (count limit : ℕ) → ¬ IsTooMany m what count limit) → length (arrays m.members) ≤ 1024
-few m never =
+-- no count is above its limit
+abbrev IsWithinCounts : ModuleTree → Type 0
+IsWithinCounts m = (what : List ℕ) (count limit : ℕ) → ¬ IsTooMany m what count limit
+
+abbrev cells : ModuleTree → ℕ
+cells m = sum_by (λ (array : ArrayItem). array.depth) (arrays m.members)
+
+items_fit : (m : ModuleTree) → IsWithinCounts m → length (regs m.members) ≤ 8192
+items_fit m never =
     ⊎_elim
-    (λ many. ⊎_elim
-    (λ more. absurd (never _ _ _ (AtMost (codes "items") (length (regs m.members)) 8192, first_here IsExcess _ _ more, refl, refl, refl)))
-    (λ fits. absurd (never _ _ _ (AtMost (codes "arrays") (length (arrays m.members)) 1024, first_behind IsExcess _ _ _ (λ (more : 8192 < length (regs m.members)). omega (arith, more, fits)) (first_here IsExcess _ _ many), refl, refl, refl)))
-    (cases_lt 8192 (length (regs m.members))))
+    (λ many. absurd (never _ _ _ (AtMost (codes "items") (length (regs m.members)) 8192, first_here IsExcess _ _ many, refl, refl, refl)))
+    (λ fits. fits)
+    (cases_lt 8192 (length (regs m.members)))
+
+arrays_fit : (m : ModuleTree) → IsWithinCounts m → length (arrays m.members) ≤ 1024
+arrays_fit m never =
+    let items : length (regs m.members) ≤ 8192 = items_fit m never in
+    ⊎_elim
+    (λ many. absurd (never _ _ _ (
+      AtMost (codes "arrays") (length (arrays m.members)) 1024,
+      first_behind IsExcess _ _ _ (λ (more : 8192 < length (regs m.members)). omega (arith, more, items)) (first_here IsExcess _ _ many),
+      refl,
+      refl,
+      refl,
+    )))
     (λ fits. fits)
     (cases_lt 1024 (length (arrays m.members)))
 
--- where nothing is broken in a module that tokens spell, it can be clocked
+cells_fit : (m : ModuleTree) → IsWithinCounts m → cells m ≤ 4194304
+cells_fit m never =
+    let items : length (regs m.members) ≤ 8192 = items_fit m never in
+    let all : length (arrays m.members) ≤ 1024 = arrays_fit m never in
+    ⊎_elim
+    (λ many. absurd (never _ _ _ (
+      AtMost (codes "cells") (cells m) 4194304,
+      first_behind IsExcess _ _ _ (λ (more : 8192 < length (regs m.members)). omega (arith, more, items))
+          (first_behind IsExcess _ _ _ (λ (more : 1024 < length (arrays m.members)). omega (arith, more, all)) (first_here IsExcess _ _ many)),
+      refl,
+      refl,
+      refl,
+    )))
+    (λ fits. fits)
+    (cases_lt 4194304 (cells m))
+
+pins_fit : (m : ModuleTree) → IsWithinCounts m → length m.inputs ≤ 64
+pins_fit m never =
+    let items : length (regs m.members) ≤ 8192 = items_fit m never in
+    let all : length (arrays m.members) ≤ 1024 = arrays_fit m never in
+    let small : cells m ≤ 4194304 = cells_fit m never in
+    ⊎_elim
+    (λ many. absurd (never _ _ _ (
+      AtMost (codes "pins") (length m.inputs) 64,
+      first_behind IsExcess _ _ _ (λ (more : 8192 < length (regs m.members)). omega (arith, more, items))
+          (first_behind IsExcess _ _ _ (λ (more : 1024 < length (arrays m.members)). omega (arith, more, all))
+          (first_behind IsExcess _ _ _ (λ (more : 4194304 < cells m). omega (arith, more, small)) (first_here IsExcess _ _ many))),
+      refl,
+      refl,
+      refl,
+    )))
+    (λ fits. fits)
+    (cases_lt 64 (length m.inputs))
+
 pub clockable : {ts : VToks} {m : ModuleTree} (s : SpellsModule ts m) → HoldsAll s → IsClockable m
 clockable {m = m} s holds =
     let at = 5 + length s.wire in
@@ -159,7 +210,9 @@ clockable {m = m} s holds =
           (each_append (λ (item : Item). 1 ≤ item.width) (regs m.members) (m.inputs ++ wires) (some_regs m.members some)
           (each_append (λ (item : Item). 1 ≤ item.width) m.inputs wires (some_inputs s.spells_inputs) (some_nets m.members some)));
       some_arrays = each_all (λ (array : ArrayItem). 1 ≤ array.width) (arrays m.members) (some_stores m.members some);
-      few_arrays = few m holds.1;
+      few_items = items_fit m holds.1;
+      few_arrays = arrays_fit m holds.1;
+      few_pins = pins_fit m holds.1;
       narrow = each_all (IsNarrowMember w) m.members (small_members w m.members small);
     }
 

@@ -1,10 +1,10 @@
 -- What a module must be so that it can be clocked with words of 64 bits. It follows from the rules on a module's names, lengths
 -- and counts: no two declarations share a name, each has from 1 to 64 bits, no expression is longer than 64 bits, and there are at
--- most 1,024 arrays.
+-- most 8,192 registers, 1,024 arrays and 64 inputs.
 use Rattle.std.specs.Prelude.{suc, ◌-◌, ◌*◌, ◌≤◌, ◌≢◌, length, All, AllPairs}
 use Rattle.verilog_text.specs.Trees.{VTree, Number, Named, Bits, Cell, One, Two, Choose, Join, Repeat, VTrees, End, Then, ActionTrees, Done, Set, Put, If, MemberTree, Wire, Always, ModuleTree}
 use Rattle.verilog_text.specs.Values.{Widths, v_width, parts_width}
-use Rattle.verilog_text.specs.Clocked.{arrays, scalars, widths_of}
+use Rattle.verilog_text.specs.Clocked.{regs, arrays, scalars, widths_of}
 
 abbrev mutual
   -- the expression and each expression in it is at most 64 bits long
@@ -42,5 +42,7 @@ pub record IsClockable (m : ModuleTree) : Type 0 where
   pub narrow_arrays : All (λ array. array.width ≤ 64) (arrays m.members)
   pub some_scalars : All (λ item. 1 ≤ item.width) (scalars m)
   pub some_arrays : All (λ array. 1 ≤ array.width) (arrays m.members)
+  pub few_items : length (regs m.members) ≤ 8192
   pub few_arrays : length (arrays m.members) ≤ 1024
+  pub few_pins : length m.inputs ≤ 64
   pub narrow : All (IsNarrowMember (widths_of m)) m.members

@@ -1,9 +1,8 @@
 use Rattle.std.proofs.Common.{◌≡◌, ℕ, List, drop}
 use Rattle.std.specs.Option.{option_or}
-use Rattle.indexmap.specs.IndexMap.{get}
-use Rattle.lisa_tree.specs.Same.{same_name}
+use Rattle.name_tables.specs.TableViews.{value_of}
 use Rattle.coded_names.specs.Codings.{items_width}
 use Rattle.coded_names.proofs.tables.items_widths.Given as goal
 
 abbrev pub invariant-loop-item : goal.invariant-loop-item
-invariant-loop-item l = (n : List ℕ) → option_or (get same_name l.table n) (items_width n (drop l.item-index l.items)) ≡ items_width n l.items
+invariant-loop-item l = (n : List ℕ) → option_or (value_of l.table n) (items_width n (drop l.item-index l.items)) ≡ items_width n l.items

@@ -1,5 +1,6 @@
 use Rattle.command_promises.proofs.Refused.{formats_unread, checks_firsts, runs_firsts}
 use Rattle.command_promises.proofs.RefusedPrograms.{modules_firsts, objects_firsts, links_firsts, listings_firsts, programs_firsts, soaks_firsts}
+use Rattle.command_promises.proofs.RefusedTools.{exports_firsts, imports_firsts, occupancies_firsts}
 use Rattle.command_promises.proofs.laws.refusals_are_first_faults.Goals as goal
 
 pub returns-clause-formats : goal.returns-clause-formats
@@ -28,3 +29,12 @@ returns-clause-soaks c = soaks_firsts
 
 pub returns-clause-runs : goal.returns-clause-runs
 returns-clause-runs c = runs_firsts
+
+pub returns-clause-exports : goal.returns-clause-exports
+returns-clause-exports c = exports_firsts
+
+pub returns-clause-imports : goal.returns-clause-imports
+returns-clause-imports c = imports_firsts
+
+pub returns-clause-occupancies : goal.returns-clause-occupancies
+returns-clause-occupancies c = occupancies_firsts

@@ -1,5 +1,6 @@
 use Rattle.command_promises.proofs.Decided.{modules_decided, links_decided, sources_decided, schedules_decided, memories_decided}
 use Rattle.command_promises.proofs.DecidedFiles.{images_decided, module_images_decided, objects_decided}
+use Rattle.command_promises.proofs.DecidedTools.{boards_decided, names_decided, files_decided, exported_decided, dumps_decided}
 use Rattle.command_promises.proofs.Singles.{descriptions_single, assemblies_single}
 use Rattle.description_digest.specs.Digests.{digest_of}
 use Rattle.command_promises.proofs.steps.steps_are_decided.Goals as goal
@@ -30,6 +31,21 @@ returns-clause-assemblies c = assemblies_single c.sources_have_one_answer.ensure
 
 pub returns-clause-schedules : goal.returns-clause-schedules
 returns-clause-schedules c = schedules_decided
+
+pub returns-clause-boards : goal.returns-clause-boards
+returns-clause-boards c = boards_decided
+
+pub returns-clause-dumps : goal.returns-clause-dumps
+returns-clause-dumps c = dumps_decided
+
+pub returns-clause-memory_names : goal.returns-clause-memory_names
+returns-clause-memory_names c = names_decided
+
+pub returns-clause-memory_files : goal.returns-clause-memory_files
+returns-clause-memory_files c = files_decided
+
+pub returns-clause-exported : goal.returns-clause-exported
+returns-clause-exported c = exported_decided
 
 pub returns-clause-memories : goal.returns-clause-memories
 returns-clause-memories c = memories_decided

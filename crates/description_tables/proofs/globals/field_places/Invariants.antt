@@ -1,9 +1,9 @@
 use Rattle.std.proofs.Common.{◌≡◌, ℕ, List, take}
 use Rattle.std.specs.Prelude.{position}
-use Rattle.indexmap.specs.IndexMap.{get}
+use Rattle.name_tables.specs.TableViews.{value_of}
 use Rattle.lisa_tree.specs.declared.tokens.Shape.{Shape}
 use Rattle.lisa_tree.specs.Same.{same_name}
 use Rattle.description_tables.proofs.globals.field_places.Given as goal
 
 abbrev pub invariant-loop-place : goal.invariant-loop-place
-invariant-loop-place l = (n : List ℕ) → get same_name l.table n ≡ position (λ (f : Shape × List ℕ). same_name n f.1) (take l.place l.fields)
+invariant-loop-place l = (n : List ℕ) → value_of l.table n ≡ position (λ (f : Shape × List ℕ). same_name n f.1) (take l.place l.fields)

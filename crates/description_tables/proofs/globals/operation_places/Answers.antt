@@ -7,7 +7,7 @@ use Rattle.description_tables.proofs.globals.operation_places.Goals as goal
 pub loop-place-preserved : goal.loop-place-preserved
 loop-place-preserved c = λ n.
     let h : c.loop-place.place < length c.args.operations.now = omega arith in
-    next_place (λ (o : Operation). same_name n o.name) c.args.operations.now c.loop-place.place c.index-operations-place.result _ _ h c.index-operations-place.is (c.loop-place.invariant n) (c.in_ok-enter.ensures n)
+    next_place (λ (o : Operation). same_name n o.name) c.args.operations.now c.loop-place.place c.index-operations-place.result _ _ h c.index-operations-place.is (c.loop-place.invariant n) (c.in_ok-note_value.ensures n)
 
 pub returns : goal.returns
 returns c = λ n.

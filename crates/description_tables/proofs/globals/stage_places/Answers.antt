@@ -6,7 +6,7 @@ use Rattle.description_tables.proofs.globals.stage_places.Goals as goal
 pub loop-place-preserved : goal.loop-place-preserved
 loop-place-preserved c = λ n.
     let h : c.loop-place.place < length c.args.stages.now = omega arith in
-    next_place (same_name n) c.args.stages.now c.loop-place.place c.index-stages-place.result _ _ h c.index-stages-place.is (c.loop-place.invariant n) (c.in_ok-enter.ensures n)
+    next_place (same_name n) c.args.stages.now c.loop-place.place c.index-stages-place.result _ _ h c.index-stages-place.is (c.loop-place.invariant n) (c.in_ok-note_value.ensures n)
 
 pub returns : goal.returns
 returns c = λ n.

@@ -1,9 +1,10 @@
-use Rattle.std.proofs.Common.{◌≡◌, drop}
+use Rattle.std.proofs.Common.{◌≡◌, ℕ, drop}
+use Rattle.lisa_tree.specs.Paths.{entry_node}
 use Rattle.least_fixed_points.specs.Settles.{entry}
-use Rattle.description_types.specs.Facts.{merged_from, declared_value}
+use Rattle.description_types.specs.Facts.{merged_from}
 use Rattle.description_types.proofs.facts.merged_from.Given as goal
 
-abbrev pub invariant-loop-operation : goal.invariant-loop-operation
-invariant-loop-operation g l =
-    merged_from (g.F.Facts.fact l.facts).either (declared_value (g.N.Names.tree l.names) (entry l.table) l.name) l.so_far (drop l.operation-index l.above)
-    ≡ merged_from (g.F.Facts.fact l.facts).either (declared_value (g.N.Names.tree l.names) (entry l.table) l.name) l.fn.first l.above
+abbrev pub invariant-loop-number : goal.invariant-loop-number
+invariant-loop-number g l =
+    merged_from (g.F.Facts.fact l.facts).either (λ (k : ℕ). entry l.table (entry_node (g.N.Names.tree l.names) k)) l.so_far (drop l.number-index l.row)
+    ≡ merged_from (g.F.Facts.fact l.facts).either (λ (k : ℕ). entry l.table (entry_node (g.N.Names.tree l.names) k)) l.fn.first l.row

@@ -8,5 +8,5 @@ use Rattle.description_weight.proofs.forms.form_nodes.Goals as goal
 pub returns : goal.returns
 returns c = λ d are.
     c.nodes_where.ensures
-    ∙ ap capped (ap₂ (λ fs ps. nodes_where (map form_tree fs) ps) c.forms.ensures c.plain.ensures)
+    ∙ ap capped (ap₂ (λ fs ps. nodes_where (map form_tree fs) ps) c.forms.ensures.is c.plain.ensures.is)
     ∙ ap capped (forms_told d c.args.forms.now are)

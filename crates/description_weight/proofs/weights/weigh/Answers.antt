@@ -19,7 +19,7 @@ text_weight-requires-clause-acyclic c =
 pub text_weight-requires-clause-all : goal.text_weight-requires-clause-all
 text_weight-requires-clause-all c =
     let same = c.in_ok-tables.ensures ∙ ap description_tree c.description.ensures in
-    c.occurrences.ensures ∙ c.requires.all_occurrences ∙ sym (ap occurrences same)
+    c.occurrences.ensures.is ∙ c.requires.all_occurrences ∙ sym (ap occurrences same)
 
 pub returns : goal.returns
 returns c =
@@ -28,5 +28,5 @@ returns c =
     weighed d _ _ _ _ _
     (c.in_ok-text.ensures ∙ ap (λ (t : DescriptionTree). capped (unfolded_nodes t + pairs t)) same)
     (c.form_nodes.ensures d c.requires)
-    (c.turns.ensures ∙ ap (λ (all : List Occurrence). capped (length all * length (stages d))) (c.occurrences-2.ensures ∙ c.requires.all_occurrences))
+    (c.turns.ensures ∙ ap (λ (all : List Occurrence). capped (length all * length (stages d))) (c.occurrences-2.ensures.is ∙ c.requires.all_occurrences))
     c.saturating_add-with_forms.ensures c.saturating_add.ensures

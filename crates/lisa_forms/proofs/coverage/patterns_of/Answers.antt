@@ -7,4 +7,4 @@ use Rattle.lisa_forms.proofs.coverage.patterns_of.Goals as goal
 pub patterns-requires : goal.patterns-requires
 patterns-requires c =
     let same : description_tree c.in_ok-tables.tables.globals.description.now ≡ description_tree c.args.machine.now = c.in_ok-tables.ensures ∙ ap description_tree c.description.ensures in
-    record { forms = subst (λ (d : DescriptionTree). AreForms d c.forms.result.now) (sym same) (subst (λ (all : List Form). AreForms (description_tree c.args.machine.now) all) (sym c.forms.ensures) c.requires.forms.all_forms) }
+    record { forms = subst (λ (d : DescriptionTree). AreForms d c.forms.result.now) (sym same) (subst (λ (all : List Form). AreForms (description_tree c.args.machine.now) all) (sym c.forms.ensures.is) c.requires.forms.all_forms) }

@@ -12,5 +12,5 @@ returns c =
     let f = c.form.result.now in
     let same = c.in_ok-tables.ensures ∙ ap description_tree c.description.ensures in
     subst (λ (n : List ℕ). IfOk c.form_name.result (λ name. name ≡ n))
-    (ap (λ (t : DescriptionTree). form_text (name_at t) (form_tree f)) same ∙ named d c.args.forms.now.forms.items c.args.form f c.requires.forms.all_forms c.form.ensures)
+    (ap (λ (t : DescriptionTree). form_text (name_at t) (form_tree f)) same ∙ named d c.args.forms.now.forms.items c.args.form f c.requires.forms.all_forms c.form.ensures.is)
     c.form_name.ensures

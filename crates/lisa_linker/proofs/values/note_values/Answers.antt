@@ -5,8 +5,11 @@ use Rattle.lisa_object.specs.declared.parts.ObjectLine.{ObjectLine}
 use Rattle.lisa_object.specs.Objects.{object_line_tree}
 use Rattle.object_links.specs.LineSizes.{count_of}
 use Rattle.object_links.proofs.Steps.{one_line}
-use Rattle.lisa_linker.proofs.Noted.{Defined, AreNoted, noted_on, wanted_value}
+use Rattle.lisa_linker.proofs.Noted.{Defined, AreNoted, noted_first, noted_on, wanted_value}
 use Rattle.lisa_linker.proofs.values.note_values.Goals as goal
+
+pub each-init : goal.each-init
+each-init c = noted_first (option_copied c.args.wanted) c.args.counts.now c.args.values.now (map object_line_tree c.args.lines.now) c.requires.lines c.requires.short
 
 pub each-preserved : goal.each-preserved
 each-preserved c =

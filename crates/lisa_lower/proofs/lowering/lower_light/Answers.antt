@@ -10,7 +10,7 @@ returns c =
     let spelled = c.accepted.ensures.spelled in
     let numbers = c.spelled_numbers_are_low.ensures in
     IfOk-weaker c.lower_edges.result _ _
-    (λ p edge. is_lowered d declared c.accepted.ensures.accepted spelled c.requires.has_forms c.requires.coding.apart c.requires.forms.has_width
+    (λ p edge. is_lowered d declared c.accepted.ensures.accepted spelled c.requires.forms.has_forms c.requires.coding.apart c.requires.forms.has_width
     (record {
       numbers = numbers.expressions spelled.bytes d spelled.spells;
       bodies = numbers.behaviors spelled.bytes d spelled.spells;

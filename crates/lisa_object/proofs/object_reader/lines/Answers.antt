@@ -6,7 +6,8 @@ use Rattle.text_lines.specs.Cuts.{parts_behind}
 use Rattle.lisa_object.specs.declared.parts.ObjectLine.{ObjectLine}
 use Rattle.lisa_object.specs.Reading.{is_last}
 use Rattle.lisa_object.specs.Objects.{object_line_tree}
-use Rattle.lisa_object.specs.ObjectRules.{start, defined}
+use Rattle.lisa_object.specs.ObjectRules.{defined}
+use Rattle.lisa_object.specs.LineMachine.{start}
 use Rattle.lisa_object.specs.ObjectReading.{lines_of}
 use Rattle.lisa_object.proofs.LineLoop.{lines_with, begins, lacking, at_end, fails, goes_on}
 use Rattle.lisa_object.proofs.object_reader.lines.Goals as goal

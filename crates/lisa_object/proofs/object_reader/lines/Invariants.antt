@@ -3,7 +3,7 @@ use Rattle.std.specs.Option.{option_copied}
 use Rattle.text_lines.specs.Cuts.{parts_behind}
 use Rattle.lisa_object.specs.Seen.{HoldsSorted}
 use Rattle.lisa_object.specs.Objects.{object_line_tree}
-use Rattle.lisa_object.specs.ObjectRules.{start}
+use Rattle.lisa_object.specs.LineMachine.{start}
 use Rattle.lisa_object.specs.ObjectReading.{lines_of}
 use Rattle.lisa_object.proofs.LineLoop.{lines_with}
 use Rattle.lisa_object.proofs.object_reader.lines.Given as goal

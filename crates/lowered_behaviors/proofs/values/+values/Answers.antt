@@ -1,7 +1,7 @@
 use Rattle.std.proofs.Common.{ℕ, ◌+◌, ◌-◌, ◌<◌, suc, List, [], ◌∷◌, Option, drop, get_or, map, refl, sym, ap, ap₂, ◌∙◌, arith}
 use Rattle.std.specs.Borrow.{Bor}
 use Rattle.std.specs.Map.{lookup}
-use Rattle.indexmap.specs.IndexMap.{get}
+use Rattle.name_tables.specs.TableViews.{value_of}
 use Rattle.lisa_tree.specs.Expressions.{expr_tree}
 use Rattle.lisa_tree.specs.Same.{same_name}
 use Rattle.step_pieces.specs.Pieces.{behind, top}
@@ -85,8 +85,8 @@ prepare-each-preserved g t c =
     record {
       draft = prepared_more one now new (behind (piece_of c.args.draft.now) made.piece) m (texts_of (drop (i + 1) all))
           (ap (λ (ns : List (List ℕ)). behind now (prepared one (top 0 now) ns).piece) (sym left) ∙ c.each.invariant.draft) c.in_ok-source.ensures.draft;
-      known = λ n. known_more one now new n m (texts_of (drop (i + 1) all)) (get same_name c.each.known.sources n) (get same_name c.enter.new.self.sources n) c.in_ok-source.source (lookup (same_name n) made.known)
-          (ap (λ (ns : List (List ℕ)). found_before (get same_name c.each.known.sources n) (lookup (same_name n) (prepared one (top 0 now) ns).known)) (sym left) ∙ c.each.invariant.known n)
+      known = λ n. known_more one now new n m (texts_of (drop (i + 1) all)) (value_of c.each.known.sources n) (value_of c.enter.new.self.sources n) c.in_ok-source.source (lookup (same_name n) made.known)
+          (ap (λ (ns : List (List ℕ)). found_before (value_of c.each.known.sources n) (lookup (same_name n) (prepared one (top 0 now) ns).known)) (sym left) ∙ c.each.invariant.known n)
           (c.in_ok-enter.ensures.names n) c.in_ok-source.ensures.out c.in_ok-source.ensures.draft;
       decoded = ap plain c.in_ok-enter.ensures.decoded ∙ c.each.invariant.decoded;
     }
@@ -106,8 +106,8 @@ prepare-returns-clause-known g t c =
     let scope = scope_of c.args.locals.now in
     let at = prepared_within c.args.more ground standpoint scope (base c.each.draft) in
     let none = none_left (λ (n : Bor (List ℕ)). n.now) c.args.names.now c.each.name-index (omega arith) in
-    all_known ground (prepared_within c.args.more ground standpoint scope (base c.args.draft.now) (texts_of c.args.names.now)) (λ n. get same_name c.each.known.sources n) c.each.known.decoded
-    (λ n. ap (λ (ns : List (List ℕ)). found_before (get same_name c.each.known.sources n) (lookup (same_name n) (at ns).known)) (sym none) ∙ c.each.invariant.known n)
+    all_known ground (prepared_within c.args.more ground standpoint scope (base c.args.draft.now) (texts_of c.args.names.now)) (λ n. value_of c.each.known.sources n) c.each.known.decoded
+    (λ n. ap (λ (ns : List (List ℕ)). found_before (value_of c.each.known.sources n) (lookup (same_name n) (at ns).known)) (sym none) ∙ c.each.invariant.known n)
     c.each.invariant.decoded
 
 -- ---- alternatives, one after the other

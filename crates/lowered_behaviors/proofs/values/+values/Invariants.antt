@@ -1,7 +1,7 @@
 -- The levels fall with each EXPRESSION of a child. What is left to prepare and to choose gives the same in the end.
 use Rattle.std.proofs.Common.{◌≡◌, ℕ, ◌+◌, ◌*◌, List, drop, map}
 use Rattle.std.specs.Map.{lookup}
-use Rattle.indexmap.specs.IndexMap.{get}
+use Rattle.name_tables.specs.TableViews.{value_of}
 use Rattle.lisa_tree.specs.Same.{same_name}
 use Rattle.scene_paths.specs.Lookups.{tree_of}
 use Rattle.step_pieces.specs.Pieces.{behind}
@@ -46,7 +46,7 @@ invariant-prepare-each g l =
     let left = prepared_within l.more ground (standpoint_of ground.description l.positions) (scope_of l.locals) (base l.draft) (texts_of (drop l.name-index l.names)) in
     record {
       draft : behind (piece_of l.draft) left.piece ≡ behind (piece_of l.fn.draft) made.piece;
-      known : (n : List ℕ) → found_before (get same_name l.known.sources n) (lookup (same_name n) left.known) ≡ lookup (same_name n) made.known;
+      known : (n : List ℕ) → found_before (value_of l.known.sources n) (lookup (same_name n) left.known) ≡ lookup (same_name n) made.known;
       decoded : plain l.known.decoded ≡ decoded_in l.ground.row;
     }
 

@@ -12,5 +12,5 @@ pub returns : goal.returns
 returns c =
     if_ok _ _ c.number.result
     (λ base is. is
-    ∙ base_counted (tree_of c.args.described.now) c.accepted.ensures c.from.result c.in_ok-sum.field-0 c.occurrences-occurrences.result.now (c.from.ensures ∙ c.requires) (c.occurrences-occurrences.ensures ∙ c.forms.ensures.all_occurrences) c.in_ok-sum.ensures)
+    ∙ base_counted (tree_of c.args.described.now) c.accepted.ensures c.from.result c.in_ok-sum.field-0 c.occurrences-occurrences.result.now (c.from.ensures ∙ c.requires) (c.occurrences-occurrences.ensures.is ∙ c.forms.ensures.all_occurrences) c.in_ok-sum.ensures)
     c.number.ensures

@@ -19,9 +19,9 @@ loop-number-preserved c = λ d are.
     let all = c.forms-all.result.now in
     let form = c.index-all-number.result in
     let o = (out-Form form).operation in
-    let inside : i < length (forms_of d) = (let t = c.loop-number-test.true in let a = ap length c.forms-all.ensures in let b = forms_level d c.args.forms.now are in omega (arith, t, a, b)) in
-    let plain : c.plain-plain.result.now ≡ instruction_plain d = c.plain-plain.ensures ∙ are.all_plain in
-    let are_forms : AreForms d all = subst (λ (fs : List Form). AreForms d fs) (sym c.forms-all.ensures) are.all_forms in
+    let inside : i < length (forms_of d) = (let t = c.loop-number-test.true in let a = ap length c.forms-all.ensures.is in let b = forms_level d c.args.forms.now are in omega (arith, t, a, b)) in
+    let plain : c.plain-plain.result.now ≡ instruction_plain d = c.plain-plain.ensures.is ∙ are.all_plain in
+    let are_forms : AreForms d all = subst (λ (fs : List Form). AreForms d fs) (sym c.forms-all.ensures.is) are.all_forms in
     let tree = tree_at_number d i inside all form are_forms c.loop-number-test.true c.index-all-number.is in
     let before = c.loop-number.invariant d are in
     let now = c.loop-number.table in
@@ -40,5 +40,5 @@ loop-number-preserved c = λ d are.
 pub returns : goal.returns
 returns c = λ d are.
     all_held d c.loop-number.number c.loop-number.table.links.keys c.loop-number.table.parts.items
-    (let t = c.loop-number-test.false in let a = ap length c.forms-all.ensures in let b = forms_level d c.args.forms.now are in omega (arith, t, a, b))
+    (let t = c.loop-number-test.false in let a = ap length c.forms-all.ensures.is in let b = forms_level d c.args.forms.now are in omega (arith, t, a, b))
     (c.loop-number.invariant d are)

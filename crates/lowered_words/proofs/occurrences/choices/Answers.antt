@@ -7,7 +7,7 @@ use Rattle.lowered_words.proofs.occurrences.choices.Goals as goal
 
 pub places-requires : goal.places-requires
 places-requires g c k p x e h =
-    c.forms.result.now.before k p x (ap (λ (l : List Occurrence). slice_get l k) (sym c.occurrences-all.ensures) ∙ e) h
+    c.forms.result.now.before k p x (ap (λ (l : List Occurrence). slice_get l k) (sym c.occurrences-all.ensures.is) ∙ e) h
 
 pub loop-number-preserved : goal.loop-number-preserved
 loop-number-preserved g c =
@@ -16,4 +16,4 @@ loop-number-preserved g c =
 pub returns : goal.returns
 returns g c =
     all_chosen (tree_of c.args.described.now) c.loop-number.number c.loop-number.choices.items c.loop-number.invariant
-    (let many = ap length (c.occurrences-all.ensures ∙ c.forms.ensures.all_occurrences) in let past = c.loop-number-test.false in omega (arith, many, past))
+    (let many = ap length (c.occurrences-all.ensures.is ∙ c.forms.ensures.all_occurrences) in let past = c.loop-number-test.false in omega (arith, many, past))

@@ -10,7 +10,7 @@ pub stand_all-requires-clause-form : goal.stand_all-requires-clause-form
 stand_all-requires-clause-form c =
     let counted = forms_counted (tree_of c.args.described.now) c.forms-forms.result.now.forms.items c.forms-forms.ensures.all_forms in
     let low = c.each-test.true in
-    let all = c.count-form-end.ensures in
+    let all = c.count-form-end.ensures.is in
     omega (arith, counted, low, all)
 
 pub make_row-requires : goal.make_row-requires
@@ -29,6 +29,6 @@ returns c =
     let counted = forms_counted d c.forms-forms.result.now.forms.items c.forms-forms.ensures.all_forms in
     let past = c.each-test.false in
     let most = c.each.auto.form-end in
-    let count = c.count-form-end.ensures in
+    let count = c.count-form-end.ensures.is in
     let all : c.each.form ≡ form_count d = omega (arith, counted, past, most, count) in
     all_made d c.each.form c.each.rows.items c.each.invariant all

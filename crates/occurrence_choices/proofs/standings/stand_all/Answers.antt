@@ -16,7 +16,7 @@ each-preserved c =
     let n = c.each.number in
     let kept = c.each.kept.items in
     let before = c.deref.result.now in
-    let all = c.occurrences-all.ensures ∙ c.forms.ensures.all_occurrences in
+    let all = c.occurrences-all.ensures.is ∙ c.forms.ensures.all_occurrences in
     let ways = subst (λ (l : List Occurrence). AreWays d (length l) c.args.ways.now) (sym all) c.requires.ways in
     let whole = c.whole-whole.ensures in
     let so_far = subst (λ (f : FormTree). AreStandings d f n before) (sym whole) (subst (AreStandings d (numbered_form d c.args.form) n) (sym c.deref.ensures.value) c.each.invariant) in
@@ -27,7 +27,7 @@ each-preserved c =
 pub returns : goal.returns
 returns c =
     let d = tree_of c.args.described.now in
-    let many = ap length (c.occurrences-all.ensures ∙ c.forms.ensures.all_occurrences) in
+    let many = ap length (c.occurrences-all.ensures.is ∙ c.forms.ensures.all_occurrences) in
     let past = c.each-test.false in
     let most : length (occurrences d) ≤ c.each.number = omega (arith, many, past) in
     all_stand d c.args.form c.each.number c.each.kept.items c.each.invariant most

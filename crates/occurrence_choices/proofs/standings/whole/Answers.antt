@@ -12,8 +12,8 @@ form-requires c =
 
 pub new-requires : goal.new-requires
 new-requires c =
-    subst HasFields (sym (kept_form (tree_of c.args.described.now) c.forms-forms.result.now.forms.items c.args.form c.form.result.now c.forms-forms.ensures.all_forms c.form.ensures))
+    subst HasFields (sym (kept_form (tree_of c.args.described.now) c.forms-forms.result.now.forms.items c.args.form c.form.result.now c.forms-forms.ensures.all_forms c.form.ensures.is))
     (numbered_fields (tree_of c.args.described.now) c.accepted.ensures c.coding-coding.result.now c.coding-coding.ensures c.args.form c.requires)
 
 pub returns : goal.returns
-returns c = c.new.ensures ∙ kept_form (tree_of c.args.described.now) c.forms-forms.result.now.forms.items c.args.form c.form.result.now c.forms-forms.ensures.all_forms c.form.ensures
+returns c = c.new.ensures ∙ kept_form (tree_of c.args.described.now) c.forms-forms.result.now.forms.items c.args.form c.form.result.now c.forms-forms.ensures.all_forms c.form.ensures.is

@@ -8,7 +8,7 @@ use Rattle.occurrence_choices.proofs.Kept.{one_kept}
 use Rattle.occurrence_choices.proofs.ways.ways.Goals as goal
 
 pub places-requires : goal.places-requires
-places-requires g c k p x e h = c.forms.result.now.before k p x (ap (λ (l : List Occurrence). slice_get l k) (sym c.occurrences-all.ensures) ∙ e) h
+places-requires g c k p x e h = c.forms.result.now.before k p x (ap (λ (l : List Occurrence). slice_get l k) (sym c.occurrences-all.ensures.is) ∙ e) h
 
 pub each-preserved : goal.each-preserved
 each-preserved g c =
@@ -17,7 +17,7 @@ each-preserved g c =
 pub returns : goal.returns
 returns g c =
     let d = tree_of c.args.described.now in
-    let many = ap length (c.occurrences-all.ensures ∙ c.forms.ensures.all_occurrences) in
+    let many = ap length (c.occurrences-all.ensures.is ∙ c.forms.ensures.all_occurrences) in
     let past = c.each-test.false in
     let most = c.each.auto.number-end in
     let all : c.each.number ≡ length (occurrences d) = omega (arith, many, past, most) in

@@ -1,4 +1,4 @@
-use Rattle.std.proofs.Common.{ap, ◌∙◌, arith}
+use Rattle.std.proofs.Common.{ap, arith}
 use Rattle.std.proofs.lemmas.List.{get_or_default}
 use Rattle.pattern_tables.specs.declared.entry.Entry.{Entry}
 use Rattle.pattern_tables.proofs.Grouping.{none_tabled, span_rises, one_tabled}
@@ -15,5 +15,5 @@ masks-preserved c =
     rw c.in_ok-push.ensures.items
     (one_tabled c.args.entries.now c.masks.start c.end_of_mask-end.result c.masks.tables.items c.in_ok-make.field-0 c.requires.rising c.masks.invariant
     c.end_of_mask-end.ensures.more c.end_of_mask-end.ensures.within c.end_of_mask-end.ensures.same c.end_of_mask-end.ensures.end
-    (λ d. c.in_ok-make.ensures.mask ∙ ap (λ (e : Entry). e.mask) (get_or_default c.args.entries.now c.masks.start _ d c.masks-test.true))
-    c.in_ok-make.ensures.patterns c.in_ok-make.ensures.forms)
+    _ (λ d. ap (λ (e : Entry). e.mask) (get_or_default c.args.entries.now c.masks.start _ d c.masks-test.true)) c.in_ok-make.ensures.mask
+    c.in_ok-make.ensures.entries)

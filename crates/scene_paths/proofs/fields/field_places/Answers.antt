@@ -7,7 +7,7 @@ use Rattle.scene_paths.proofs.fields.field_places.Goals as goal
 pub loop-place-preserved : goal.loop-place-preserved
 loop-place-preserved c = λ n.
     let h : c.loop-place.place < length c.args.fields.now = omega arith in
-    next_place (λ (f : Shape × List ℕ). same_name n f.1) c.args.fields.now c.loop-place.place c.index-fields-place.result _ _ h c.index-fields-place.is (c.loop-place.invariant n) (c.in_ok-enter.ensures n)
+    next_place (λ (f : Shape × List ℕ). same_name n f.1) c.args.fields.now c.loop-place.place c.index-fields-place.result _ _ h c.index-fields-place.is (c.loop-place.invariant n) (c.in_ok-note.ensures n)
 
 pub returns : goal.returns
 returns c = λ n.

@@ -10,14 +10,14 @@ marked-requires c =
     let f = c.args.forms.now in
     let few = f.few in
     let level = f.level in
-    subst (λ (bs : List Bool). length bs < 2 ^ 32) (sym c.plain.ensures) (omega (arith, few, level))
+    subst (λ (bs : List Bool). length bs < 2 ^ 32) (sym c.plain.ensures.is) (omega (arith, few, level))
 
 pub invariant_of-result : goal.invariant_of-result
 invariant_of-result c =
     let d = description_tree c.args.machine.now in
-    let plain : c.in_ok-plain.plain.items ≡ plain_forms d = c.in_ok-plain.ensures ∙ ap (marked_from 0) (c.plain.ensures ∙ c.requires.forms.all_plain) in
+    let plain : c.in_ok-plain.plain.items ≡ plain_forms d = c.in_ok-plain.ensures ∙ ap (marked_from 0) (c.plain.ensures.is ∙ c.requires.forms.all_plain) in
     record {
       some = subst (λ (xs : List ℕ). 0 < length xs) (sym plain) c.requires.some;
       forms = plain;
-      fields = c.in_ok-places.ensures d (subst (λ (all : List Form). AreForms d all) (sym c.forms.ensures) c.requires.forms.all_forms);
+      fields = c.in_ok-places.ensures d (subst (λ (all : List Form). AreForms d all) (sym c.forms.ensures.is) c.requires.forms.all_forms);
     }

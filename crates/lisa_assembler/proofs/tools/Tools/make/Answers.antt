@@ -7,7 +7,7 @@ use Rattle.lisa_assembler.proofs.tools.Tools.make.Goals as goal
 pub returns : goal.returns
 returns c =
     let d = description_tree c.args.machine.now in
-    let are : AreForms d c.forms.result.now = subst (λ (fs : List Form). AreForms d fs) (sym c.forms.ensures) c.requires.forms.all_forms in (
+    let are : AreForms d c.forms.result.now = subst (λ (fs : List Form). AreForms d fs) (sym c.forms.ensures.is) c.requires.forms.all_forms in (
       refl,
       record {
         forms = c.requires.forms;

@@ -10,12 +10,12 @@ with_patterns-requires-clause-none c =
     let d = description_tree c.args.machine.now in
     let f = c.args.forms.now in
     let stand = subst (λ (ps : List BitPattern). ArePatterns d f.width ps) (sym c.deref.ensures.value) c.in_ok-patterns.ensures in
-    first_overlap_is d f c.deref.result.now c.plain.result.now None c.requires.forms stand c.plain.ensures c.in-None.ensures.overlap
+    first_overlap_is d f c.deref.result.now c.plain.result.now None c.requires.forms stand c.plain.ensures.is c.in-None.ensures.overlap
 
 pub returns-in_ok-fault-in-Some-clause-fault : goal.returns-in_ok-fault-in-Some-clause-fault
 returns-in_ok-fault-in-Some-clause-fault c =
     let d = description_tree c.args.machine.now in
     let f = c.args.forms.now in
     let stand = subst (λ (ps : List BitPattern). ArePatterns d f.width ps) (sym c.deref.ensures.value) c.in_ok-patterns.ensures in
-    let first = first_overlap_is d f c.deref.result.now c.plain.result.now (Some c.in-Some.found) c.requires.forms stand c.plain.ensures c.in-Some.ensures.overlap in
+    let first = first_overlap_is d f c.deref.result.now c.plain.result.now (Some c.in-Some.found) c.requires.forms stand c.plain.ensures.is c.in-Some.ensures.overlap in
     inr (overlap_verdict d f c.in-Some.found c.deref.result.now c.plain.result.now c.in_ok-fault-in-Some.fault stand first c.in-Some.ensures.found c.in_ok-fault-in-Some.ensures)

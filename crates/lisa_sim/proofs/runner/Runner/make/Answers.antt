@@ -9,12 +9,12 @@ use Rattle.lisa_sim.proofs.Keeping.{begins}
 use Rattle.lisa_sim.proofs.runner.Runner.make.Goals as goal
 
 pub make_pipeline-requires-clause-sound : goal.make_pipeline-requires-clause-sound
-make_pipeline-requires-clause-sound c = c.cores_are_sound.ensures (description_tree c.args.machine.now) c.accepted.ensures.accepted c.requires.has_forms
+make_pipeline-requires-clause-sound c = c.cores_are_sound.ensures (description_tree c.args.machine.now) c.accepted.ensures.accepted c.requires.forms.has_forms
 
 pub make_pipeline-requires-clause-few : goal.make_pipeline-requires-clause-few
 make_pipeline-requires-clause-few c =
     let d = description_tree c.args.machine.now in
-    let limits = (c.sizes_are_limited.ensures d c.requires.has_forms).2.few_occurrences in
+    let limits = (c.sizes_are_limited.ensures d c.requires.forms.has_forms).2.few_occurrences in
     let count = plan_counted d c.in-Ok.parts.plan c.in-Ok.ensures.plan (c.trees_are_occurrences.ensures d c.accepted.ensures.accepted) in
     omega (arith, limits, count)
 
@@ -28,8 +28,8 @@ invariant_of-result c =
     let count = plan_counted d parts.plan made.plan (c.trees_are_occurrences.ensures d c.accepted.ensures.accepted) in
     let runs : CanRun d c.args.image.now = record {
       accepted = c.accepted.ensures.accepted;
-      sound = c.cores_are_sound.ensures d c.accepted.ensures.accepted c.requires.has_forms;
-      few = (c.sizes_are_limited.ensures d c.requires.has_forms).2.few_stages;
+      sound = c.cores_are_sound.ensures d c.accepted.ensures.accepted c.requires.forms.has_forms;
+      few = (c.sizes_are_limited.ensures d c.requires.forms.has_forms).2.few_stages;
       rules = c.requires.image;
       found = e.found;
     } in
@@ -43,8 +43,8 @@ returns-clause-first c =
     let e = c.in_ok-pipeline.ensures in
     let runs : CanRun d c.args.image.now = record {
       accepted = c.accepted.ensures.accepted;
-      sound = c.cores_are_sound.ensures d c.accepted.ensures.accepted c.requires.has_forms;
-      few = (c.sizes_are_limited.ensures d c.requires.has_forms).2.few_stages;
+      sound = c.cores_are_sound.ensures d c.accepted.ensures.accepted c.requires.forms.has_forms;
+      few = (c.sizes_are_limited.ensures d c.requires.forms.has_forms).2.few_stages;
       rules = c.requires.image;
       found = e.found;
     } in

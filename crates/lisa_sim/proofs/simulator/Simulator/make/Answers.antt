@@ -20,8 +20,8 @@ invariant_of-result c =
     record {
       same_arrays = ap arrays_of (sym e.tree);
       same_pins = ap pins_of (sym e.tree);
-      sizes = sized_first d own (items d width) forms.all_items runner e.tree image e.image (c.shown_widths_fit.ensures d width accepted spelled c.requires.has_forms forms.has_width);
-      names = named_first d own (items d width) forms.all_items runner e.tree image e.image (c.shown_names_differ.ensures d width accepted spelled c.requires.has_forms);
+      sizes = sized_first d own (items d width) forms.all_items runner e.tree image e.image (c.shown_widths_fit.ensures d width accepted spelled c.requires.forms.has_forms forms.has_width);
+      names = named_first d own (items d width) forms.all_items runner e.tree image e.image (c.shown_names_differ.ensures d width accepted spelled c.requires.forms.has_forms);
       shapes = shapes_first d own (items d width) forms.all_items runner e.tree image e.image shapes;
       shape = shape_first d own (items d width) forms.all_items runner e.tree image e.image shapes [] e.first;
     }

@@ -15,7 +15,7 @@ loop-number-preserved c =
     let d = words_tree c.args.self.now in
     let i = c.loop-number.number in
     let flagged = form_loaded d c.args.width c.args.base c.args.scratch in
-    let plain : c.plain-plain.result.now ≡ instruction_plain d = c.plain-plain.ensures ∙ c.forms.ensures.all_plain in
+    let plain : c.plain-plain.result.now ≡ instruction_plain d = c.plain-plain.ensures.is ∙ c.forms.ensures.all_plain in
     let inside : i < length (forms_of d) = (let t = c.loop-number-test.true in let n = plain_length d c.plain-plain.result.now plain in omega (arith, t, n)) in
     elim c.if-plain-number.branch [
       | then-plain-number+in_ok-load_form w ↦
@@ -30,6 +30,6 @@ loop-number-preserved c =
 pub returns : goal.returns
 returns c =
     let d = words_tree c.args.self.now in
-    let plain : c.plain-plain.result.now ≡ instruction_plain d = c.plain-plain.ensures ∙ c.forms.ensures.all_plain in
+    let plain : c.plain-plain.result.now ≡ instruction_plain d = c.plain-plain.ensures.is ∙ c.forms.ensures.all_plain in
     forms_put d (form_loaded d c.args.width c.args.base c.args.scratch) c.loop-number.number c.args.draft.now c.loop-number.draft
     (let t = c.loop-number-test.false in let n = plain_length d c.plain-plain.result.now plain in omega (arith, t, n)) c.loop-number.invariant

@@ -13,7 +13,7 @@ patterns-requires c =
     let d = description_tree c.args.described.now in
     let own = description_tree c.in_ok-tables.tables.globals.description.now in
     let same : own ≡ d = c.in_ok-tables.ensures ∙ ap description_tree c.description.ensures ∙ sym c.requires.same in
-    record { forms = subst (λ (fs : List Form). AreForms own fs) (sym c.forms.ensures) (subst (λ (t : DescriptionTree). AreForms t c.forms-forms.result.now.forms.items) (sym same) c.forms-forms.ensures.all_forms) }
+    record { forms = subst (λ (fs : List Form). AreForms own fs) (sym c.forms.ensures.is) (subst (λ (t : DescriptionTree). AreForms t c.forms-forms.result.now.forms.items) (sym same) c.forms-forms.ensures.all_forms) }
 
 pub choices-requires-clause-same : goal.choices-requires-clause-same
 choices-requires-clause-same c = c.in_ok-tables.ensures ∙ ap description_tree c.description.ensures ∙ sym c.requires.same

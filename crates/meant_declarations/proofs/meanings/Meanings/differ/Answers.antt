@@ -14,7 +14,7 @@ pub returns-clause-exact : goal.returns-clause-exact
 returns-clause-exact g c =
     IfOk-weaker c.reach.result (λ (told : Vec Bool). (i : ℕ) → (saw told.items i ≡ true) ↔ SomeLedTo (g.N.Names.tree c.args.names.now) (λ j. saw c.deref-5.result.now j ≡ true) i)
     (λ (told : Vec Bool). (i : ℕ) → (saw told.items i ≡ true) ↔ Differ (g.N.Names.tree c.args.names.now) g.T.PartialEq.eq (entry c.args.values.now) i)
-    (λ told is i. exactly (g.N.Names.tree c.args.names.now) g.T.PartialEq.eq g.met.T.Eq.laws (entry c.args.values.now) c.deref.result.now (entry c.in_ok-found.found.items) (entry c.in_ok-own.own.items) c.deref-5.result.now
+    (λ told is i. exactly (g.N.Names.tree c.args.names.now) c.args.self.now.next c.requires.sources g.T.PartialEq.eq g.met.T.Eq.laws (entry c.args.values.now) c.deref.result.now (entry c.in_ok-found.found.items) (entry c.in_ok-own.own.items) c.deref-5.result.now
     (λ k. ap (λ (marks : List Bool). saw marks k) c.deref.ensures.value ∙ c.in_ok-known.ensures.marked k)
     c.in_ok-found.ensures.exact
     (λ k. c.in_ok-own.ensures k ∙ ap (λ (found : List (Option ℕ)). found_value (entry c.args.values.now) (entry found k)) c.deref-2.ensures.value)
@@ -22,6 +22,6 @@ returns-clause-exact g c =
     ∙ c.in_ok-mixed.ensures k
     ∙ ap (λ (own : List (Option g.row.T.Denot)). list_any (λ (j : ℕ). are_other g.T.PartialEq.eq (entry own k) (entry own j)) (targets c.deref-3.result.now k)) c.deref-4.ensures.value
     ∙ ap (list_any (λ (j : ℕ). are_other g.T.PartialEq.eq (entry c.in_ok-own.own.items k) (entry c.in_ok-own.own.items j)))
-    (ap (λ (next : List (Vec ℕ)). targets next k) (c.deref-3.ensures.value ∙ ap (λ (m : Meant). m.next) c.self.view_is) ∙ c.requires.direct k))
+    (ap (λ (next : List (Vec ℕ)). targets next k) (c.deref-3.ensures.value ∙ ap (λ (m : Meant). m.next) c.self.view_is)))
     i (saw told.items i) (is i))
     c.reach.ensures.exact

@@ -8,4 +8,4 @@ use Rattle.typed_values.proofs.memories.Memory.leave.Goals as goal
 pub returns : goal.returns
 returns c =
     let old = c.args.self.now in
-    ap (λ (es : List (List ℕ × TypedWord)). moment (map typed_word old.registers.items) es) (ap (λ (es : List (List ℕ × Value)). map plain es) c.truncate.ensures.entries ∙ taken c.args.count old.locals.entries)
+    ap (λ (es : List (List ℕ × TypedWord)). moment (map typed_word old.registers.items) es) (ap (λ (es : List (List ℕ × Value)). map plain es) c.truncate.ensures ∙ taken c.args.count old.locals.entries.items)

@@ -6,4 +6,4 @@ use Rattle.typed_values.proofs.Maps.{looked_up}
 use Rattle.typed_values.proofs.memories.Memory.local_named.Goals as goal
 
 pub returns : goal.returns
-returns c = ap (λ (v : Option Value). option_map typed_word v) (c.copied.ensures ∙ c.get.ensures.value) ∙ looked_up (same_name c.args.name.now) c.args.self.now.locals.entries
+returns c = ap (λ (v : Option Value). option_map typed_word v) c.get.ensures ∙ looked_up (same_name c.args.name.now) c.args.self.now.locals.entries.items

@@ -1,0 +1,1 @@
+pub use Rattle.engine_commands.specs.Replays

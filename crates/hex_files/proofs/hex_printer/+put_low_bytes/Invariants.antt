@@ -1,0 +1,4 @@
+use Rattle.hex_files.proofs.hex_printer.+put_low_bytes.Given as goal
+
+abbrev pub decreases-put_low_bytes : goal.decreases-put_low_bytes
+decreases-put_low_bytes l = l.count

@@ -1,0 +1,13 @@
+pub mod Maps
+pub mod Before
+pub mod Arrays
+pub mod MemhText
+pub mod MemhReading
+pub mod MemhMachine
+pub mod MemhGives
+pub mod HexRecord
+pub mod HexText
+pub mod HexReading
+pub mod HexMachine
+pub mod HexGives
+pub mod Printable

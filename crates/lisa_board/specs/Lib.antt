@@ -1,0 +1,5 @@
+pub mod Boards
+pub mod BoardLines
+pub mod Feeding
+pub mod Runs
+pub mod Kept

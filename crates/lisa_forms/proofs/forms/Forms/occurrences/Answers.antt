@@ -1,0 +1,5 @@
+use Rattle.std.proofs.Common.{◌∙◌}
+use Rattle.lisa_forms.proofs.forms.Forms.occurrences.Goals as goal
+
+pub returns-clause-of_description : goal.returns-clause-of_description
+returns-clause-of_description c d are = c.deref.ensures.value ∙ are.all_occurrences

@@ -1,0 +1,15 @@
+pub mod Runs
+pub mod NumberWords
+pub mod SumTexts
+pub mod Chains
+pub mod TokenTexts
+pub mod LabelTexts
+pub mod ValueTexts
+pub mod ValueLists
+pub mod PartTexts
+pub mod LineTexts
+pub mod BrokenSums
+pub mod BrokenTexts
+pub mod BrokenValues
+pub mod BrokenLines
+pub mod SourceTexts

@@ -1,0 +1,14 @@
+pub mod VcdText
+pub mod VcdWords
+pub mod Written
+pub mod Forms
+pub mod Parts
+pub mod Meaning
+pub mod Left
+pub mod OpenScopes
+pub mod FormAnswers
+pub mod CodeTables
+pub mod Checked
+pub mod VcdFaults
+pub mod Traces
+pub mod Runs
