@@ -62,6 +62,31 @@ def leaves():
     return texts(levels=1, strings=230_000)
 
 
+def beside(strings=230_000, groups=10):
+    """The same text beside the children of 1,024 forms."""
+    y = " ".join(numbered("y", groups))
+    text = " ".join(['"A"'] * strings)
+    top = f"OPERATION top {{ DECLARE {{ GROUP {y.replace(' ', ', ')} = {{ p || q }}; }} CODING {{ {y} }} SYNTAX {{ {text} {y} }} }}"
+    return instructions(groups, top, PAIR)
+
+
+def dotless(signs=900_000, groups=10):
+    """A long text without a run below 1,024 forms."""
+    y = numbered("y", groups)
+    leaf = f'OPERATION leaf {{ CODING {{ 0b0 }} SYNTAX {{ "{"," * signs}" }} }}'
+    top = f"OPERATION top {{ DECLARE {{ INSTANCE x = leaf; GROUP {', '.join(y)} = {{ p || q }}; }} CODING {{ x {' '.join(y)} }} SYNTAX {{ x {' '.join(y)} }} }}"
+    return instructions(groups + 1, top, [leaf] + PAIR)
+
+
+def uneven(signs=400_000, groups=10):
+    """Texts of 1,024 forms of a number with a sign or one without, and a long string behind it, which differ at the end of that alone."""
+    y = numbered("y", groups)
+    pair = [f'OPERATION {one} {{ DECLARE {{ LABEL n; }} CODING {{ 0b{bit} n=0bx[2] }} SYNTAX {{ n={kind} "{"," * signs}{end}" }} }}'
+            for one, bit, kind, end in (("p", 0, "#S", "P"), ("q", 1, "#U", "Q"))]
+    top = f"OPERATION top {{ DECLARE {{ GROUP {', '.join(y)} = {{ p || q }}; }} CODING {{ {' '.join(y)} }} SYNTAX {{ {' '.join(y)} }} }}"
+    return instructions(3 * groups, top, pair)
+
+
 def endings(signs=100_000, groups=10):
     """Texts of 1,024 forms of two alternatives whose long strings differ at the end alone, compared pair by pair."""
     y = numbered("y", groups)
@@ -89,6 +114,14 @@ def references(count=2600, levels=120, alternatives=850, by_all=False):
 def cascade():
     """The same, each operation listed by all before it."""
     return references(1000, 250, 700, by_all=True)
+
+
+def flat(count=16_000):
+    """As many references to one group as it has alternatives."""
+    names, meant = ",".join(numbered("n", count)), numbered("m", count)
+    return ["RESOURCE { REGISTER uint8 r; } OPERATION main { DECLARE { INSTANCE t; } ACTIVATION { t } }",
+            f"OPERATION t {{ DECLARE {{ GROUP {names} = {{ {'||'.join(meant)} }}; INSTANCE u; }} }} OPERATION u {{ DECLARE {{ REFERENCE {names}; }} }}",
+            *(f"OPERATION {one}{{EXPRESSION{{r}}}}" for one in meant)]
 
 
 def lacking(count=22_500):
@@ -184,7 +217,7 @@ def sums(lines=4000, terms=126):
             *(["  s <= a" + "+a" * terms + ";"] * lines), " end", "endmodule"]
 
 
-KINDS = {one.__name__: one for one in (meetings, texts, leaves, endings, references, cascade, lacking, chain, open_types, reset, names, wires, sums)}
+KINDS = {one.__name__: one for one in (meetings, texts, leaves, beside, dotless, uneven, endings, references, cascade, flat, lacking, chain, open_types, reset, names, wires, sums)}
 
 
 def answered(words, seconds):

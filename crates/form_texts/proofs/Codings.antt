@@ -40,7 +40,7 @@ label_for_each d o = labels_count d o (items_at d o) ∙ sym (ap fields_of (item
 
 -- ---- elements
 
-past_end : (d : DescriptionTree) (o : ℕ) → length d.operations ≤ o → elements_at d o ≡ []
+pub past_end : (d : DescriptionTree) (o : ℕ) → length d.operations ≤ o → elements_at d o ≡ []
 past_end d o h = by (slice_get d.operations o) refl
   where
     by : (r : Option OperationTree) → slice_get d.operations o ≡ r → elements_at d o ≡ []

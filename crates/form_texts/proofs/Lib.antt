@@ -6,6 +6,7 @@ pub mod Trees
 pub mod Listed
 pub mod Stringed
 pub mod Tabled
+pub mod Segmented
 pub mod coding_tables_proofs
 pub mod instruction_forms_proofs
 pub mod instruction_texts_proofs

@@ -18,18 +18,18 @@ flushed [] ss = refl
 flushed (c ∷ p) ss = refl
 
 -- what is kept for an operation, if it is one
-strings_by : List (Option Strings) → Option ℕ → Option Strings
+strings_by : List Strings → Option ℕ → Option Strings
 strings_by strings None = None
 strings_by strings (Some o) = strings_at strings o
 
-its_strings : (strings : List (Option Strings)) (s : Symbol) (o : ℕ) → strings_number s ≡ Some o → symbols_of strings s ≡ map text_sym (bytes_of (strings_at strings o))
+its_strings : (strings : List Strings) (s : Symbol) (o : ℕ) → strings_number s ≡ Some o → symbols_of strings s ≡ map text_sym (bytes_of (strings_at strings o))
 unfolding strings_by
 its_strings strings (symbols.Byte c) o e = absurd (cc e)
 its_strings strings symbols.Gap o e = absurd (cc e)
 its_strings strings (symbols.Number format width field) o e = absurd (cc e)
 its_strings strings (symbols.Strings k) o e = ap (λ (r : Option ℕ). map text_sym (bytes_of (strings_by strings r))) e
 
-pub gathered : (strings : List (Option Strings)) (p : List ℕ) (s : Symbol) (rest : List (Sym ℕ)) → strings_number s ≡ None → gather p (symbols_of strings s ++ rest) ≡ pieces_at p s ++ gather (run_at p s) rest
+pub gathered : (strings : List Strings) (p : List ℕ) (s : Symbol) (rest : List (Sym ℕ)) → strings_number s ≡ None → gather p (symbols_of strings s ++ rest) ≡ pieces_at p s ++ gather (run_at p s) rest
 gathered strings p symbols.Gap rest e = flushed p (gather [] rest)
 gathered strings p (symbols.Byte c) rest e = by (is_word c)
   where
@@ -42,7 +42,7 @@ gathered strings p (symbols.Number formats.SignedDecimal width field) rest e = r
 gathered strings p (symbols.Strings o) rest e = absurd (cc e)
 
 -- strings that are kept, behind pieces
-pub strings_grown : (strings : List (Option Strings)) (o : ℕ) (k : Strings) (pieces : List Shape) → strings_at strings o ≡ Some k → IsOpened k pieces → (parts more before : List Shape) (p : List ℕ)
+pub strings_grown : (strings : List Strings) (o : ℕ) (k : Strings) (pieces : List Shape) → strings_at strings o ≡ Some k → IsOpened k pieces → (parts more before : List Shape) (p : List ℕ)
     → more ≡ parts ++ (before ++ (ended (p ++ take k.head k.text.items) ++ pieces)) → (after : List Shape) (q : List ℕ) → after ≡ [] → q ≡ k.run.items → (s : Symbol) → strings_number s ≡ Some o → (rest : List (Sym ℕ))
     → more ++ (after ++ gather q rest) ≡ parts ++ (before ++ gather p (symbols_of strings s ++ rest))
 strings_grown strings o k pieces at opened parts more before p are after q none run s is rest =
@@ -59,14 +59,14 @@ strings_grown strings o k pieces at opened parts more before p are after q none 
 
 -- ---- all symbols
 
-pub one_symbol : (strings : List (Option Strings)) (all : List Symbol) (i : ℕ) (s d : Symbol) → i < length all → s ≡ get_or all i d
+pub one_symbol : (strings : List Strings) (all : List Symbol) (i : ℕ) (s d : Symbol) → i < length all → s ≡ get_or all i d
     → flat_map (symbols_of strings) (drop i all) ≡ symbols_of strings s ++ flat_map (symbols_of strings) (drop (i + 1) all)
 one_symbol strings all i s d h is =
     ap (flat_map (symbols_of strings)) (drop-cons all i d h ∙ ap (λ (n : ℕ). get_or all i d ∷ drop n all) (sym (add-one i)))
     ∙ ap (λ (x : Symbol). symbols_of strings x ++ flat_map (symbols_of strings) (drop (i + 1) all)) (sym is)
 
 -- the run is ended, and what is left is a part
-pub parts_ended : (strings : List (Option Strings)) (all : List Symbol) (i : ℕ) (parts before after whole total : List Shape) (p : List ℕ) → length all ≤ i
+pub parts_ended : (strings : List Strings) (all : List Symbol) (i : ℕ) (parts before after whole total : List Shape) (p : List ℕ) → length all ≤ i
     → parts ++ (before ++ gather p (flat_map (symbols_of strings) (drop i all))) ≡ total → after ≡ before ++ ended p → whole ≡ parts ++ after → whole ≡ total
 parts_ended strings all i parts before after whole total p past so_far run part =
     part

@@ -11,7 +11,7 @@ use Rattle.instruction_texts.specs.declared.shapes.Shape.TheVariants.{Other, Lit
 use Rattle.std.specs.Prelude.{slice_index_or}
 use Rattle.std.specs.Option.{option_to_list}
 use Rattle.std.proofs.Math.ListN.{drop_of_length-le}
-use Rattle.instruction_texts.specs.Symbols.{Sym, Byte, Gap, text_sym, gap, written_by, others, flush_shape, gather, parts_from, is_clean, shown_values, starts_dot, is_dotted, has_pieces}
+use Rattle.instruction_texts.specs.Symbols.{Sym, Byte, Gap, text_sym, flush_shape, gather, parts_from, is_clean, shown_values, starts_dot, is_dotted, has_pieces}
 use Rattle.form_texts.specs.Pieces.{ended, pieces_at, run_at, dotted}
 use Rattle.form_texts.specs.declared.strings.Strings.{Strings}
 use Rattle.form_texts.specs.declared.symbols.Symbol.{Symbol}
@@ -19,19 +19,16 @@ use Rattle.form_texts.specs.declared.symbols.Symbol.TheVariants as symbols
 use Rattle.form_texts.specs.Strings.{strings_at, bytes_of, symbols_of, strings_number, field_number, clean_behind, clean_after, IsOpened}
 use Rattle.std.specs.Global.{Vec}
 use Rattle.std.specs.Prelude.{OnOk, Result, Ok, Err}
-use Rattle.lisa_tree.specs.declared.descriptions.CodingItem.{CodingItem}
-use Rattle.lisa_tree.specs.declared.descriptions.SyntaxItem.{SyntaxItem}
 use Rattle.text_tables.specs.Parts.{part_pieces, text_pieces}
 use Rattle.text_tables.specs.Shared.{shapes_at}
 use Rattle.text_tables.specs.declared.texts.Part.{Part}
 use Rattle.text_tables.specs.declared.texts.Part.TheVariants as kinds
 use Rattle.text_tables.proofs.Parted.{part_first}
-use Rattle.form_texts.specs.Syntaxes.{content, element}
 use Rattle.form_texts.proofs.Pieces.{gathered, flushed, one_symbol}
 
--- ---- one symbol more
+-- ---- one more
 
-pub pushed : (f : Symbol → List (Sym ℕ)) (old : List Symbol) (x : Symbol) → flat_map f (old ++ x ∷ []) ≡ flat_map f old ++ f x
+pub pushed : {A : Type 0} (f : A → List (Sym ℕ)) (old : List A) (x : A) → flat_map f (old ++ x ∷ []) ≡ flat_map f old ++ f x
 pushed f old x = flat_map-append f old (x ∷ []) ∙ ap (λ (l : List (Sym ℕ)). flat_map f old ++ l) (append-nil (f x))
 
 -- ---- the front of strings
@@ -111,23 +108,24 @@ front_parts (c ∷ text) (suc head) h words none rest =
     ap (λ (s : Sym ℕ). parts_from (s ∷ (map text_sym text ++ rest))) (word_is_byte c word) ∙ ap not word ∙ sym (eqb-suc-zero head)
 
 pub made_opened : (s : Strings) (pieces : List Shape) → s.head < length s.text.items → list_all is_word (take s.head s.text.items) ≡ true → is_word (slice_index_or s.text.items s.head 0) ≡ false
-    → ((rest : List (Sym ℕ)) → pieces ++ gather s.run.items rest ≡ gather [] (map text_sym (drop s.head s.text.items) ++ rest)) → IsOpened s pieces
-made_opened s pieces h words none made = record {
+    → ((rest : List (Sym ℕ)) → pieces ++ gather s.run.items rest ≡ gather [] (map text_sym (drop s.head s.text.items) ++ rest)) → dotted pieces ≡ s.dotted → IsOpened s pieces
+made_opened s pieces h words none made dots = record {
   gathers = λ p rest. behind_front s.text.items s.head h words none p rest ∙ ap (λ (ss : List Shape). ended (p ++ take s.head s.text.items) ++ ss) (sym (made rest));
   parts = front_parts s.text.items s.head h words none;
+  dots = dots;
 }
 
 -- ---- the pieces of strings, byte by byte
 
 -- the symbol of a byte is no strings
-plain_symbol : (s : Symbol) (c : ℕ) → ((strings : List (Option Strings)) → symbols_of strings s ≡ text_sym c ∷ []) → strings_number s ≡ None
+plain_symbol : (s : Symbol) (c : ℕ) → ((strings : List Strings) → symbols_of strings s ≡ text_sym c ∷ []) → strings_number s ≡ None
 plain_symbol (symbols.Byte b) c e = refl
 plain_symbol symbols.Gap c e = refl
 plain_symbol (symbols.Number format width field) c e = refl
 plain_symbol (symbols.Strings o) c e = absurd (let h = e [] in cc h)
 
 pub byte_grown : (text : List ℕ) (i c d : ℕ) (s : Symbol) (before after : List Shape) (p q : List ℕ) (total : List (Sym ℕ) → List Shape) → i < length text → c ≡ get_or text i d
-    → ((strings : List (Option Strings)) → symbols_of strings s ≡ text_sym c ∷ []) → q ≡ run_at p s → after ≡ before ++ pieces_at p s
+    → ((strings : List Strings) → symbols_of strings s ≡ text_sym c ∷ []) → q ≡ run_at p s → after ≡ before ++ pieces_at p s
     → ((rest : List (Sym ℕ)) → before ++ gather p (map text_sym (drop i text) ++ rest) ≡ total rest) → (rest : List (Sym ℕ)) → after ++ gather q (map text_sym (drop (i + 1) text) ++ rest) ≡ total rest
 byte_grown text i c d s before after p q total h is symbol run shapes so_far rest =
     let more = map text_sym (drop (i + 1) text) ++ rest in
@@ -170,17 +168,17 @@ strings_behind b bs head r rest parts is = by b (nat_eq head 0) parts ∙ ap (λ
 
 -- ---- the numbers of a text
 
-one_shown : (strings : List (Option Strings)) (s : Symbol) (rest : List (Sym ℕ)) → shown_values (symbols_of strings s ++ rest) ≡ option_to_list (field_number s) ++ shown_values rest
+one_shown : (strings : List Strings) (s : Symbol) (rest : List (Sym ℕ)) → shown_values (symbols_of strings s ++ rest) ≡ option_to_list (field_number s) ++ shown_values rest
 one_shown strings (symbols.Byte c) rest = refl
 one_shown strings symbols.Gap rest = refl
 one_shown strings (symbols.Number format width field) rest = refl
 one_shown strings (symbols.Strings o) rest = strings_shown (bytes_of (strings_at strings o)) rest
 
-pub shown_end : (strings : List (Option Strings)) (all : List Symbol) (i : ℕ) (order total : List ℕ) → length all ≤ i → order ++ shown_values (flat_map (symbols_of strings) (drop i all)) ≡ total → order ≡ total
+pub shown_end : (strings : List Strings) (all : List Symbol) (i : ℕ) (order total : List ℕ) → length all ≤ i → order ++ shown_values (flat_map (symbols_of strings) (drop i all)) ≡ total → order ≡ total
 shown_end strings all i order total past so_far =
     sym (append-nil order) ∙ ap (λ (l : List Symbol). order ++ shown_values (flat_map (symbols_of strings) l)) (sym (drop_of_length-le all past)) ∙ so_far
 
-module _ (strings : List (Option Strings)) (all : List Symbol) (i : ℕ) (s d : Symbol) (h : i < length all) (is : s ≡ get_or all i d) where
+module _ (strings : List Strings) (all : List Symbol) (i : ℕ) (s d : Symbol) (h : i < length all) (is : s ≡ get_or all i d) where
   abbrev rest : List (Sym ℕ)
   rest = flat_map (symbols_of strings) (drop (i + 1) all)
 
@@ -192,7 +190,7 @@ module _ (strings : List (Option Strings)) (all : List Symbol) (i : ℕ) (s d : 
       ∙ so_far
 
 -- strings that are kept
-pub kept_behind : (all : List (Option Strings)) (o : ℕ) (k : Strings) → strings_at all o ≡ Some k → (b : Bool) (r : Option Bool) → ((rest : List (Sym ℕ)) → parts_from (map text_sym k.text.items ++ rest) ≡ nat_eq k.head 0)
+pub kept_behind : (all : List Strings) (o : ℕ) (k : Strings) → strings_at all o ≡ Some k → (b : Bool) (r : Option Bool) → ((rest : List (Sym ℕ)) → parts_from (map text_sym k.text.items ++ rest) ≡ nat_eq k.head 0)
     → (s : Symbol) → s ≡ symbols.Strings o → r ≡ cond (b && not (nat_eq k.head 0)) None (Some false) → (rest : List (Sym ℕ)) → clean_behind b (symbols_of all s ++ rest) ≡ clean_after r rest
 kept_behind all o k at b r parts s is e rest =
     ap (λ (x : Symbol). clean_behind b (symbols_of all x ++ rest)) is
@@ -212,23 +210,13 @@ strings_added shared o all mid more shapes after run grown front gone ended_run 
     ∙ ap (λ (x : List Shape). text_pieces shared all ++ x) (append_assoc shapes (ended (run ++ front)) list)
 
 -- what three clauses say of an answer, together
+pub on_one : {A E : Type 0} {P Q : Type 0} (r : Result A E) → OnOk r P → (P → Q) → OnOk r Q
+on_one (Ok a) p f = f p
+on_one (Err e) p f = tt
+
 pub on_three : {A E : Type 0} {P Q R S : Type 0} (r : Result A E) → OnOk r P → OnOk r Q → OnOk r R → (P → Q → R → S) → OnOk r S
 on_three (Ok a) p q r f = f p q r
 on_three (Err e) p q r f = tt
-
--- ---- strings one after the other
-
-pub strings_more : (items : List CodingItem) (fields : List (ℕ × ℕ)) (parts : List (List (Sym ℕ))) (all : List SyntaxItem) (i : ℕ) (x : SyntaxItem) (before after : List ℕ) (total : List (Sym ℕ)) → i < length all → x ≡ get_or all i x
-    → map text_sym after ≡ map text_sym before ++ (gap x.joined ++ written_by fields parts (content items x.part)) → map text_sym before ++ others fields parts (map (element items) (drop i all)) ≡ total
-    → map text_sym after ++ others fields parts (map (element items) (drop (i + 1) all)) ≡ total
-strings_more items fields parts all i x before after total h is grown so_far =
-    let more = others fields parts (map (element items) (drop (i + 1) all)) in
-    let opened : drop i all ≡ x ∷ drop (i + 1) all = drop-cons all i x h ∙ ap₂ (λ (y : SyntaxItem) (n : ℕ). y ∷ drop n all) (sym is) (sym (add-one i)) in
-    ap (λ (l : List (Sym ℕ)). l ++ more) grown
-    ∙ append_assoc (map text_sym before) (gap x.joined ++ written_by fields parts (content items x.part)) more
-    ∙ ap (λ (l : List (Sym ℕ)). map text_sym before ++ l) (append_assoc (gap x.joined) (written_by fields parts (content items x.part)) more)
-    ∙ ap (λ (l : List SyntaxItem). map text_sym before ++ others fields parts (map (element items) l)) (sym opened)
-    ∙ so_far
 
 -- ---- the first run of a text
 

@@ -1,28 +1,22 @@
 -- What a form writes, by its children one after the other.
-use Rattle.std.proofs.Common.{◌≡◌, ◌<◌, ◌≤◌, ◌+◌, ◌++◌, ℕ, List, [], ◌∷◌, length, get_or, drop, map, refl, sym, ap, ap₂, ◌∙◌, append_assoc, append-nil, arith, Option, Some}
+use Rattle.std.proofs.Common.{◌≡◌, ◌<◌, ◌≤◌, ◌+◌, ◌++◌, ℕ, List, [], ◌∷◌, length, get_or, drop, map, refl, sym, ap, ap₂, ◌∙◌, append_assoc, append-nil, arith}
 use Rattle.std.specs.Global.{Vec}
 use Rattle.std.specs.List.{flat_map}
 use Rattle.std.proofs.Math.ListN.{drop_of_length-le}
 use Rattle.std.proofs.lemmas.List.{map-append}
 use Rattle.std.specs.Vec.{vec_len}
 use Rattle.lisa_tree.specs.Descriptions.{DescriptionTree}
-use Rattle.lisa_tree.specs.declared.descriptions.SyntaxItem.{SyntaxItem}
-use Rattle.lisa_tree.specs.declared.descriptions.CodingItem.{CodingItem}
-use Rattle.lisa_tree.specs.Operations.{syntax_in, sections_at}
 use Rattle.instruction_forms.proofs.description_graph_proofs.Lists as lists
 use Rattle.instruction_forms.specs.declared.form.Field.{Field}
 use Rattle.instruction_forms.specs.declared.form.Form.{Form, out-Form}
 use Rattle.instruction_forms.specs.declared.form.Form.TheFolds.{fold_out-Form}
 use Rattle.instruction_forms.specs.Trees.{FormTree, FormTrees, Node, End, Then, in_turn, layer_tree, form_tree}
-use Rattle.instruction_forms.specs.Described.{items_at}
-use Rattle.instruction_texts.specs.Symbols.{Sym, text_sym, assemble}
+use Rattle.instruction_texts.specs.Symbols.{Sym, assemble}
 use Rattle.form_texts.specs.declared.symbols.Symbol.{Symbol}
-use Rattle.form_texts.specs.declared.symbols.Symbol.TheVariants as symbols
-use Rattle.form_texts.specs.Syntaxes.{element, elements_at}
-use Rattle.form_texts.specs.Strings.{symbols_of, part_of, strings_at, bytes_of, AreKept}
+use Rattle.form_texts.specs.Syntaxes.{elements_at}
+use Rattle.form_texts.specs.Strings.{symbols_of, part_of}
 use Rattle.form_texts.specs.declared.strings.Strings.{Strings}
-use Rattle.form_texts.specs.Written.{shown_items, numbered_fields, own_count, field_count, inner_count, inner_of, written_from, written_parts}
-use Rattle.form_texts.proofs.Codings.{elements_are}
+use Rattle.form_texts.specs.Written.{numbered_fields, own_count, field_count, inner_count, inner_of, written_from, written_parts}
 
 pub opened : (x : Form) → form_tree x ≡ Node (out-Form x).operation (in_turn (map form_tree (out-Form x).children.items)) (out-Form x).fields.items
 opened x = fold_out-Form FormTree layer_tree x
@@ -54,7 +48,7 @@ module _ (children : List Form) (i : ℕ) (child : Form) (h : i < length childre
   pub counted_on : (total : ℕ) → first + inner_count (in_turn (map form_tree (drop i children))) ≡ total → end + inner_count rest ≡ total
   counted_on total so_far = let c = next in let s = ap inner_count split in omega (arith, c, s, so_far)
 
-  pub written_on : (strings : List (Option Strings)) (d : DescriptionTree) (parts more : List (Vec Symbol)) (part : Vec Symbol) (total : List (List (Sym ℕ))) → part_of strings part ≡ written_from d first behind f → more ≡ parts ++ part ∷ []
+  pub written_on : (strings : List Strings) (d : DescriptionTree) (parts more : List (Vec Symbol)) (part : Vec Symbol) (total : List (List (Sym ℕ))) → part_of strings part ≡ written_from d first behind f → more ≡ parts ++ part ∷ []
       → map (part_of strings) parts ++ written_parts d first (in_turn (map form_tree (drop i children))) ≡ total → map (part_of strings) more ++ written_parts d end rest ≡ total
   written_on strings d parts more part total made are so_far =
       let before : List (List (Sym ℕ)) = map (part_of strings) parts in
@@ -67,7 +61,7 @@ module _ (children : List Form) (i : ℕ) (child : Form) (h : i < length childre
 
 -- ---- all children
 
-module _ (d : DescriptionTree) (x : Form) (children : List Form) (are : children ≡ (out-Form x).children.items) (i : ℕ) (past : length children ≤ i) where
+module _ (x : Form) (children : List Form) (are : children ≡ (out-Form x).children.items) (i : ℕ) (past : length children ≤ i) where
   none_left : in_turn (map form_tree (drop i children)) ≡ End
   none_left = ap (λ (xs : List Form). in_turn (map form_tree xs)) (drop_of_length-le children past)
 
@@ -79,11 +73,11 @@ module _ (d : DescriptionTree) (x : Form) (children : List Form) (are : children
       omega (arith, e, o, c, s)
 
   -- where the fields and the parts are those of the form
-  pub all_written : (strings : List (Option Strings)) (own first end : ℕ) (parts whole : List (Vec Symbol)) → whole ≡ parts
+  pub all_written : (d : DescriptionTree) (strings : List Strings) (own first end : ℕ) (parts whole : List (Vec Symbol)) → whole ≡ parts
       → map (part_of strings) parts ++ written_parts d end (in_turn (map form_tree (drop i children))) ≡ written_parts d first (in_turn (map form_tree children))
       → (fields : List Field) → fields ≡ (out-Form x).fields.items
       → (made : List Symbol) → flat_map (symbols_of strings) made ≡ assemble (numbered_fields own fields) (map (part_of strings) whole) (elements_at d (out-Form x).operation) → flat_map (symbols_of strings) made ≡ written_from d own first (form_tree x)
-  all_written strings own first end parts whole same e fields fields_are made is =
+  all_written d strings own first end parts whole same e fields fields_are made is =
       let o = (out-Form x).operation in
       let inner : FormTrees = in_turn (map form_tree (out-Form x).children.items) in
       let none : written_parts d end (in_turn (map form_tree (drop i children))) ≡ [] = ap (written_parts d end) none_left in
@@ -94,19 +88,3 @@ module _ (d : DescriptionTree) (x : Form) (children : List Form) (are : children
       ∙ ap (λ (fs : List Field). assemble (numbered_fields own fs) (map (part_of strings) whole) (elements_at d o)) fields_are
       ∙ ap (λ (ps : List (List (Sym ℕ))). assemble (numbered_fields own (out-Form x).fields.items) ps (elements_at d o)) parts_are
       ∙ ap (written_from d own first) (sym (opened x))
-
--- ---- one operation
-
--- whose strings are kept
-pub kept_written : (d : DescriptionTree) (strings : List (Option Strings)) → AreKept d strings → (o : ℕ) (s : Strings) → strings_at strings o ≡ Some s → (fields : List (ℕ × ℕ)) (parts : List (List (Sym ℕ)))
-    → (made : List Symbol) → made ≡ symbols.Strings o ∷ [] → flat_map (symbols_of strings) made ≡ assemble fields parts (elements_at d o)
-kept_written d strings kept o s at fields parts made is =
-    ap (flat_map (symbols_of strings)) is
-    ∙ append-nil (map text_sym (bytes_of (strings_at strings o)))
-    ∙ ap (λ (r : Option Strings). map text_sym (bytes_of r)) at
-    ∙ sym (kept o s at fields parts)
-
--- with all its elements
-pub other_written : (d : DescriptionTree) (o : ℕ) (all : List CodingItem) → all ≡ items_at d o → (shown : List SyntaxItem) → shown ≡ shown_items (syntax_in (sections_at d o)) → map (element all) shown ≡ elements_at d o
-other_written d o all all_are shown shown_are =
-    ap₂ (λ (xs : List CodingItem) (ss : List SyntaxItem). map (element xs) ss) all_are shown_are ∙ sym (elements_are (items_at d o) (syntax_in (sections_at d o)))

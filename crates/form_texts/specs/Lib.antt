@@ -3,6 +3,7 @@ pub mod Instructions
 pub mod Written
 pub mod Pieces
 pub mod Strings
+pub mod Segments
 pub mod coding_checks
 pub mod coding_tables
 pub mod instruction_forms

@@ -1,28 +1,27 @@
-//! What an operation writes, element by element of its syntax.
+//! What a form writes, segment by segment of its operation.
 
-ghost use Rattle.std.specs.Prelude.{◌≡◌, ◌+◌, ◌++◌, [], map, slice_index_or, IfOk, OnOk};
+ghost use Rattle.std.specs.Prelude.{◌≡◌, ◌+◌, ◌++◌, ℕ, List, [], map, slice_index_or, IfOk, OnOk};
 ghost use Rattle.std.specs.List.{flat_map};
-ghost use Rattle.instruction_texts.specs.Symbols.{text_sym, shown_at, written_by, gap, assemble};
-ghost use Rattle.form_texts.specs.Syntaxes.{kind_of, content, element};
+ghost use Rattle.instruction_texts.specs.Symbols.{shown_at};
+ghost use Rattle.form_texts.specs.Syntaxes.{kind_of};
 ghost use Rattle.form_texts.specs.Strings.{symbols_of, part_of};
+ghost use Rattle.form_texts.specs.Segments.{slot_symbols, segment_symbols, written_in};
 ghost use Rattle.form_texts.specs.Written.{numbered_fields};
+ghost use Rattle.form_texts.specs.declared.strings.Strings.{Strings as AnyStrings};
 
-use crate::places::{child_place, field_place};
-use crate::strings::{Strings, text_symbol};
+use crate::segments::{Segment, Slot};
 use crate::symbols::Symbol;
 use instruction_forms::Field;
-use lisa_tree::{CodingItem, Format, SyntaxItem, SyntaxPart};
+use lisa_tree::Format;
 use lisa_words::NoMemory;
 use std::alloc::Global;
 
-/// What an operation of a form writes: the items of its coding, its fields with the number of the first one, and what its children write.
+/// What a form has for itself: its fields, with the number of the first one, and what its children write.
 #[derive(Drop)]
 pub(crate) struct Source<'a> {
-    pub items: &'a [CodingItem],
     pub first: u32,
     pub fields: &'a [Field],
     pub parts: &'a [Vec<Symbol>],
-    pub strings: &'a [Option<Strings>],
 }
 
 /// A number of 32 bits with others behind it. More fields than those count would want more memory than there is.
@@ -36,15 +35,6 @@ pub(crate) fn number_behind(number: u32, count: usize) -> Result<u32, NoMemory>
 }
 
 impl<'a> Source<'a> {
-    fn add_text(&self, symbols: &mut Vec<Symbol>, text: &[u8]) -> Result<(), NoMemory>
-        ensures { OnOk result (flat_map (symbols_of self.now.strings.now) symbols.new.items ≡ flat_map (symbols_of self.now.strings.now) symbols.old.items ++ map text_sym text.now) }
-    {
-        for &byte in text {
-            symbols.push(text_symbol(byte))?;
-        }
-        Ok(())
-    }
-
     // Adds the number of the field at this place, if there is one.
     fn add_number(
         &self,
@@ -52,7 +42,7 @@ impl<'a> Source<'a> {
         place: usize,
         format: Format,
     ) -> Result<(), NoMemory>
-        ensures { OnOk result (flat_map (symbols_of self.now.strings.now) symbols.new.items ≡ flat_map (symbols_of self.now.strings.now) symbols.old.items ++ shown_at (kind_of format) place (numbered_fields self.now.first self.now.fields.now)) }
+        ensures { OnOk result ((all : List AnyStrings) → flat_map (symbols_of all) symbols.new.items ≡ flat_map (symbols_of all) symbols.old.items ++ shown_at (kind_of format) place (numbered_fields self.now.first self.now.fields.now)) }
     {
         if let Some(field) = self.fields.get(place) {
             symbols.push(Symbol::Number {
@@ -66,7 +56,7 @@ impl<'a> Source<'a> {
 
     // Adds what the child at this place writes, if there is one.
     fn add_part(&self, symbols: &mut Vec<Symbol>, place: usize) -> Result<(), NoMemory>
-        ensures { OnOk result (flat_map (symbols_of self.now.strings.now) symbols.new.items ≡ flat_map (symbols_of self.now.strings.now) symbols.old.items ++ slice_index_or (map (part_of self.now.strings.now) self.now.parts.now) place []) }
+        ensures { OnOk result ((all : List AnyStrings) → flat_map (symbols_of all) symbols.new.items ≡ flat_map (symbols_of all) symbols.old.items ++ slice_index_or (map (part_of all) self.now.parts.now) place []) }
     {
         if let Some(part) = self.parts.get(place) {
             symbols.extend_from_slice(part)?;
@@ -74,43 +64,40 @@ impl<'a> Source<'a> {
         Ok(())
     }
 
-    fn add_content(&self, symbols: &mut Vec<Symbol>, part: &SyntaxPart) -> Result<(), NoMemory>
-        ensures { OnOk result (flat_map (symbols_of self.now.strings.now) symbols.new.items ≡ flat_map (symbols_of self.now.strings.now) symbols.old.items ++ written_by (numbered_fields self.now.first self.now.fields.now) (map (part_of self.now.strings.now) self.now.parts.now) (content self.now.items.now part.now)) }
+    // Adds what stands in a slot.
+    fn fill(&self, symbols: &mut Vec<Symbol>, slot: Slot) -> Result<(), NoMemory>
+        ensures { OnOk result ((all : List AnyStrings) → flat_map (symbols_of all) symbols.new.items ≡ flat_map (symbols_of all) symbols.old.items ++ slot_symbols slot (numbered_fields self.now.first self.now.fields.now) (map (part_of all) self.now.parts.now)) }
     {
-        match part {
-            SyntaxPart::Literal(text) => self.add_text(symbols, text.as_bytes()),
-            SyntaxPart::Number(label, format) => {
-                self.add_number(symbols, field_place(self.items, label), *format)
-            }
-            SyntaxPart::Child(name) => self.add_part(symbols, child_place(self.items, name)),
+        match slot {
+            Slot::Number(place, format) => self.add_number(symbols, place, format),
+            Slot::Child(place) => self.add_part(symbols, place),
         }
     }
 
-    // Adds an element that others stand before.
-    fn add_element(&self, symbols: &mut Vec<Symbol>, item: &SyntaxItem) -> Result<(), NoMemory>
-        ensures { OnOk result (flat_map (symbols_of self.now.strings.now) symbols.new.items ≡ flat_map (symbols_of self.now.strings.now) symbols.old.items ++ (gap item.now.joined ++ written_by (numbered_fields self.now.first self.now.fields.now) (map (part_of self.now.strings.now) self.now.parts.now) (content self.now.items.now item.now.part))) }
+    fn add_segment(&self, symbols: &mut Vec<Symbol>, segment: Segment) -> Result<(), NoMemory>
+        ensures { OnOk result ((all : List AnyStrings) → flat_map (symbols_of all) symbols.new.items ≡ flat_map (symbols_of all) symbols.old.items ++ segment_symbols all (numbered_fields self.now.first self.now.fields.now) (map (part_of all) self.now.parts.now) segment) }
     {
-        if !item.joined {
-            symbols.push(Symbol::Gap)?;
+        match segment {
+            Segment::Same(symbol) => {
+                symbols.push(symbol)?;
+                Ok(())
+            }
+            Segment::Open(slot) => self.fill(symbols, slot),
         }
-        self.add_content(symbols, &item.part)
     }
 }
 
-/// What an operation writes by its syntax. A name that is none of its coding's writes nothing.
+/// What a form writes by the segments of its operation.
 pub(crate) fn assemble(
     alloc: Global,
     source: &Source<'_>,
-    shown: &[SyntaxItem],
+    segments: &[Segment],
 ) -> Result<Vec<Symbol>, NoMemory>
-    ensures { IfOk result (λ symbols. flat_map (symbols_of source.now.strings.now) symbols.items ≡ assemble (numbered_fields source.now.first source.now.fields.now) (map (part_of source.now.strings.now) source.now.parts.now) (map (element source.now.items.now) shown.now)) }
+    ensures { IfOk result (λ symbols. (all : List AnyStrings) → flat_map (symbols_of all) symbols.items ≡ written_in all segments.now (numbered_fields source.now.first source.now.fields.now) (map (part_of all) source.now.parts.now)) }
 {
     let mut symbols = Vec::new(alloc);
-    if let [first, rest @ ..] = shown {
-        source.add_content(&mut symbols, &first.part)?;
-        for item in rest {
-            source.add_element(&mut symbols, item)?;
-        }
+    for &segment in segments {
+        source.add_segment(&mut symbols, segment)?;
     }
     Ok(symbols)
 }

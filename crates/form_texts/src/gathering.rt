@@ -1,6 +1,6 @@
 //! The pieces of a text and the order of its numbers, from its symbols.
 
-ghost use Rattle.std.specs.Prelude.{◌≡◌, ◌<◌, ◌++◌, ◌∷◌, ℕ, List, [], Option, length, map, take, if◌then◌else◌, IfOk, OnOk};
+ghost use Rattle.std.specs.Prelude.{◌≡◌, ◌<◌, ◌++◌, ◌∷◌, ℕ, List, [], length, map, take, if◌then◌else◌, IfOk, OnOk};
 ghost use Rattle.std.specs.Global.{Vec};
 ghost use Rattle.std.specs.List.{flat_map};
 ghost use Rattle.std.specs.Option.{option_to_list};
@@ -126,15 +126,15 @@ fn end_part(alloc: Global, growing: &mut Growing) -> Result<(), NoMemory>
     Ok(())
 }
 
-// Adds the strings of an operation.
+// Adds strings that are kept.
 fn add_strings(
     alloc: Global,
     growing: &mut Growing,
     strings: &Strings,
-    operation: usize,
+    number: usize,
 ) -> Result<(), NoMemory>
     requires head { strings.now.head < length strings.now.text.items }
-    ensures parts { OnOk result ((shared : List (Vec AnyShape)) → text_pieces shared growing.new.parts.items ≡ text_pieces shared growing.old.parts.items ++ (growing.old.pieces.shapes.items ++ (ended (growing.old.pieces.run.items ++ take strings.now.head strings.now.text.items) ++ shapes_at (map (λ v. v.items) shared) operation))) }
+    ensures parts { OnOk result ((shared : List (Vec AnyShape)) → text_pieces shared growing.new.parts.items ≡ text_pieces shared growing.old.parts.items ++ (growing.old.pieces.shapes.items ++ (ended (growing.old.pieces.run.items ++ take strings.now.head strings.now.text.items) ++ shapes_at (map (λ v. v.items) shared) number))) }
     ensures shapes { OnOk result (growing.new.pieces.shapes.items ≡ []) }
     ensures run { OnOk result (growing.new.pieces.run.items ≡ strings.now.run.items) }
 {
@@ -144,7 +144,7 @@ fn add_strings(
         .extend_from_slice(&strings.text[..strings.head])?;
     end_run(alloc, &mut growing.pieces)?;
     end_part(alloc, growing)?;
-    growing.parts.push(Part::Shared(operation))?;
+    growing.parts.push(Part::Shared(number))?;
     growing.pieces.run.extend_from_slice(&strings.run)?;
     Ok(())
 }
@@ -158,11 +158,11 @@ fn grow(
     requires opened { AreOpened table.now }
     ensures { OnOk result ((rest : List (Sym ℕ)) → text_pieces table.now.shared.items growing.new.parts.items ++ (growing.new.pieces.shapes.items ++ gather growing.new.pieces.run.items rest) ≡ text_pieces table.now.shared.items growing.old.parts.items ++ (growing.old.pieces.shapes.items ++ gather growing.old.pieces.run.items (symbols_of table.now.strings.items symbol ++ rest))) }
 {
-    let Some(operation) = strings_number(symbol) else {
+    let Some(number) = strings_number(symbol) else {
         return add_symbol(alloc, &mut growing.pieces, symbol);
     };
-    match kept(&table.strings, operation) {
-        Some(strings) => add_strings(alloc, growing, strings, operation),
+    match kept(&table.strings, number) {
+        Some(strings) => add_strings(alloc, growing, strings, number),
         None => Ok(()),
     }
 }
@@ -203,7 +203,7 @@ fn add_field(order: &mut Vec<u32>, symbol: Symbol) -> Result<(), NoMemory>
 
 /// The fields in the order of the text.
 pub(crate) fn order(alloc: Global, symbols: &[Symbol]) -> Result<Vec<u32>, NoMemory>
-    ensures { IfOk result (λ order. (strings : List (Option AnyStrings)) → order.items ≡ shown_values (flat_map (symbols_of strings) symbols.now)) }
+    ensures { IfOk result (λ order. (strings : List AnyStrings) → order.items ≡ shown_values (flat_map (symbols_of strings) symbols.now)) }
 {
     let mut order = Vec::new(alloc);
     for &symbol in symbols {

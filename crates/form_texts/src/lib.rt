@@ -6,6 +6,7 @@ mod conditions;
 mod form_symbols;
 mod gathering;
 mod places;
+mod segments;
 mod strings;
 mod symbols;
 mod writing;

@@ -1,6 +1,6 @@
 //! Where the names of a syntax stand in the coding of their operation.
 
-ghost use Rattle.std.specs.Prelude.{◌≡◌};
+ghost use Rattle.std.specs.Prelude.{◌≡◌, length};
 ghost use Rattle.lisa_tree.specs.Operations.{syntax_in, sections_at};
 ghost use Rattle.instruction_forms.specs.Described.{items_at, labels};
 ghost use Rattle.form_texts.specs.Syntaxes.{child_names, place_in};
@@ -9,6 +9,13 @@ ghost use Rattle.form_texts.specs.Written.{shown_items};
 use instruction_forms::sections;
 use lisa_tree::{CodingItem, CodingPart, Names, SyntaxItem, coding, syntax};
 use lisa_words::Name;
+
+/// How many operations there are.
+pub(crate) fn operation_count<N: Names>(names: &N) -> usize
+    ensures { result ≡ length (N.tree names.now).operations }
+{
+    names.description().operations.len()
+}
 
 /// The items of an operation's coding, none of a root.
 pub(crate) fn coding_items<N: Names>(names: &N, operation: usize) -> &[CodingItem]

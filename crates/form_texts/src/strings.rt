@@ -1,19 +1,16 @@
-//! What operations write whose syntax is strings alone. It is the same in all forms, and kept once where it is long.
+//! Strings that many forms write, which are kept once where they are long.
 
-ghost use Rattle.std.specs.Prelude.{◌≡◌, ◌≤◌, ◌<◌, ◌++◌, ◌∷◌, ℕ, List, [], Option, option_map, IfOk, IfSome, IsTrue, OnOk, false, length, map, slice_index_or, take, true};
+ghost use Rattle.std.specs.Prelude.{◌≡◌, ◌≤◌, ◌<◌, ◌++◌, ◌∷◌, ℕ, List, [], option_map, IfOk, OnOk, false, length, map, slice_index_or, take, true};
 ghost use Rattle.std.specs.List.{list_all};
 ghost use Rattle.asm_source.specs.Bytes.{is_word};
-ghost use Rattle.lisa_tree.specs.declared.descriptions.CodingItem.{CodingItem};
-ghost use Rattle.instruction_texts.specs.Symbols.{Sym, text_sym, gap, written_by, assemble, others, gather};
-ghost use Rattle.form_texts.specs.Syntaxes.{content, element};
-ghost use Rattle.form_texts.specs.Strings.{strings_at, strings_in, pieces_in, symbols_of, IsOpened, AreOpened, AreKept};
+ghost use Rattle.instruction_texts.specs.Symbols.{Sym, text_sym, gather};
+ghost use Rattle.form_texts.specs.Strings.{strings_at, symbols_of, AreOpened};
 ghost use Rattle.form_texts.specs.declared.strings.Strings.{Strings as AnyStrings};
 
+use crate::conditions::dotted;
 use crate::gathering::{Pieces, add_symbol, is_word};
-use crate::places::syntax_items;
 use crate::symbols::Symbol;
 use instruction_texts::Shape;
-use lisa_tree::{Names, SyntaxItem, SyntaxPart};
 use lisa_words::NoMemory;
 use std::alloc::Global;
 
@@ -26,22 +23,24 @@ pub(crate) struct Strings {
     pub head: usize,
     /// The run at the end, which may go on.
     pub run: Vec<u8>,
+    /// Whether the first run between the two begins with `.`; none, where there is no run.
+    pub dotted: Option<bool>,
 }
 
-/// The strings of each operation for which they are kept, and the pieces between the front and the end of each.
+/// Strings that are kept, and the pieces between the front and the end of each.
 #[derive(Drop)]
 pub(crate) struct StringTable {
-    pub strings: Vec<Option<Strings>>,
+    pub strings: Vec<Strings>,
     pub shared: Vec<Vec<Shape>>,
 }
 
-/// What is kept for an operation, if anything is.
+/// The strings of this number, if there are so many.
 #[tactic(auto, using(crate::proofs::Tabled::kept_at, crate::proofs::Tabled::kept_past))]
-pub(crate) fn kept(strings: &[Option<Strings>], operation: usize) -> Option<&Strings>
-    ensures { option_map (λ s. s.now) result ≡ strings_at strings.now operation }
+pub(crate) fn kept(strings: &[Strings], number: usize) -> Option<&Strings>
+    ensures { option_map (λ s. s.now) result ≡ strings_at strings.now number }
 {
-    if operation < strings.len() {
-        strings[operation].as_ref()
+    if number < strings.len() {
+        Some(&strings[number])
     } else {
         None
     }
@@ -49,7 +48,7 @@ pub(crate) fn kept(strings: &[Option<Strings>], operation: usize) -> Option<&Str
 
 /// A blank in a string only separates.
 pub(crate) fn text_symbol(byte: u8) -> Symbol
-    ensures { (strings : List (Option AnyStrings)) → symbols_of strings result ≡ text_sym byte ∷ [] }
+    ensures { (strings : List AnyStrings) → symbols_of strings result ≡ text_sym byte ∷ [] }
 {
     if byte == b' ' {
         Symbol::Gap
@@ -58,58 +57,8 @@ pub(crate) fn text_symbol(byte: u8) -> Symbol
     }
 }
 
-// Adds a string, behind a blank where it isn't joined. Answers whether it is one.
-fn add_string(text: &mut Vec<u8>, item: &SyntaxItem, joined: bool) -> Result<bool, NoMemory>
-    ensures { IfOk result (λ all. IsTrue all → (items : List CodingItem) (fields : List (ℕ × ℕ)) (parts : List (List (Sym ℕ))) → map text_sym text.new.items ≡ map text_sym text.old.items ++ (gap joined ++ written_by fields parts (content items item.now.part))) }
-{
-    let SyntaxPart::Literal(string) = &item.part else {
-        return Ok(false);
-    };
-    if !joined {
-        text.push(b' ')?;
-    }
-    text.extend_from_slice(string.as_bytes())?;
-    Ok(true)
-}
-
-fn add_strings(text: &mut Vec<u8>, all_items: &[SyntaxItem]) -> Result<bool, NoMemory>
-    ensures { IfOk result (λ all. IsTrue all → (items : List CodingItem) (fields : List (ℕ × ℕ)) (parts : List (List (Sym ℕ))) → map text_sym text.new.items ≡ map text_sym text.old.items ++ others fields parts (map (element items) all_items.now)) }
-{
-    for item in all_items {
-        if !add_string(text, item, item.joined)? {
-            return Ok(false);
-        }
-    }
-    Ok(true)
-}
-
-// Adds what a syntax writes. Answers whether it has nothing but strings.
-fn add_syntax(text: &mut Vec<u8>, shown: &[SyntaxItem]) -> Result<bool, NoMemory>
-    ensures { IfOk result (λ all. IsTrue all → (items : List CodingItem) (fields : List (ℕ × ℕ)) (parts : List (List (Sym ℕ))) → map text_sym text.new.items ≡ map text_sym text.old.items ++ assemble fields parts (map (element items) shown.now)) }
-{
-    if let [first, rest @ ..] = shown {
-        if !add_string(text, first, true)? {
-            return Ok(false);
-        }
-        return add_strings(text, rest);
-    }
-    Ok(true)
-}
-
-// The bytes of a syntax of strings alone, with a blank for each gap.
-fn strings_text(alloc: Global, shown: &[SyntaxItem]) -> Result<Option<Vec<u8>>, NoMemory>
-    ensures { IfOk result (λ found. IfSome found (λ text. (items : List CodingItem) (fields : List (ℕ × ℕ)) (parts : List (List (Sym ℕ))) → assemble fields parts (map (element items) shown.now) ≡ map text_sym text.items)) }
-{
-    let mut text = Vec::new(alloc);
-    if add_syntax(&mut text, shown)? {
-        Ok(Some(text))
-    } else {
-        Ok(None)
-    }
-}
-
-// How many word characters stand at the front.
-fn word_front(text: &[u8]) -> usize
+/// How many word characters stand at the front.
+pub(crate) fn word_front(text: &[u8]) -> usize
     ensures within { result ≤ length text.now }
     ensures words { list_all is_word (take result text.now) ≡ true }
     ensures behind { result < length text.now → is_word (slice_index_or text.now result 0) ≡ false }
@@ -136,64 +85,28 @@ fn string_pieces(alloc: Global, text: &[u8]) -> Result<Pieces, NoMemory>
     Ok(pieces)
 }
 
-// Strings with the pieces between their front and their end.
-#[derive(Drop)]
-struct Opened {
-    strings: Strings,
-    pieces: Vec<Shape>,
-}
-
-// The strings of a syntax, where it has nothing else, and they are long and more than one run.
-fn strings_of(alloc: Global, shown: &[SyntaxItem]) -> Result<Option<Opened>, NoMemory>
-    ensures { IfOk result (λ found. IfSome found (λ o. IsOpened o.strings o.pieces.items × (o.strings.head < length o.strings.text.items) × ((items : List CodingItem) (fields : List (ℕ × ℕ)) (parts : List (List (Sym ℕ))) → assemble fields parts (map (element items) shown.now) ≡ map text_sym o.strings.text.items))) }
+/// Keeps a text that is more than its front.
+pub(crate) fn keep(
+    alloc: Global,
+    table: &mut StringTable,
+    text: Vec<u8>,
+    head: usize,
+) -> Result<(), NoMemory>
+    requires within { head < length text.items }
+    requires words { list_all is_word (take head text.items) ≡ true }
+    requires behind { is_word (slice_index_or text.items head 0) ≡ false }
+    requires opened { AreOpened table.old }
+    ensures opened { OnOk result (AreOpened table.new) }
+    ensures kept { OnOk result ((s : AnyStrings) × (table.new.strings.items ≡ table.old.strings.items ++ s ∷ []) × (s.text.items ≡ text.items)) }
 {
-    let Some(text) = strings_text(alloc, shown)? else {
-        return Ok(None);
-    };
-    let head = word_front(&text);
-    if text.len() < 256 || head >= text.len() {
-        return Ok(None);
-    }
     let Pieces { shapes, run } = string_pieces(alloc, &text[head..])?;
-    Ok(Some(Opened {
-        strings: Strings { text, head, run },
-        pieces: shapes,
-    }))
-}
-
-// Takes in what the next operation writes.
-fn add_opened(alloc: Global, table: &mut StringTable, found: Option<Opened>) -> Result<(), NoMemory>
-    ensures strings { OnOk result (table.new.strings.items ≡ table.old.strings.items ++ strings_in found ∷ []) }
-    ensures shared { OnOk result (map (λ v. v.items) table.new.shared.items ≡ map (λ v. v.items) table.old.shared.items ++ pieces_in found ∷ []) }
-{
-    match found {
-        None => {
-            table.strings.push(None)?;
-            table.shared.push(Vec::new(alloc))?;
-        }
-        Some(Opened { strings, pieces }) => {
-            table.strings.push(Some(strings))?;
-            table.shared.push(pieces)?;
-        }
-    }
+    let dotted = dotted(&shapes);
+    table.strings.push(Strings {
+        text,
+        head,
+        run,
+        dotted,
+    })?;
+    table.shared.push(shapes)?;
     Ok(())
-}
-
-/// The strings of all operations for which they are kept.
-pub(crate) fn string_table<N: Names>(alloc: Global, names: &N) -> Result<StringTable, NoMemory>
-    ensures kept { IfOk result (λ table. AreKept (N.tree names.now) table.strings.items) }
-    ensures opened { IfOk result AreOpened }
-{
-    let mut table = StringTable {
-        strings: Vec::new(alloc),
-        shared: Vec::new(alloc),
-    };
-    for operation in 0..names.description().operations.len() {
-        add_opened(
-            alloc,
-            &mut table,
-            strings_of(alloc, syntax_items(names, operation))?,
-        )?;
-    }
-    Ok(table)
 }

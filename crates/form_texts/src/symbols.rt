@@ -5,7 +5,7 @@ ghost use Rattle.form_texts.specs.Strings.{field_number, strings_number};
 
 use lisa_tree::Format;
 
-/// A byte of a text, a place where runs part, the number of a field, or what an operation writes that is kept for it.
+/// A byte of a text, a place where runs part, the number of a field, or strings that are kept.
 #[derive(Clone, Copy)]
 pub(crate) enum Symbol {
     Byte(u8),
@@ -16,16 +16,16 @@ pub(crate) enum Symbol {
         width: u32,
         field: u32,
     },
-    /// The strings of this operation.
+    /// The strings of this number.
     Strings(usize),
 }
 
-/// The operation whose strings they are, where they are kept.
+/// The number of the strings that it is, where it is some.
 pub(crate) fn strings_number(symbol: Symbol) -> Option<usize>
     ensures { result ≡ strings_number symbol }
 {
     match symbol {
-        Symbol::Strings(operation) => Some(operation),
+        Symbol::Strings(number) => Some(number),
         _ => None,
     }
 }

@@ -1,14 +1,14 @@
 -- Counts are added in any grouping, and lists of them from the front.
-use Rattle.std.proofs.Common.{◌≡◌, ◌+◌, ◌-◌, ◌^◌, ◌<◌, ℕ, suc, min, List, [], ◌∷◌, Option, None, Some, length, get_or, drop, drop-cons, refl, ap, sym, ◌∙◌, arith, add-one}
+use Rattle.std.proofs.Common.{◌≡◌, ◌+◌, ◌<◌, ℕ, suc, List, [], ◌∷◌, Option, None, Some, length, get_or, drop, drop-cons, refl, ap, sym, ◌∙◌, arith, add-one}
 use Rattle.std.specs.Global.{Vec}
 use Rattle.lisa_tree.specs.Expressions.{ExprTree, expr_tree}
 use Rattle.lisa_tree.specs.declared.expressions.Expr.{Expr}
 use Rattle.lisa_tree.specs.declared.statements.Stmt.{Stmt}
 use Rattle.lisa_tree.specs.declared.statements.Stmt.TheVariants as stmts
-use Rattle.lisa_tree.specs.Statements.{StmtTree, stmt_tree, stmt_trees}
+use Rattle.lisa_tree.specs.Statements.{stmt_tree, stmt_trees}
 use Rattle.lisa_tree.specs.declared.descriptions.Act.{Act}
 use Rattle.lisa_tree.specs.declared.descriptions.Act.TheVariants as acts
-use Rattle.lisa_tree.specs.Activations.{ActTree, ActTrees, act_tree, act_trees}
+use Rattle.lisa_tree.specs.Activations.{act_tree, act_trees}
 use Rattle.lisa_tree.specs.Descriptions.{DescriptionTree}
 use Rattle.lisa_tree.proofs.Views.{stmt_tree-Block, act_tree-Choose, act_tree-ChooseElse}
 use Rattle.text_counts.specs.Sums.{Counts, capped, plus, one_more, sum_of}

@@ -1,5 +1,5 @@
 -- What follows from a table follows from a larger one.
-use Rattle.std.proofs.Common.{◌≡◌, ℕ, List, [], ◌∷◌, Option, None, Some, Bool, true, false, cond, nat_eq, refl, ap, ap₂, sym, ◌∙◌}
+use Rattle.std.proofs.Common.{◌≡◌, ℕ, List, [], ◌∷◌, Option, None, Some, Bool, true, false, cond, nat_eq, refl, ap, ap₂, ◌∙◌}
 use Rattle.std.specs.List.{slice_get}
 use Rattle.lisa_tree.specs.Expressions as exprs
 use Rattle.lisa_tree.specs.Expressions.{ExprTree}
@@ -13,7 +13,7 @@ use Rattle.lisa_tree.specs.Declarations.{what_at, plain_at}
 use Rattle.lisa_tree.specs.Paths.{Node, Operation, Choosing, Declaring, node_at, entry_node}
 use Rattle.least_fixed_points.specs.Settles.{IsWithin, IsMonotone}
 use Rattle.text_counts.specs.Sums.{Counts, plus, one_more, times, sum_of}
-use Rattle.text_counts.specs.Expressions.{counted_of, known_or, read_nodes, name_nodes, expression_nodes, own_nodes}
+use Rattle.text_counts.specs.Expressions.{counted_of, known_or, read_nodes, expression_nodes, own_nodes}
 use Rattle.text_counts.specs.Behaviors.{weight, called, turns_of, statement_count, statements_count, behavior_count}
 use Rattle.text_counts.specs.Steps.{Counting, alternative, behavior_counting, expressions_counting, IsSteady}
 use Rattle.text_counts.specs.Alike.{reference_along, entry_along, node_along, follows_along}

@@ -1,22 +1,15 @@
 //! References that may choose what an earlier one may choose.
 
-ghost use Rattle.std.specs.Prelude.{◌≡◌, IfOk, IsTrue};
+ghost use Rattle.std.specs.Prelude.{IfOk};
 ghost use Rattle.graph_paths.specs.Paths.{targets};
 ghost use Rattle.description_graph.specs.Graph.{IsOutline};
 ghost use Rattle.text_counts.specs.Alike.{IsAlike, AreAlike};
 
-use crate::gathering::{Graph, only_reference};
+use crate::gathering::{Graph, is_same, only_reference};
 use crate::references::Meanings;
 use graph_paths::row;
 use lisa_tree::Names;
 use std::alloc::{AllocError, Global};
-
-// Whether two lists are the same.
-fn is_same(one: &[usize], other: &[usize]) -> bool
-    ensures { IsTrue result → one.now ≡ other.now }
-{
-    one == other
-}
 
 // An earlier reference that may choose the same as a declared name that leads to these nodes, or that name itself.
 #[tactic(auto, using(crate::proofs::Along::earlier, crate::proofs::Along::itself))]

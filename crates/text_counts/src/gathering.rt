@@ -1,6 +1,6 @@
 //! What references may choose, gathered one reference after another.
 
-ghost use Rattle.std.specs.Prelude.{◌≡◌, ◌↔◌, ◌<◌, ℕ, List, Some, [], length, map, IfOk, IfSome, OnOk, true, ◌++◌};
+ghost use Rattle.std.specs.Prelude.{◌≡◌, ◌↔◌, ◌<◌, ℕ, List, Some, [], length, map, IfOk, IfSome, OnOk, IsTrue, true, ◌++◌};
 ghost use Rattle.std.specs.Rc.{rc_value};
 ghost use Rattle.std.specs.List.{list_all};
 ghost use Rattle.std.specs.List.Sorted.{IsStrictlyIncreasing};
@@ -240,33 +240,76 @@ fn same_list(lists: &[Numbers], number: usize) -> Result<Numbers, AllocError>
     lists[number].clone()
 }
 
+/// Whether two lists are the same.
+pub(crate) fn is_same(one: &[usize], other: &[usize]) -> bool
+    ensures { IsTrue result → one.now ≡ other.now }
+{
+    one == other
+}
+
+/// How many sums lists have, by which equal ones are found.
+pub(crate) const SUMS: usize = 4096;
+
+// A sum of a list.
+fn sum_of_list(list: &[usize]) -> usize {
+    let mut sum = list.len();
+    for &number in list {
+        sum = sum.wrapping_mul(31).wrapping_add(number);
+    }
+    sum % SUMS
+}
+
+// A reference's list: that of the latest reference with this sum where the two are the same, else one of its own.
+fn shared_list(
+    alloc: Global,
+    lists: &[Numbers],
+    latest: &mut Vec<usize>,
+    number: usize,
+    list: Vec<usize>,
+) -> Result<Numbers, AllocError>
+    ensures { IfOk result (λ shared. (rc_value shared).items ≡ list.items) }
+{
+    if let Some(reference) = latest.get_mut(sum_of_list(&list)) {
+        let other = *reference;
+        if other < lists.len() && is_same(list_at(lists, other), &list) {
+            return same_list(lists, other);
+        }
+        *reference = number;
+    }
+    let shared = Rc::new(alloc, list)?;
+    Ok(shared)
+}
+
 // What some nodes may choose together, each once and in order. What is gathered from one reference alone is that reference's own list.
 fn list_of<N: Names>(
     alloc: Global,
     graph: &Graph<'_, N>,
     lists: &[Numbers],
+    latest: &mut Vec<usize>,
+    number: usize,
     nodes: &[usize],
 ) -> Result<Numbers, AllocError>
     requires { (i : ℕ) → IsStrictlyIncreasing (targets (map rc_value lists.now) i) }
     ensures rising { IfOk result (λ list. IsStrictlyIncreasing (rc_value list).items) }
     ensures same { IfOk result (λ list. (a : ℕ) → is_in a (rc_value list).items ≡ is_in a (gathered (N.tree graph.now.names.now) (targets (map rc_value lists.now)) nodes.now)) }
 {
-    if let Some(number) = only_reference(graph, nodes) {
-        if number < lists.len() {
-            return same_list(lists, number);
+    if let Some(other) = only_reference(graph, nodes) {
+        if other < lists.len() {
+            return same_list(lists, other);
         }
     }
     let list = in_order(gathered(alloc, graph, lists, nodes)?);
-    let shared = Rc::new(alloc, list)?;
+    let shared = shared_list(alloc, lists, latest, number, list)?;
     Ok(shared)
 }
 
-/// Gathers what a reference may choose, if that wasn't done.
+/// Gathers what a reference may choose, if that wasn't done. Of lists of each sum the latest is noted by its reference.
 pub(crate) fn visit<N: Names>(
     alloc: Global,
     graph: &Graph<'_, N>,
     lists: &mut Vec<Numbers>,
     done: &mut Vec<bool>,
+    latest: &mut Vec<usize>,
     number: usize,
 ) -> Result<(), AllocError>
     requires outline { IsOutline (N.tree graph.now.names.now) graph.now.next.now }
@@ -279,7 +322,7 @@ pub(crate) fn visit<N: Names>(
         return Ok(());
     }
     let nodes = sources(alloc, graph, done, number)?;
-    let list = list_of(alloc, graph, lists, &nodes)?;
+    let list = list_of(alloc, graph, lists, latest, number, &nodes)?;
     lists[number] = list;
     done[number] = true;
     Ok(())

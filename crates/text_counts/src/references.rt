@@ -11,7 +11,7 @@ ghost use Rattle.description_graph.specs.Graph.{IsOutline};
 ghost use Rattle.text_counts.specs.References.{AreMeanings};
 ghost use Rattle.text_counts.specs.Gathering.{IsGathered};
 
-use crate::gathering::{Graph, Numbers, list_at, visit};
+use crate::gathering::{Graph, Numbers, SUMS, list_at, visit};
 use lisa_tree::Names;
 use lisa_words::NoMemory;
 use std::alloc::{AllocError, Global};
@@ -64,13 +64,14 @@ impl Meanings {
         };
         let mut lists = no_lists(alloc, count)?;
         let mut done = vec![in alloc; false; count]?;
+        let mut latest = vec![in alloc; 0; SUMS]?;
         for &node in order {
             if let Some(number) = node.checked_sub(graph.base) {
-                visit(alloc, &graph, &mut lists, &mut done, number)?;
+                visit(alloc, &graph, &mut lists, &mut done, &mut latest, number)?;
             }
         }
         for number in 0..count {
-            visit(alloc, &graph, &mut lists, &mut done, number)?;
+            visit(alloc, &graph, &mut lists, &mut done, &mut latest, number)?;
         }
         Ok(Meanings { lists })
     }

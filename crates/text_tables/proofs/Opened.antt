@@ -1,5 +1,5 @@
 -- Forms with a common text begin alike, piece by piece.
-use Rattle.std.proofs.Common.{◌≡◌, ℕ, ◌+◌, ◌-◌, ◌<◌, Bool, true, false, ◌||◌, List, [], ◌∷◌, ◌++◌, length, take, drop, get_or, min, length-drop, drop-drop, Option, Some, None, nat_eq, is_some, refl, sym, ap, ◌∙◌, subst, arith, inl, inr, ◌⊎◌, eq-eqb, append_assoc}
+use Rattle.std.proofs.Common.{◌≡◌, ℕ, ◌+◌, ◌-◌, ◌<◌, Bool, true, false, not, ◌||◌, List, [], ◌∷◌, ◌++◌, length, take, drop, get_or, min, length-drop, drop-drop, Option, Some, None, nat_eq, is_some, refl, sym, ap, ◌∙◌, subst, arith, inl, inr, ◌⊎◌, eq-eqb, append_assoc}
 use Rattle.std.specs.List.{starts_with}
 use Rattle.std.specs.Cmp.Lexicographic.{pointwise}
 use Rattle.std.proofs.lemmas.Bool.{cases_lt, true≢false}
@@ -187,14 +187,42 @@ both_signs (Signed p n) (Signed q m) ss us a b x y e h =
     let same : p ≡ q = one_minus p q (subst (λ (z : Beginning). meet z (minus_start q) ≡ true) (sym f) (subst (λ (z : Beginning). meet a z ≡ true) (sym g) e)) in
     behind_signs p n m h.1.1 (subst (λ (r : List ℕ). Spells (Signed r m ∷ us) h.2.0 h.0) (sym same) h.2.1) refl
 
+-- ---- one of two pieces has a sign
+
+-- the negative number with which a text begins, or what follows the other one
+signless : (p : List ℕ) (n : ℕ) {ss : List Shape} {vs : List ℕ} {ts : List Token} → Spells (Signed p n ∷ ss) vs ts → (t : Token) × (us : List Token) × (ts ≡ t ∷ us) × (Opens (Some (minus_start p)) t ⊎ IsText ss us)
+signless p n (shapes.positive cs {vs = vs} {ts = ts} h v m e) = (tokens.Word (p ++ cs), ts, e, inr (vs, m))
+signless [] n (shapes.negative cs {ts = ts} h v m e) = (tokens.Sign 45, tokens.Word cs ∷ ts, e, inl refl)
+signless (c ∷ p) n (shapes.negative cs {ts = ts} h v m e) = (tokens.Word (c ∷ p), tokens.Sign 45 ∷ tokens.Word cs ∷ ts, e, inl refl)
+
+not_so : (b : Bool) → b ≡ true → not b ≡ true → ⊥
+not_so b e f = true≢false (sym f ∙ ap not e)
+
+one_signed : (s u : Shape) (ss us : List Shape) (a : Beginning) → negative_start (s ∷ ss) ≡ Some a → negative_start (u ∷ us) ≡ None → not (begins_so (negative_start (s ∷ ss)) (u ∷ us)) ≡ true → Share (s ∷ ss) (u ∷ us) → Share ss us
+one_signed (Other c) u ss us a x y e h = absurd cc
+one_signed (Literal p) u ss us a x y e h = absurd cc
+one_signed (Unsigned hex p n) u ss us a x y e h = absurd cc
+one_signed (Signed p n) u ss us a x y e h =
+    let f = signless p n h.1.1 in
+    let g = opened h.2.1 in
+    let same : g.0 ≡ f.0 = heads g.0 f.0 g.1 f.1 (sym g.2 ∙ f.2) in
+    let behind : g.1 ≡ f.1 = tails g.0 f.0 g.1 f.1 (sym g.2 ∙ f.2) in
+    elim f.3 [
+      | inl o ↦ absurd (not_so (begins_so (Some (minus_start p)) (u ∷ us)) (so_begun (Some (minus_start p)) (u ∷ us) f.0 o (subst (λ (t : Token). Begins (u ∷ us) t) same g.3)) e)
+      | inr m ↦ (f.1, m, subst (λ (ts : List Token). IsText us ts) behind (g.4 y))
+    ]
+
+turned : (ss us : List Shape) → Share ss us → Share us ss
+turned ss us h = (h.0, h.2, h.1)
+
 share_level : (ss us : List Shape) → 0 < length ss → 0 < length us → stay_level ss us ≡ true → Share ss us → Share (drop 1 ss) (drop 1 us)
 share_level [] us p q e h = absurd (omega arith)
 share_level (s ∷ ss) [] p q e h = absurd (omega arith)
 share_level (s ∷ ss) (u ∷ us) p q e h = by (negative_start (s ∷ ss)) (negative_start (u ∷ us)) refl refl e where
-  by : (a b : Option Beginning) → negative_start (s ∷ ss) ≡ a → negative_start (u ∷ us) ≡ b → are_level a b ≡ true → Share ss us
+  by : (a b : Option Beginning) → negative_start (s ∷ ss) ≡ a → negative_start (u ∷ us) ≡ b → are_level a b (begins_so (negative_start (s ∷ ss)) (u ∷ us)) (begins_so (negative_start (u ∷ us)) (s ∷ ss)) ≡ true → Share ss us
   by None None x y e = share_behind (s ∷ ss) (u ∷ us) p q (ap (λ (o : Option Beginning). is_some o) x) (ap (λ (o : Option Beginning). is_some o) y) h
-  by None (Some b) x y e = absurd cc
-  by (Some a) None x y e = absurd cc
+  by None (Some b) x y e = turned us ss (one_signed u s us ss b y x e (turned (s ∷ ss) (u ∷ us) h))
+  by (Some a) None x y e = one_signed s u ss us a x y e h
   by (Some a) (Some b) x y e = both_signs s u ss us a b x y e h
 
 share_whole : (ss us : List Shape) → Share ss us → (length ss ≡ 0 → length us ≡ 0) × (length us ≡ 0 → length ss ≡ 0)
@@ -246,10 +274,17 @@ alike_heads s u ss us vs ws =
     ∙ ap (λ (c : Option Beginning). by_starts (first_start (s ∷ vs)) (negative_start (s ∷ vs)) c (negative_start (u ∷ us))) (same_first u us ws)
     ∙ ap (λ (d : Option Beginning). by_starts (first_start (s ∷ vs)) (negative_start (s ∷ vs)) (first_start (u ∷ ws)) d) (same_negative u us ws)
 
+-- whether they stay level, by their beginnings
+level_by : Option Beginning → Option Beginning → Option Beginning → Option Beginning → Bool
+level_by a b c d = are_level a c (meet_if_any a d || meet_if_any a c) (meet_if_any c b || meet_if_any c a)
+
 level_heads : (s u : Shape) (ss us vs ws : List Shape) → stay_level (s ∷ ss) (u ∷ us) ≡ stay_level (s ∷ vs) (u ∷ ws)
+unfolding level_by
 level_heads s u ss us vs ws =
-    ap (λ (a : Option Beginning). are_level a (negative_start (u ∷ us))) (same_negative s ss vs)
-    ∙ ap (λ (b : Option Beginning). are_level (negative_start (s ∷ vs)) b) (same_negative u us ws)
+    ap (λ (a : Option Beginning). level_by a (first_start (s ∷ ss)) (negative_start (u ∷ us)) (first_start (u ∷ us))) (same_negative s ss vs)
+    ∙ ap (λ (b : Option Beginning). level_by (negative_start (s ∷ vs)) b (negative_start (u ∷ us)) (first_start (u ∷ us))) (same_first s ss vs)
+    ∙ ap (λ (c : Option Beginning). level_by (negative_start (s ∷ vs)) (first_start (s ∷ vs)) c (first_start (u ∷ us))) (same_negative u us ws)
+    ∙ ap (λ (d : Option Beginning). level_by (negative_start (s ∷ vs)) (first_start (s ∷ vs)) (negative_start (u ∷ ws)) d) (same_first u us ws)
 
 unlike_heads : (ss us vs ws : List Shape) → 0 < length ss → 0 < length us → begin_alike ss us ≡ false → Share (ss ++ vs) (us ++ ws) → ⊥
 unlike_heads [] us vs ws p q e h = absurd (omega arith)

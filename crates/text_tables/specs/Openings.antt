@@ -1,5 +1,5 @@
 -- Beginnings that a text may have at once.
-use Rattle.std.specs.Prelude.{Bool, true, false, ◌||◌, ◌++◌, List, Option, Some, None, nat_eq}
+use Rattle.std.specs.Prelude.{Bool, true, false, not, ◌||◌, ◌++◌, List, Option, Some, None, nat_eq}
 use Rattle.std.specs.List.{starts_with}
 use Rattle.std.specs.Cmp.Lexicographic.{pointwise}
 use Rattle.instruction_texts.specs.declared.shapes.Shape.{Shape}
@@ -32,14 +32,15 @@ abbrev pub begin_alike : List Shape → List Shape → Bool
 begin_alike ss us = begins_so (first_start ss) us || begins_so (negative_start ss) us
 
 -- whether texts of both forms that begin with the same tokens go on behind the same one, once each has what its first piece says: neither
--- piece has a sign, or both begin alike with a negative number
-abbrev pub are_level : Option Beginning → Option Beginning → Bool
-are_level None None = true
-are_level (Some a) (Some b) = meet a b
-are_level _ _ = false
+-- piece has a sign, or both begin alike with a negative number, or one alone may, and the other can't begin so
+abbrev pub are_level : Option Beginning → Option Beginning → Bool → Bool → Bool
+are_level None None first second = true
+are_level (Some a) (Some b) first second = meet a b
+are_level (Some a) None first second = not first
+are_level None (Some b) first second = not second
 
 abbrev pub stay_level : List Shape → List Shape → Bool
-stay_level ss us = are_level (negative_start ss) (negative_start us)
+stay_level ss us = are_level (negative_start ss) (negative_start us) (begins_so (negative_start ss) us) (begins_so (negative_start us) ss)
 
 -- some text is one of both
 abbrev pub Share : List Shape → List Shape → Type 0

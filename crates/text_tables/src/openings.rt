@@ -59,14 +59,15 @@ fn begin_alike(first: &[Shape], second: &[Shape]) -> bool
 }
 
 // Whether a text of both goes on behind the same token of it, once it has what the first piece of each says: neither piece has a sign, or
-// both have it behind the same run.
+// both have it behind the same run, or one alone has it, and the other can't begin with a negative number.
 fn stay_level(first: &[Shape], second: &[Shape]) -> bool
     ensures { result ≡ stay_level first.now second.now }
 {
     match (negative_start(first), negative_start(second)) {
         (None, None) => true,
         (Some(one), Some(other)) => meet(one, other),
-        _ => false,
+        (Some(one), None) => !begins_so(Some(one), second),
+        (None, Some(other)) => !begins_so(Some(other), first),
     }
 }
 

@@ -12,7 +12,7 @@ returns-in-Some-kept c =
     let t = c.args.table.now in
     let old = c.args.growing.now in
     let new = c.add_strings.new.growing in
-    let o = c.in-Some.operation in
+    let o = c.in-Some.number in
     let k = c.in-Some-kept.strings.now in
     let at = ap (λ l. strings_at l o) (sym c.deref.ensures.value) ∙ sym c.kept.ensures ∙ ap (option_map (λ s. s.now)) c.in-Some-kept.is in
     on_three c.add_strings.result c.add_strings.ensures.parts c.add_strings.ensures.shapes c.add_strings.ensures.run (λ parts shapes run rest.

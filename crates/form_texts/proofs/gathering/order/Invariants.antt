@@ -1,4 +1,4 @@
-use Rattle.std.proofs.Common.{◌≡◌, ◌++◌, List, Option, drop}
+use Rattle.std.proofs.Common.{◌≡◌, ◌++◌, List, drop}
 use Rattle.std.specs.List.{flat_map}
 use Rattle.instruction_texts.specs.Symbols.{shown_values}
 use Rattle.form_texts.specs.Strings.{symbols_of}
@@ -6,4 +6,4 @@ use Rattle.form_texts.specs.declared.strings.Strings.{Strings}
 use Rattle.form_texts.proofs.gathering.order.Given as goal
 
 abbrev pub invariant-loop-symbol : goal.invariant-loop-symbol
-invariant-loop-symbol l = (strings : List (Option Strings)) → l.order.items ++ shown_values (flat_map (symbols_of strings) (drop l.symbol-index l.symbols)) ≡ shown_values (flat_map (symbols_of strings) l.symbols)
+invariant-loop-symbol l = (strings : List Strings) → l.order.items ++ shown_values (flat_map (symbols_of strings) (drop l.symbol-index l.symbols)) ≡ shown_values (flat_map (symbols_of strings) l.symbols)

@@ -9,6 +9,6 @@ abbrev pub invariant-loop-form : goal.invariant-loop-form
 invariant-loop-form g l =
     let d = g.N.Names.tree l.names in
     record {
-      pieces : map (λ v. text_pieces l.table.shared.items v.items) l.texts.items ≡ map (λ (f : FormTree). gather [] (written d f)) (map form_tree (take l.form-index l.forms));
+      pieces : map (λ v. text_pieces l.templates.table.shared.items v.items) l.texts.items ≡ map (λ (f : FormTree). gather [] (written d f)) (map form_tree (take l.form-index l.forms));
       orders : map (λ v. v.items) l.orders.items ≡ map (λ (f : FormTree). shown_values (written d f)) (map form_tree (take l.form-index l.forms));
     }

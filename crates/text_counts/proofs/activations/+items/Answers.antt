@@ -1,4 +1,4 @@
-use Rattle.std.proofs.Common.{◌∙◌, ap, sym, arith}
+use Rattle.std.proofs.Common.{sym, arith}
 use Rattle.description_places.proofs.Depths.{chosen_depth, other_depth, item_depth}
 use Rattle.least_fixed_points.specs.Settles.{entry}
 use Rattle.text_counts.proofs.Adding.{begins, items_capped, choose_nodes, choose_else_nodes}

@@ -1,4 +1,4 @@
-use Rattle.std.proofs.Common.{arith, rules}
+use Rattle.std.proofs.Common.{rules}
 use Rattle.graph_paths.specs.Paths.{targets}
 use Rattle.text_counts.proofs.Along.{none_alike, one_alike}
 use Rattle.text_counts.proofs.alike.alike_references.Goals as goal

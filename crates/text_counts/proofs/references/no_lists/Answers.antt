@@ -1,4 +1,4 @@
-use Rattle.std.proofs.Common.{ℕ, [], ◌∷◌, map, ap, rules, arith, ◌∙◌}
+use Rattle.std.proofs.Common.{ℕ, [], ◌∷◌, map, ap, rules, ◌∙◌}
 use Rattle.std.specs.Global.{Vec}
 use Rattle.std.specs.Rc.{rc_value}
 use Rattle.std.proofs.lemmas.List.{map-append}

@@ -1,4 +1,3 @@
-use Rattle.std.proofs.Common.{◌∙◌}
 use Rattle.graph_paths.specs.Paths.{targets}
 use Rattle.text_counts.proofs.Along.{to_one, to_other}
 use Rattle.text_counts.proofs.steps.counts.Goals as goal

@@ -9,9 +9,9 @@ use Rattle.form_texts.proofs.Stringed.{pushed}
 use Rattle.form_texts.proofs.assembling.Source.add_number.Goals as goal
 
 pub returns-in_ok-push : goal.returns-in_ok-push
-returns-in_ok-push c =
+returns-in_ok-push c = λ all.
     let source = c.args.self.now in
-    let f = symbols_of source.strings.now in
+    let f = symbols_of all in
     let found = c.in-Some.ensures.lookup in
     let old = c.args.symbols.now.items in
     ap (flat_map f) c.in_ok-push.ensures.items
@@ -20,7 +20,7 @@ returns-in_ok-push c =
     ∙ ap (λ (l : List (Sym ℕ)). flat_map f old ++ l) (sym (shown_some (kind_of c.args.format) source.first c.args.place source.fields.now c.in-Some.field.now found.3.0 found.1))
 
 pub returns-in_default : goal.returns-in_default
-returns-in_default c =
+returns-in_default c = λ all.
     let source = c.args.self.now in
-    let old = flat_map (symbols_of source.strings.now) c.args.symbols.now.items in
+    let old = flat_map (symbols_of all) c.args.symbols.now.items in
     sym (ap (λ (l : List (Sym ℕ)). old ++ l) (shown_none (kind_of c.args.format) source.first c.args.place source.fields.now c.in_default.ensures.lookup.3) ∙ append-nil old)
