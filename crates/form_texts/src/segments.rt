@@ -60,11 +60,7 @@ fn add_bytes(segments: &mut Vec<Segment>, text: &[u8]) -> Result<(), NoMemory>
 }
 
 // Ends the text so far. It is kept where it is long and more than one run.
-fn end_text(
-    alloc: Global,
-    table: &mut StringTable,
-    growing: &mut Growing,
-) -> Result<(), NoMemory>
+fn end_text(alloc: Global, table: &mut StringTable, growing: &mut Growing) -> Result<(), NoMemory>
     requires opened { AreOpened table.old }
     ensures opened { OnOk result (AreOpened table.new) }
     ensures longer { OnOk result (IsLonger table.old.strings.items table.new.strings.items) }
@@ -186,7 +182,10 @@ impl Templates {
         };
         let mut segments = Vec::new(alloc);
         for operation in 0..operation_count(names) {
-            let (items, shown) = (coding_items(names, operation), syntax_items(names, operation));
+            let (items, shown) = (
+                coding_items(names, operation),
+                syntax_items(names, operation),
+            );
             segments.push(segments_of(alloc, &mut table, items, shown)?)?;
         }
         Ok(Templates { segments, table })
